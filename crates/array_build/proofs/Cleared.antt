@@ -76,7 +76,7 @@ some_kept set width at i (suc k) left values alike room =
     ∙ one_cleared width at (at + width) (set i) values values rest refl (omega (arith, more)) whole
     ∙ ap (λ (n : ℕ). cleared_with width at values (map set (range_with_len i n))) (sym count)
 
--- where each is there nothing is cleared
+-- if each is there, nothing is cleared
 pub none_cleared : (width n : ℕ) (values : List ℕ) → length values ≡ n * width → cleared width (replicate n true) values ≡ values
 none_cleared width zero values len = sym (nil_from_length values (omega (arith, len)))
 none_cleared width (suc n) values len =

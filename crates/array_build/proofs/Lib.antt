@@ -17,6 +17,7 @@ mod RunContents
 mod RunFixedItems
 mod RunFlags
 mod RunItems
+mod RunOffsets
 mod RunParts
 mod RunSlots
 mod RunValues

@@ -4,7 +4,6 @@ use Rattle.std.specs.List.{flat_map, list_all, range_with_len}
 use Rattle.std.proofs.Common.{◌≡◌, ℕ, zero, suc, ◌+◌, ◌-◌, ◌≤◌, ◌<◌, ◌++◌, Bool, true, false, List, [], ◌∷◌, map, length, refl, ap, ap₂, sym, ◌∙◌, arith, append_assoc, length-append}
 use Rattle.std.proofs.lemmas.Bool.{and_parts, leb-true}
 use Rattle.std.proofs.lemmas.List.{length-replicate}
-use Rattle.std.proofs.lemmas.List.Concat.{flat_map-append}
 use Rattle.std.proofs.lemmas.List.Sums.{sum_by-cons}
 use Rattle.std.proofs.lemmas.List.Folds.{list_all-append, list_all-map}
 use Rattle.dictionary_codes.specs.laws.MaskedRuns.{bits_append, mask_counted}
@@ -15,7 +14,7 @@ use Rattle.dictionary_codes.specs.laws.MaskedItems.{all_alike, all_kept, masked_
 use Rattle.array_build.proofs.MaskedParts.{all_joined, below_append, joined_below, masked_itself}
 use Rattle.dictionary_codes.specs.laws.Bitmaps.{bitmap_long, bits_counted, bits_with, bits_without}
 use Rattle.array_build.proofs.RunArrays.{contents_has, count_cells, count_run, has_values, runs_there, no_value}
-use Rattle.array_build.proofs.RunContents.{contents_room, offsets_with, one_offset, ordered, slot_contents, slot_size, span_more, span_none}
+use Rattle.array_build.proofs.RunContents.{offsets_with, one_offset, ordered, slot_contents, slot_size, span_more, span_none}
 use Rattle.dictionary_codes.specs.laws.SlotCounts.{slots_counted}
 use Rattle.array_build.proofs.RunValues.{plain_cell}
 use Rattle.batch_build.specs.Batch.{plain_column}
@@ -26,7 +25,7 @@ use Rattle.array_build.specs.inner.Runs.{AreAsWritten, cell_sizes, kind_cells, s
 use Rattle.bitmap.specs.Bits.{bit}
 use Rattle.cells.specs.Cell.{Cell, null}
 use Rattle.columns.specs.Array.{Array, contents_in, slots_in}
-use Rattle.columns.specs.Buildable.{can_build, large_offset}
+use Rattle.columns.specs.Buildable.{can_build}
 use Rattle.columns.specs.Built.{contents_of}
 use Rattle.columns.specs.CellAt.{cells_from, contents_at, is_valid, span_size}
 use Rattle.columns.specs.Runs.{are_runs_sound, are_runs_valid, is_run_sound, is_run_valid, run_cells}
@@ -158,7 +157,7 @@ pub record AreTextsUnder (kind : Kind) (width : ℕ) (mask : List ℕ) (at : ℕ
   pub within : from + (at + n - at) ≤ slots_in (view_array v)
   pub count : length (run_bits run) ≡ n
   pub contents : flat_map contents_of (run_under kind mask at run) ≡ masked_spans width (view_array v) from (mask_bits mask at (at + n - at))
-  pub sizes : cell_sizes (run_under kind mask at run) ≡ masked_sizes width (view_array v) from (mask_bits mask at (at + n - at))
+  pub sizes : cell_sizes (run_under kind mask at run) ≡ masked_sizes width (view_array v) from (mask_bits mask at n)
 
 pub run_texts_under : (kind : Kind) (width : ℕ) (mask : List ℕ) (at : ℕ) (v : ArrayView) (from n : ℕ) (run : SlotRun) → run ≡ Slots v from n → contents_width kind ≡ Some width
     → is_run_sound (plain_column kind None) run ≡ true → are_below (mask_bits mask at (length (run_bits run))) (run_bits run) ≡ true → AreTextsUnder kind width mask at v from n run
@@ -182,7 +181,7 @@ run_texts_under kind width mask at v from n run is wide sound below =
       count = many;
       contents = ap (flat_map contents_of) cells ∙ slots_contents kind width a wide order.1 bits from n (mask_counted mask at n) within own
           ∙ ap (λ (k : ℕ). masked_spans width a from (mask_bits mask at k)) (sym same);
-      sizes = ap cell_sizes cells ∙ slots_sizes kind width a wide order.1 bits from n (mask_counted mask at n) within own ∙ ap (λ (k : ℕ). masked_sizes width a from (mask_bits mask at k)) (sym same);
+      sizes = ap cell_sizes cells ∙ slots_sizes kind width a wide order.1 bits from n (mask_counted mask at n) within own;
     }
 
 -- nulls stay nulls
@@ -205,8 +204,6 @@ pub record IsNext (kind : Kind) (mask : List ℕ) (at : ℕ) (runs : List SlotRu
   pub own : are_below (mask_bits mask at (length (run_bits run))) (run_bits run) ≡ true
   pub below : are_below (mask_bits mask (at + length (run_bits run)) (length (runs_bits others))) (runs_bits others) ≡ true
   pub cells : runs_under kind mask at runs ≡ run_under kind mask at run ++ runs_under kind mask (at + length (run_bits run)) others
-  pub bytes : length (flat_map contents_of (runs_under kind mask at runs))
-      ≡ length (flat_map contents_of (run_under kind mask at run)) + length (flat_map contents_of (runs_under kind mask (at + length (run_bits run)) others))
 
 pub next_run : (kind : Kind) (mask : List ℕ) (at : ℕ) (runs : List SlotRun) (run : SlotRun) (others : List SlotRun) → runs ≡ run ∷ others
     → are_below (mask_bits mask at (length (runs_bits runs))) (runs_bits runs) ≡ true → IsNext kind mask at runs run others
@@ -228,19 +225,7 @@ next_run kind mask at runs run others is h =
       own = both.0;
       below = both.1;
       cells = split;
-      bytes = ap (λ (cells : List Cell). length (flat_map contents_of cells)) split ∙ ap length (flat_map-append contents_of (masked first own) (masked rest left))
-          ∙ length-append (flat_map contents_of (masked first own)) (flat_map contents_of (masked rest left));
     }
-
--- offsets up to the largest hold the texts or binaries of the run that a loop is at
-pub run_room : (kind : Kind) (width : ℕ) (mask : List ℕ) (at : ℕ) (all : List Cell) (runs : List SlotRun) (run : SlotRun) (others : List SlotRun) (next : ℕ) → contents_width kind ≡ Some width
-    → can_build (plain_column kind None) all ≡ true → IsNext kind mask at runs run others
-    → next + length (flat_map contents_of (runs_under kind mask at runs)) ≡ length (flat_map contents_of all)
-    → next + length (flat_map contents_of (run_under kind mask at run)) ≤ large_offset
-run_room kind width mask at all runs run others next wide can is h =
-    let most = contents_room kind width all wide can in
-    let both = is.bytes in
-    omega (arith, both, most, h)
 
 -- ---- runs under a mask, by the validity bitmap that is written for them
 

@@ -1,7 +1,7 @@
 -- Lists under a mask, slot by slot and run by run.
 use Rattle.std.specs.Prelude.{nat_le, if◌then◌else◌}
 use Rattle.std.specs.List.{flat_map, list_all, range_with_len}
-use Rattle.std.proofs.Common.{◌≡◌, ℕ, zero, suc, ◌+◌, ◌-◌, ◌≤◌, ◌<◌, ◌++◌, Bool, true, false, List, [], ◌∷◌, map, length, refl, ap, ap₂, sym, ◌∙◌, arith, append_assoc, append-nil, length-append}
+use Rattle.std.proofs.Common.{◌≡◌, ℕ, zero, suc, ◌+◌, ◌-◌, ◌≤◌, ◌<◌, ◌++◌, Bool, true, false, List, [], ◌∷◌, map, length, refl, ap, ap₂, sym, ◌∙◌, arith, append_assoc, append-nil}
 use Rattle.std.proofs.lemmas.Bool.{and_parts, and_from, leb-true}
 use Rattle.std.proofs.lemmas.List.Concat.{flat_map-append}
 use Rattle.std.proofs.lemmas.List.FromFn.{length-map-range_with_len}
@@ -10,7 +10,6 @@ use Rattle.arrow_schema.specs.Column.{Column}
 use Rattle.batch_build.specs.laws.Arrays.{lists_are}
 use Rattle.array_build.proofs.AsWritten.{valid_runs_written}
 use Rattle.array_build.proofs.MaskedContents.{IsNext, run_of_nulls_under}
-use Rattle.batch_build.specs.laws.Premises.{lists_fit}
 use Rattle.dictionary_codes.specs.laws.Repeated.{none_each}
 use Rattle.array_build.proofs.RunArrays.{has_values, masked_kind_slots}
 use Rattle.array_build.proofs.RunItems.{AreLists, list_tests, slots_items, valid_items}
@@ -27,7 +26,6 @@ use Rattle.bitmap.specs.Bits.{bit}
 use Rattle.cells.specs.Cell.{Cell, null}
 use Rattle.cells.specs.Dictionary.{item_list}
 use Rattle.columns.specs.Array.{Array, items_in, offsets_in, slots_in}
-use Rattle.columns.specs.Buildable.{can_build, large_offset}
 use Rattle.columns.specs.Built.{list_offsets}
 use Rattle.columns.specs.CellAt.{cell_at, cells_from, is_valid, number_at, span_size, span_start}
 use Rattle.columns.specs.Offsets.{width_of}
@@ -198,7 +196,7 @@ pub record AreListsUnder (width : OffsetWidth) (item : Column) (mask : List ℕ)
   pub slots : from + n ≤ slots_in (view_array v)
   pub count : length (run_bits run) ≡ n
   pub valid : AreValidUnder (view_array v) mask from at (at + n)
-  pub sizes : list_sizes (run_under (list_kind width item) mask at run) ≡ masked_sizes (width_of width) (view_array v) from (mask_bits mask at (at + n - at))
+  pub sizes : list_sizes (run_under (list_kind width item) mask at run) ≡ masked_sizes (width_of width) (view_array v) from (mask_bits mask at n)
   pub items : flat_map item_list (run_under (list_kind width item) mask at run) ≡ lists_under (cell_at (list_column width item) (view_array v)) mask from at (at + n - at)
 
 pub run_lists_under : (width : OffsetWidth) (item : Column) (mask : List ℕ) (at : ℕ) (v : ArrayView) (from n : ℕ) (run : SlotRun) → run ≡ Slots v from n
@@ -222,8 +220,7 @@ run_lists_under width item mask at v from n run is sound below =
           below_each (bit mask) (is_valid a) at from n own (j - at) (omega (arith, low, high)) (ap (bit mask) here ∙ set));
       sizes =
           ap₂ (λ (k : ℕ) (r : SlotRun). list_sizes (masked (mask_bits mask at k) (run_lists width item r))) many is
-          ∙ lists_sizes width item a (mask_bits mask at n) from n (mask_counted mask at n) own
-          ∙ ap (λ (k : ℕ). masked_sizes (width_of width) a from (mask_bits mask at k)) (sym same);
+          ∙ lists_sizes width item a (mask_bits mask at n) from n (mask_counted mask at n) own;
       items =
           ap₂ (λ (k : ℕ) (r : SlotRun). flat_map item_list (masked (mask_bits mask at k) (run_lists width item r))) many is
           ∙ ap (λ (k : ℕ). flat_map item_list (masked (mask_bits mask at k) (cells_from (cell_at (list_column width item) a) from n))) (sym same)
@@ -244,23 +241,6 @@ pub next_items : (width : OffsetWidth) (item : Column) (mask : List ℕ) (at : �
 next_items width item mask at runs run others is =
     ap (flat_map item_list) is.cells
     ∙ flat_map-append item_list (run_under (list_kind width item) mask at run) (runs_under (list_kind width item) mask (at + length (run_bits run)) others)
-
-pub next_count : (width : OffsetWidth) (item : Column) (mask : List ℕ) (at : ℕ) (runs : List SlotRun) (run : SlotRun) (others : List SlotRun) → IsNext (list_kind width item) mask at runs run others
-    → length (flat_map item_list (runs_under (list_kind width item) mask at runs))
-    ≡ length (flat_map item_list (run_under (list_kind width item) mask at run)) + length (flat_map item_list (runs_under (list_kind width item) mask (at + length (run_bits run)) others))
-next_count width item mask at runs run others is =
-    ap length (next_items width item mask at runs run others is)
-    ∙ length-append (flat_map item_list (run_under (list_kind width item) mask at run)) (flat_map item_list (runs_under (list_kind width item) mask (at + length (run_bits run)) others))
-
--- offsets up to the largest hold those of the run that a loop is at
-pub lists_room : (width : OffsetWidth) (item : Column) (mask : List ℕ) (at : ℕ) (all : List Cell) (runs : List SlotRun) (run : SlotRun) (others : List SlotRun) (next : ℕ)
-    → can_build (list_column width item) all ≡ true → IsNext (list_kind width item) mask at runs run others
-    → next + length (flat_map item_list (runs_under (list_kind width item) mask at runs)) ≡ length (flat_map item_list all)
-    → next + length (flat_map item_list (run_under (list_kind width item) mask at run)) ≤ large_offset
-lists_room width item mask at all runs run others next can is h =
-    let most = leb-true _ _ (lists_fit width item all can) in
-    let both = next_count width item mask at runs run others is in
-    omega (arith, both, most, h)
 
 -- ---- the arrays
 

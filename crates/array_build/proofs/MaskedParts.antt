@@ -31,7 +31,7 @@ joined_below (true ∷ bits) (true ∷ own) len = joined_below bits own (omega (
 joined_below (true ∷ bits) (false ∷ own) len = joined_below bits own (omega (arith, len))
 joined_below (false ∷ bits) (o ∷ own) len = joined_below bits own (omega (arith, len))
 
--- where all are, all are in each
+-- if all are, all are in each
 pub all_joined : (bits own : List Bool) → length bits ≡ length own → list_all (λ b. b) (joined bits own) ≡ true → (list_all (λ b. b) bits ≡ true) × (list_all (λ b. b) own ≡ true)
 all_joined [] [] len h = (refl, refl)
 all_joined [] (o ∷ own) len h = absurd (omega (arith, len))

@@ -109,7 +109,7 @@ cells_masked kind width (b ∷ bits) (c ∷ cells) is len h =
     ap₂ (λ (xs ys : List ℕ). xs ++ ys) (first_masked b kind width c others is own)
     (cells_masked kind width bits cells is (omega (arith, len)) parts.1 ∙ ap (cleared width bits) (sym (drop_at (fixed_value kind c) others width own)))
 
--- with zeros where a bit is not set they are those of the cells under the mask
+-- with zeros for those whose bit is not set, they are those of the cells under the mask
 pub values_masked : (kind : Kind) (width : ℕ) (bits : List Bool) (runs : List SlotRun) → fixed_width kind ≡ Some width → length bits ≡ length (kind_cells kind runs)
     → are_runs_sound (plain_column kind None) runs ≡ true → flat_map (fixed_value kind) (masked bits (kind_cells kind runs)) ≡ cleared width bits (flat_map (fixed_value kind) (kind_cells kind runs))
 values_masked kind width bits runs is len sound = cells_masked kind width bits (kind_cells kind runs) is len (runs_wide kind width runs is sound)

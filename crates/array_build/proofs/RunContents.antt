@@ -1,10 +1,9 @@
 -- The bytes of texts and binaries, and their offsets, of slots one after another.
 use Rattle.std.specs.Prelude.{Some, None, not, ◌*◌, ◌==◌, ◌&&◌, nat_le, replicate}
 use Rattle.std.specs.List.{flat_map, list_all, range_with_len}
-use Rattle.std.proofs.Common.{◌≡◌, ℕ, zero, suc, ◌+◌, ◌-◌, ◌≤◌, ◌<◌, ◌++◌, Bool, true, false, List, [], ◌∷◌, length, take, drop, refl, ap, ap₂, sym, subst, ◌∙◌, arith, append_assoc, length-append, length-drop, mul-le-mul_right}
+use Rattle.std.proofs.Common.{◌≡◌, ℕ, zero, suc, ◌+◌, ◌-◌, ◌≤◌, ◌<◌, ◌++◌, Bool, true, false, List, [], ◌∷◌, length, take, drop, refl, ap, ap₂, sym, subst, ◌∙◌, arith, append_assoc, length-drop, mul-le-mul_right}
 use Rattle.std.proofs.lemmas.Bool.{and_parts, leb-true, ltb-false, ne_eqb, not-true}
 use Rattle.std.proofs.lemmas.List.{drop-drop, length-take-le}
-use Rattle.std.proofs.lemmas.List.Concat.{flat_map-append}
 use Rattle.std.proofs.Math.Seq.{take-add}
 use Rattle.array_build.proofs.RunValues.{plain_cell}
 use Rattle.byteorder.specs.Endian.{little_bytes}
@@ -13,7 +12,7 @@ use Rattle.array_build.proofs.AsWritten.{has_offsets, no_byte_below, null_slot}
 use Rattle.batch_build.specs.laws.Premises.{texts_fit, binaries_fit}
 use Rattle.dictionary_codes.specs.laws.Repeated.{none_each}
 use Rattle.batch_build.specs.Batch.{plain_column}
-use Rattle.array_build.specs.inner.Runs.{cell_sizes, is_as_written, is_run_as_written, kind_cells, offsets_width, slot_sizes, span_contents}
+use Rattle.array_build.specs.inner.Runs.{cell_sizes, is_as_written, is_run_as_written, offsets_width, slot_sizes, span_contents}
 use Rattle.columns.specs.Runs.{is_run_sound, run_cells}
 use Rattle.columns.specs.declared.slot_runs.SlotRun.{SlotRun}
 use Rattle.columns.specs.declared.slot_runs.SlotRun.TheVariants.{Slots, Nulls}
@@ -235,16 +234,3 @@ contents_room (lists item) width cells is h = cc
 contents_room (large_lists item) width cells is h = cc
 contents_room (fixed_lists size item) width cells is h = cc
 contents_room (structs columns) width cells is h = cc
-
--- so do those of the run that a loop is at
-pub run_room : (kind : Kind) (width : ℕ) (runs : List SlotRun) (i : ℕ) (run : SlotRun) (next : ℕ) → contents_width kind ≡ Some width → can_build (plain_column kind None) (kind_cells kind runs) ≡ true
-    → drop i runs ≡ run ∷ drop (i + 1) runs → next + length (flat_map contents_of (kind_cells kind (drop i runs))) ≡ length (flat_map contents_of (kind_cells kind runs))
-    → next + length (flat_map contents_of (run_cells (plain_column kind None) run)) ≤ large_offset
-run_room kind width runs i run next wide can item h =
-    let own : List Cell = run_cells (plain_column kind None) run in
-    let others : List Cell = kind_cells kind (drop (i + 1) runs) in
-    let both : length (flat_map contents_of (kind_cells kind (drop i runs))) ≡ length (flat_map contents_of own) + length (flat_map contents_of others) =
-    ap (λ (rs : List SlotRun). length (flat_map contents_of (kind_cells kind rs))) item ∙ ap length (flat_map-append contents_of own others)
-    ∙ length-append (flat_map contents_of own) (flat_map contents_of others) in
-    let most = contents_room kind width (kind_cells kind runs) wide can in
-    omega (arith, both, most, h)

@@ -213,7 +213,7 @@ all_left : (n : ℕ) (bits : List Bool) → list_all (λ b. b) (replicate n true
 all_left zero bits = refl
 all_left (suc n) bits = all_left n bits
 
--- where some are not set, some are not
+-- if some are not set, some are not
 pub some_repeated : (size : ℕ) (bits : List Bool) → 0 < size → list_all (λ b. b) bits ≡ false → list_all (λ b. b) (repeated size bits) ≡ false
 some_repeated zero bits some h = absurd (omega (arith, some))
 some_repeated (suc size) [] some h = h

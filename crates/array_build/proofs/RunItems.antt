@@ -1,7 +1,7 @@
 -- The items of lists, and their offsets, of slots one after another.
 use Rattle.std.specs.Prelude.{Some, nat_le, replicate}
 use Rattle.std.specs.List.{flat_map, list_all, range_with_len}
-use Rattle.std.proofs.Common.{◌≡◌, ℕ, zero, suc, ◌+◌, ◌-◌, ◌≤◌, ◌<◌, ◌++◌, Bool, true, false, List, [], ◌∷◌, length, drop, refl, ap, ap₂, sym, ◌∙◌, arith, append_assoc, append-nil, length-append}
+use Rattle.std.proofs.Common.{◌≡◌, ℕ, zero, suc, ◌+◌, ◌-◌, ◌≤◌, ◌<◌, ◌++◌, Bool, true, false, List, [], ◌∷◌, length, refl, ap, ap₂, sym, ◌∙◌, arith, append_assoc, append-nil}
 use Rattle.std.proofs.lemmas.Bool.{and_parts, and_from, leb-true, le-leb}
 use Rattle.std.proofs.lemmas.List.Concat.{flat_map-append}
 use Rattle.std.proofs.lemmas.List.Folds.{list_all-append}
@@ -9,13 +9,12 @@ use Rattle.std.proofs.lemmas.List.FromFn.{length-map-range_with_len}
 use Rattle.arrow_schema.specs.Column.{Column, lists, large_lists}
 use Rattle.batch_build.specs.laws.Arrays.{lists_are}
 use Rattle.array_build.proofs.AsWritten.{no_byte_below, null_slot}
-use Rattle.batch_build.specs.laws.Premises.{lists_fit}
 use Rattle.dictionary_codes.specs.laws.Repeated.{none_each}
 use Rattle.array_build.proofs.RunArrays.{kind_slots}
 use Rattle.batch_build.specs.Batch.{PlainBatch, built_at, with_arrays}
 use Rattle.batch_build.specs.Nodes.{list_kind, with_buffer, with_slots}
 use Rattle.array_build.specs.inner.RunItems.{AreItems, HasSlots, list_column, list_sizes, run_lists}
-use Rattle.array_build.specs.inner.Runs.{is_as_written, is_run_as_written, kind_cells, offsets_width, slot_sizes, span_of, with_run_slots}
+use Rattle.array_build.specs.inner.Runs.{is_as_written, is_run_as_written, kind_cells, offsets_width, slot_sizes, with_run_slots}
 use Rattle.dictionary_codes.specs.Masks.{runs_bits}
 use Rattle.columns.specs.Runs.{run_cells, runs_cells, is_run_sound, are_runs_sound}
 use Rattle.columns.specs.declared.slot_runs.SlotRun.{SlotRun}
@@ -24,7 +23,6 @@ use Rattle.cells.specs.Cell.{Cell, null}
 use Rattle.cells.specs.Dictionary.{item_list}
 use Rattle.cells.specs.laws.Cells.{cells_listed}
 use Rattle.columns.specs.Array.{Array, empty_array, slots_in, offsets_in, items_in}
-use Rattle.columns.specs.Buildable.{can_build, large_offset}
 use Rattle.columns.specs.Built.{list_offsets}
 use Rattle.columns.specs.CellAt.{cell_at, kind_cell, cells_from, is_valid, number_at, span_cells, span_size, span_start}
 use Rattle.columns.specs.Offsets.{width_of}
@@ -175,36 +173,12 @@ pub run_list_sizes : (width : OffsetWidth) (item : Column) (v : ArrayView) (from
     → list_sizes (run_lists width item run) ≡ slot_sizes (width_of width) (view_array v) from n
 run_list_sizes width item v from n run is are = ap (λ (r : SlotRun). list_sizes (run_lists width item r)) is ∙ slot_list_sizes width item (view_array v) from n are.written
 
-pub run_list_items : (width : OffsetWidth) (item : Column) (v : ArrayView) (from n : ℕ) (run : SlotRun) → run ≡ Slots v from n → AreLists width item v from n
-    → length (flat_map item_list (run_lists width item run)) ≡ span_of (width_of width) (view_array v) from n
-run_list_items width item v from n run is are =
-    ap (λ (r : SlotRun). length (flat_map item_list (run_lists width item r))) is
-    ∙ ap length (slots_items width item (view_array v) from n are.up are.within are.written)
-    ∙ length-map-range_with_len (cell_at item (items_in (view_array v))) (span_start (width_of width) (view_array v) from) (span_of (width_of width) (view_array v) from n)
-
 null_sizes : (n : ℕ) → list_sizes (replicate n null) ≡ replicate n 0
 null_sizes zero = refl
 null_sizes (suc n) = ap (λ (ks : List ℕ). 0 ∷ ks) (null_sizes n)
 
 pub null_list_sizes : (width : OffsetWidth) (item : Column) (n : ℕ) (run : SlotRun) → run ≡ Nulls n → list_sizes (run_lists width item run) ≡ replicate n 0
 null_list_sizes width item n run is = ap (λ (r : SlotRun). list_sizes (run_lists width item r)) is ∙ null_sizes n
-
-pub null_list_items : (width : OffsetWidth) (item : Column) (n : ℕ) (run : SlotRun) → run ≡ Nulls n → length (flat_map item_list (run_lists width item run)) ≡ 0
-null_list_items width item n run is = ap (λ (r : SlotRun). length (flat_map item_list (run_lists width item r))) is ∙ ap length (none_each item_list null n refl)
-
--- offsets up to the largest hold the items of the run that a loop is at
-pub list_room : (width : OffsetWidth) (item : Column) (runs : List SlotRun) (i : ℕ) (run : SlotRun) (next : ℕ) → can_build (list_column width item) (kind_cells (list_kind width item) runs) ≡ true
-    → drop i runs ≡ run ∷ drop (i + 1) runs
-    → next + length (flat_map item_list (kind_cells (list_kind width item) (drop i runs))) ≡ length (flat_map item_list (kind_cells (list_kind width item) runs))
-    → next + length (flat_map item_list (run_lists width item run)) ≤ large_offset
-list_room width item runs i run next can here h =
-    let own : List Cell = run_lists width item run in
-    let others : List Cell = kind_cells (list_kind width item) (drop (i + 1) runs) in
-    let both : length (flat_map item_list (kind_cells (list_kind width item) (drop i runs))) ≡ length (flat_map item_list own) + length (flat_map item_list others) =
-    ap (λ (rs : List SlotRun). length (flat_map item_list (kind_cells (list_kind width item) rs))) here ∙ ap length (flat_map-append item_list own others)
-    ∙ length-append (flat_map item_list own) (flat_map item_list others) in
-    let most = leb-true _ _ (lists_fit width item (kind_cells (list_kind width item) runs) can) in
-    omega (arith, both, most, h)
 
 -- ---- the items of all runs
 

@@ -223,7 +223,7 @@ runs_parts cs (run ∷ runs) =
     ∙ ap₂ (λ (xs ys : List (List Cell)). xs ++ ys) (run_parts cs run) (runs_parts cs runs)
     ∙ sym (masked_append [] (run_bits run) (runs_bits runs) (parts_behind 0 cs run) (flat_map (parts_behind 0 cs) runs) (parts_counted 0 cs run))
 
--- and under a mask, where this is the mask of what stands below
+-- and under a mask, if this is the mask of what is below
 pub parts_masked : (cs : Columns) (mask below : List ℕ) (runs : List SlotRun) → slots_mask below runs ≡ masked_slots mask runs
     → map part_list (masked_cells (plain_column (structs cs) None) mask runs) ≡ masked_parts cs below runs
 parts_masked cs mask below runs is =

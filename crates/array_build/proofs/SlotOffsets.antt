@@ -1,13 +1,11 @@
 -- Offsets of slots one after another, written over room for as many.
-use Rattle.std.proofs.Common.{◌≡◌, ◌≤◌, ◌<◌, ◌+◌, ◌-◌, ◌*◌, ◌++◌, ◌∙◌, ℕ, zero, suc, List, false, ap, arith, length, length-append, length-drop, refl, subst, sym, take, drop}
+use Rattle.std.proofs.Common.{◌≡◌, ◌≤◌, ◌<◌, ◌+◌, ◌-◌, ◌*◌, ◌++◌, ◌∙◌, ℕ, List, false, ap, arith, length, length-append, refl, subst, sym, take}
 use Rattle.std.proofs.Math.Nat.{mul-le-mul_left}
 use Rattle.std.proofs.lemmas.List.{append_assoc, length-take-le, take_at}
-use Rattle.array_build.proofs.RunContents.{span_none}
-use Rattle.array_build.specs.inner.Runs.{span_contents, span_of}
-use Rattle.columns.specs.Array.{Array, contents_in, offsets_in, slots_in}
+use Rattle.columns.specs.Array.{Array, offsets_in, slots_in}
 use Rattle.columns.specs.CellAt.{number_at}
 use Rattle.columns.specs.Tests.{are_unordered}
-use Rattle.columns.specs.laws.Offsets.{offsets_ascend, spans_fit}
+use Rattle.columns.specs.laws.Offsets.{offsets_ascend}
 
 -- one more after those that are written
 pub one_put : (w k k' : ℕ) (old bytes rest new : List ℕ) → w * k ≤ length old → length bytes ≡ w → k' ≡ k + 1 → new ≡ take (w * k) old ++ (bytes ++ rest)
@@ -33,15 +31,3 @@ pub ascend : (w end : ℕ) (a : Array) (from i : ℕ) → are_unordered w end a 
 ascend w end a from i up order within some =
     let e : from + (i - from) ≡ i = omega arith in
     subst (λ (n : ℕ). number_at w (offsets_in a) from ≤ number_at w (offsets_in a) n) e (offsets_ascend w end a from (i - from) up some (omega (arith, e)))
-
--- the bytes of slots are those between two offsets
-pub span_bytes : (w : ℕ) (a : Array) (from n : ℕ) → are_unordered w (length (contents_in a)) a ≡ false → from + n ≤ slots_in a → length (span_contents w a from n) ≡ span_of w a from n
-span_bytes w a from zero up within =
-    let e : from + 0 ≡ from = omega arith in
-    let same = ap (number_at w (offsets_in a)) e in
-    let none = ap length (span_none w a up from) in
-    omega (arith, same, none)
-span_bytes w a from (suc n) up within =
-    let fits = spans_fit w (length (contents_in a)) a from (suc n) up (omega arith) (omega arith) in
-    let left = length-drop (number_at w (offsets_in a) from) (contents_in a) in
-    length-take-le (span_of w a from (suc n)) (drop (number_at w (offsets_in a) from) (contents_in a)) (omega (arith, fits, left))

@@ -68,7 +68,7 @@ fn have_zeros(array: ArrayView<'_>, width: usize, from: usize, len: usize) -> bo
     have_zeros_at_unset(validity, array.values(), width, from, from + len)
 }
 
-// The same, by a validity bitmap: goes from one unset bit to the next.
+// Returns whether the value of each slot whose bit is not set is all zeros. Goes from one unset bit to the next.
 fn have_zeros_at_unset(validity: &[u8], values: &[u8], width: usize, from: usize, to: usize) -> bool
     requires order { from ≤ to }
     requires bits { to ≤ 8 * length validity.now }
@@ -104,7 +104,7 @@ fn have_no_bytes(array: ArrayView<'_>, width: OffsetWidth, from: usize, len: usi
     have_no_bytes_at_unset(validity, array.offsets(), width, from, from + len)
 }
 
-// The same, by a validity bitmap.
+// Returns whether each slot whose bit is not set has two equal offsets.
 fn have_no_bytes_at_unset(
     validity: &[u8],
     offsets: &[u8],

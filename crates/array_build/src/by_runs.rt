@@ -54,7 +54,7 @@ fn build_coded_column<'k, 'a: 'k>(
     push_dictionary(batch, values)
 }
 
-// Lists that are already as they are written.
+// Adds the array of lists that are already as they are written, and the array of their items.
 #[cycle(by_runs)]
 fn build_list_kind<'k, 'a: 'k>(
     alloc: Global,
@@ -89,7 +89,7 @@ fn build_list_kind<'k, 'a: 'k>(
     }
 }
 
-// Lists have a node, a validity bitmap and offsets, followed by the array of all items.
+// Adds lists that are already as they are written: a node, a validity bitmap and offsets, followed by the array of all items.
 #[cycle(by_runs)]
 fn build_run_lists<'k, 'a: 'k>(
     alloc: Global,
@@ -141,7 +141,7 @@ fn are_copied(data_type: &DataType, runs: &[SlotRun<'_>], mask: &[u8]) -> bool
     false
 }
 
-// Lists under a mask, whatever is below their nulls.
+// Adds lists under a mask, whatever is below their nulls, and the array of their items.
 #[cycle(by_runs)]
 fn build_masked_lists<'k, 'a: 'k>(
     alloc: Global,
@@ -225,7 +225,7 @@ fn build_offsets_kind<'k, 'a: 'k>(
     }
 }
 
-// Fixed lists have a node and a validity bitmap, followed by the array of all items; the items of a null list are nulls.
+// Adds fixed lists: a node and a validity bitmap, followed by the array of all items. The items of a null list are nulls.
 #[cycle(by_runs)]
 fn build_run_fixed_lists<'k, 'a: 'k>(
     alloc: Global,
@@ -248,7 +248,7 @@ fn build_run_fixed_lists<'k, 'a: 'k>(
     build_run_column(alloc, batch, entries, item, &items, &items_mask)
 }
 
-// Structs have a node and a validity bitmap, followed by the array of each field with the same slots; the fields of a null struct are nulls.
+// Adds structs: a node and a validity bitmap, followed by the array of each field with the same slots. The fields of a null struct are nulls.
 #[cycle(by_runs)]
 fn build_run_structs<'k, 'a: 'k>(
     alloc: Global,
@@ -325,7 +325,7 @@ fn build_other_kind<'k, 'a: 'k>(
     }
 }
 
-// The same, for a type without values of one width.
+// Adds the array of runs under a mask, and its child arrays, for a type without values of one width.
 #[cycle(by_runs)]
 fn build_wide_kind<'k, 'a: 'k>(
     alloc: Global,
@@ -347,7 +347,7 @@ fn build_wide_kind<'k, 'a: 'k>(
     }
 }
 
-// The same, for any type.
+// Adds the array of runs under a mask, and its child arrays, for any type.
 #[cycle(by_runs)]
 fn build_run_kind<'k, 'a: 'k>(
     alloc: Global,
@@ -368,7 +368,7 @@ fn build_run_kind<'k, 'a: 'k>(
     }
 }
 
-// The same, for a field.
+// Adds the array of a field's runs under a mask, and its child arrays.
 #[cycle(by_runs)]
 fn build_run_column<'k, 'a: 'k>(
     alloc: Global,
@@ -409,7 +409,7 @@ fn build_run_parts<'k, 'a: 'k>(
     Ok(())
 }
 
-/// Makes the batch of rows whose columns are runs of slots. A buffer of a single run stays where it is, if it is already as it is written; else bytes are
+/// Makes the batch of rows whose columns are runs of slots. A buffer of a single run stays where it is, if it is already as it is written; otherwise bytes are
 /// copied run by run. Only nulls and entries of dictionaries are handled one by one; what is known of the entries is kept for the next rows.
 ///
 /// # Errors

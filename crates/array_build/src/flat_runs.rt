@@ -20,7 +20,7 @@ use columns::{OffsetWidth, SlotRun};
 use dictionary_codes::count_slots;
 use std::alloc::{AllocError, Global};
 
-// Nulls have only a node.
+/// Adds the array of nulls, which has only a node.
 #[tactic(auto, using(crate::proofs::RunArrays::null_runs_are))]
 pub(crate) fn build_run_nulls(
     batch: &mut BuiltBatch<'_>,
@@ -35,6 +35,7 @@ pub(crate) fn build_run_nulls(
     push_node(batch, slots, slots)
 }
 
+/// Adds the array of booleans.
 pub(crate) fn build_run_bits(
     alloc: Global,
     batch: &mut BuiltBatch<'_>,
@@ -51,7 +52,7 @@ pub(crate) fn build_run_bits(
     push_buffer(batch, run_booleans(alloc, runs, &below)?)
 }
 
-/// Values of one width.
+/// Adds the array of values of one width.
 #[tactic(auto, using(crate::proofs::RunArrays::fixed_runs_are))]
 pub(crate) fn build_run_values<'a>(
     alloc: Global,
@@ -70,7 +71,7 @@ pub(crate) fn build_run_values<'a>(
     push_any_buffer(batch, masked_values(alloc, data_type, width, runs, mask)?)
 }
 
-/// Strings and binaries.
+/// Adds the array of strings or binaries that are already as they are written.
 pub(crate) fn build_run_contents<'a>(
     alloc: Global,
     batch: &mut BuiltBatch<'a>,

@@ -6,7 +6,7 @@ ghost use Rattle.columns.specs.View.{view_array};
 
 use columns::{ArrayView, SlotRun};
 
-/// Returns `len` items of lists or fixed lists from item `from` on: an array of another type has none.
+/// Returns `len` items of lists or fixed lists, from item `from` on. An array of another type has none.
 #[tactic(auto, using(crate::proofs::RunItems::item_found, crate::proofs::RunItems::item_absent))]
 pub(crate) fn item_slots<'a>(view: ArrayView<'a>, from: usize, len: usize) -> SlotRun<'a>
     requires { from + len ≤ slots_in (items_in (view_array view)) }

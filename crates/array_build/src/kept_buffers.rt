@@ -13,7 +13,7 @@ fn bytes_from(bytes: &[u8], place: usize, width: usize, size: usize) -> Option<&
     bytes.get(start..start.saturating_add(size))
 }
 
-/// Returns `size` bytes of the indices of the only run, if there is one that has them.
+/// Returns `size` bytes of the indices of the only run, if it has them.
 pub(crate) fn own_indices<'a>(runs: &[SlotRun<'a>], width: usize, size: usize) -> Option<&'a [u8]> {
     match only_run(runs) {
         Some(SlotRun::Slots { array, from, .. }) => bytes_from(array.indices(), from, width, size),
@@ -21,7 +21,7 @@ pub(crate) fn own_indices<'a>(runs: &[SlotRun<'a>], width: usize, size: usize) -
     }
 }
 
-/// The same of its offsets.
+/// Returns `size` bytes of the offsets of the only run, if it has them.
 pub(crate) fn own_offsets<'a>(runs: &[SlotRun<'a>], width: usize, size: usize) -> Option<&'a [u8]> {
     match only_run(runs) {
         Some(SlotRun::Slots { array, from, .. }) => bytes_from(array.offsets(), from, width, size),

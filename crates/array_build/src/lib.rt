@@ -22,6 +22,7 @@ mod run_fixed_items;
 mod run_flags;
 mod run_indices;
 mod run_items;
+mod run_offsets;
 mod run_parts;
 mod run_slots;
 mod run_values;

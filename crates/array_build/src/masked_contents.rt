@@ -1,67 +1,35 @@
 // Strings and binaries under a mask: a slot whose bit is not set has no bytes, whatever the array has there.
-ghost use Rattle.std.specs.Prelude.{◌≡◌, ◌≤◌, ◌<◌, ◌+◌, ◌-◌, ◌*◌, ◌^◌, ◌++◌, ℕ, List, [], false, true, OnOk, IfOk, Some, None, length, if◌then◌else◌};
+ghost use Rattle.std.specs.Prelude.{◌≡◌, ◌≤◌, ◌<◌, ◌+◌, ◌-◌, ◌*◌, ◌^◌, ◌++◌, [], false, true, OnOk, IfOk, Some, None, length, if◌then◌else◌};
 ghost use Rattle.std.specs.List.{flat_map};
 ghost use Rattle.batch_build.specs.Batch.{batch_in, plain_column};
 ghost use Rattle.array_build.specs.inner.Masked.{AddsMasked, are_below, masked_kind};
 ghost use Rattle.dictionary_codes.specs.Masks.{IsMask, mask_bits, run_bits};
-ghost use Rattle.array_build.specs.inner.MaskedContents.{AreUnder, masked_sizes, masked_spans, run_under, runs_under, with_contents};
-ghost use Rattle.array_build.specs.inner.Runs.{AreOffsetsAdded, cell_sizes, span_contents};
+ghost use Rattle.array_build.specs.inner.MaskedContents.{AreUnder, masked_spans, run_under, runs_under, with_contents};
+ghost use Rattle.array_build.specs.inner.Runs.{cell_sizes, span_contents};
 ghost use Rattle.arrow_schema.specs.View.{kind_of};
 ghost use Rattle.bitmap.specs.Bits.{bit};
 ghost use Rattle.columns.specs.Array.{slots_in, contents_in};
-ghost use Rattle.columns.specs.Buildable.{can_build, large_offset};
+ghost use Rattle.columns.specs.Buildable.{can_build};
 ghost use Rattle.columns.specs.Built.{contents_of, offsets_of};
-ghost use Rattle.columns.specs.CellAt.{number_at};
 ghost use Rattle.columns.specs.Offsets.{contents_width, width_of};
 ghost use Rattle.columns.specs.Runs.{are_runs_sound, is_run_sound};
 ghost use Rattle.columns.specs.Tests.{are_few_offsets, are_unordered};
 ghost use Rattle.columns.specs.View.{view_array};
 
 use crate::number_bytes::last_offset;
-use crate::run_contents::{push_null_offsets, push_written_contents, slot_contents};
+use crate::run_contents::{push_written_contents, slot_contents};
+use crate::run_offsets::masked_run_offsets;
 use crate::slot_masks::push_masked_slots;
-use crate::slot_offsets::push_masked_slot_offsets;
 use crate::unset_slots::run_to;
 use arrow_schema::DataType;
-use batch_build::{BuiltBatch, offset_size, push_buffer};
+use batch_build::{BuiltBatch, push_buffer};
 use bitmap::get;
-use columns::{ArrayView, OffsetWidth, SlotRun, push_offset};
+use columns::{ArrayView, OffsetWidth, SlotRun};
 use dictionary_codes::{count_slots, run_len};
 use std::alloc::{AllocError, Global};
 
-// Appends the offsets at which the strings or binaries of a run begin, under the mask bits from `at` on; returns the end of the last.
-fn push_run_offsets(
-    offsets: &mut Vec<u8>,
-    data_type: &DataType,
-    width: OffsetWidth,
-    run: &SlotRun<'_>,
-    mask: &[u8],
-    at: usize,
-    start: u64,
-) -> Result<u64, AllocError>
-    requires width { contents_width (kind_of data_type.now) ≡ Some (width_of width) }
-    requires sound { is_run_sound (plain_column (kind_of data_type.now) None) run.now ≡ true }
-    requires counted { at + length (run_bits run.now) < 2 ^ 64 }
-    requires long { at + length (run_bits run.now) ≤ 8 * length mask.now }
-    requires below { are_below (mask_bits mask.now at (length (run_bits run.now))) (run_bits run.now) ≡ true }
-    requires room { start + length (flat_map contents_of (run_under (kind_of data_type.now) mask.now at run.now)) ≤ large_offset }
-    ensures offsets { IfOk result (λ next. AreOffsetsAdded (width_of width) offsets.old.items offsets.new.items start next
-        (cell_sizes (run_under (kind_of data_type.now) mask.now at run.now))) }
-    ensures next { IfOk result (λ next. next ≡ start + length (flat_map contents_of (run_under (kind_of data_type.now) mask.now at run.now))) }
-{
-    match run {
-        SlotRun::Slots { array, from, len } => {
-            push_masked_slot_offsets(offsets, width, *array, *from, mask, at, at + *len, start)
-        }
-        SlotRun::Nulls(count) => {
-            push_null_offsets(offsets, width, *count, start)?;
-            Ok(start)
-        }
-    }
-}
-
 // Makes the offsets of strings or binaries under a mask: 0, and then the end of each.
-fn masked_offsets(
+fn masked_content_offsets(
     alloc: Global,
     data_type: &DataType,
     width: OffsetWidth,
@@ -73,17 +41,7 @@ fn masked_offsets(
     ensures { IfOk result (λ bytes. bytes.items
         ≡ offsets_of (width_of width) (cell_sizes (runs_under (kind_of data_type.now) mask.now 0 runs.now))) }
 {
-    let slots = count_slots(runs)?;
-    let size = slots.saturating_add(1).saturating_mul(offset_size(width));
-    let mut offsets = Vec::with_capacity(alloc, size)?;
-    let mut next = 0;
-    let mut at = 0;
-    for run in runs {
-        next = push_run_offsets(&mut offsets, data_type, width, run, mask, at, next)?;
-        at += run_len(run);
-    }
-    push_offset(&mut offsets, width, next)?;
-    Ok(offsets)
+    masked_run_offsets(alloc, width, runs, mask)
 }
 
 // Appends the bytes of some slots if `is_there`.
@@ -204,7 +162,7 @@ fn push_masked_contents(
     ensures { OnOk result (batch_in batch.new
         ≡ with_contents (width_of width) (batch_in batch.old) (runs_under (kind_of data_type.now) mask.now 0 runs.now)) }
 {
-    let offsets = masked_offsets(alloc, data_type, width, runs, mask)?;
+    let offsets = masked_content_offsets(alloc, data_type, width, runs, mask)?;
     let room = last_offset(&offsets, width);
     push_buffer(batch, offsets)?;
     let contents = masked_contents(alloc, data_type, width, runs, mask, room)?;

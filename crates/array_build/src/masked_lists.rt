@@ -1,5 +1,5 @@
 // Lists under a mask: a slot whose bit is not set has no items, whatever the array has there. Consecutive items are one run.
-ghost use Rattle.std.specs.Prelude.{◌≡◌, ◌≤◌, ◌<◌, ◌+◌, ◌-◌, ◌*◌, ◌^◌, ◌++◌, [], true, OnOk, IfOk, length, get_or, if◌then◌else◌};
+ghost use Rattle.std.specs.Prelude.{◌≡◌, ◌≤◌, ◌<◌, ◌+◌, ◌-◌, ◌*◌, ◌^◌, ◌++◌, [], true, OnOk, IfOk, length, if◌then◌else◌};
 ghost use Rattle.std.specs.List.{flat_map, list_all, range_with_len};
 ghost use Rattle.batch_build.specs.Batch.{batch_in};
 ghost use Rattle.dictionary_codes.specs.Masks.{IsMask, mask_bits, run_bits};
@@ -7,13 +7,12 @@ ghost use Rattle.array_build.specs.inner.Masked.{are_below, masked_kind, masked_
 ghost use Rattle.array_build.specs.inner.MaskedContents.{AreUnder, run_under, runs_under};
 ghost use Rattle.array_build.specs.inner.MaskedLists.{AreValidUnder, lists_under};
 ghost use Rattle.batch_build.specs.Nodes.{list_kind, with_buffer};
-ghost use Rattle.array_build.specs.inner.RunItems.{list_column, list_sizes};
-ghost use Rattle.array_build.specs.inner.Runs.{AreOffsetsAdded, with_run_slots};
+ghost use Rattle.array_build.specs.inner.RunItems.{list_column};
+ghost use Rattle.array_build.specs.inner.Runs.{with_run_slots};
 ghost use Rattle.arrow_schema.specs.View.{column_of};
-ghost use Rattle.cells.specs.Cell.{null};
 ghost use Rattle.cells.specs.Dictionary.{item_list};
 ghost use Rattle.columns.specs.Array.{items_in, slots_in};
-ghost use Rattle.columns.specs.Buildable.{can_build, large_offset};
+ghost use Rattle.columns.specs.Buildable.{can_build};
 ghost use Rattle.columns.specs.Built.{list_offsets};
 ghost use Rattle.columns.specs.CellAt.{cell_at, cells_from, is_valid};
 ghost use Rattle.columns.specs.Offsets.{width_of};
@@ -22,47 +21,16 @@ ghost use Rattle.columns.specs.Sound.{is_sound};
 ghost use Rattle.columns.specs.View.{view_array};
 
 use crate::item_slots::item_slots;
-use crate::run_contents::push_null_offsets;
 use crate::run_items::{item_runs, run_list_offsets};
+use crate::run_offsets::masked_run_offsets;
 use crate::slot_masks::push_masked_slots;
-use crate::slot_offsets::push_masked_slot_offsets;
+use crate::unset_slots::run_to;
 use arrow_schema::Field;
-use batch_build::{BuiltBatch, offset_size, push_buffer};
-use bitmap::{get, run_end};
-use columns::{ArrayView, OffsetWidth, SlotRun, Span, push_offset};
+use batch_build::{BuiltBatch, push_buffer};
+use bitmap::get;
+use columns::{ArrayView, OffsetWidth, SlotRun, Span};
 use dictionary_codes::{count_slots, run_len};
 use std::alloc::{AllocError, Global};
-
-// Appends the offsets at which the items of a run's lists begin, under the mask bits from `at` on; returns the end of the last.
-fn push_masked_offsets(
-    offsets: &mut Vec<u8>,
-    item: &Field,
-    width: OffsetWidth,
-    run: &SlotRun<'_>,
-    mask: &[u8],
-    at: usize,
-    start: u64,
-) -> Result<u64, AllocError>
-    requires sound { is_run_sound (list_column width (column_of item.now)) run.now ≡ true }
-    requires counted { at + length (run_bits run.now) < 2 ^ 64 }
-    requires long { at + length (run_bits run.now) ≤ 8 * length mask.now }
-    requires below { are_below (mask_bits mask.now at (length (run_bits run.now))) (run_bits run.now) ≡ true }
-    requires room { start + length (flat_map item_list (run_under (list_kind width (column_of item.now)) mask.now at run.now)) ≤ large_offset }
-    ensures offsets { IfOk result (λ next. AreOffsetsAdded (width_of width) offsets.old.items offsets.new.items start next
-        (list_sizes (run_under (list_kind width (column_of item.now)) mask.now at run.now))) }
-    ensures next { IfOk result (λ next. next
-        ≡ start + length (flat_map item_list (run_under (list_kind width (column_of item.now)) mask.now at run.now))) }
-{
-    match run {
-        SlotRun::Slots { array, from, len } => {
-            push_masked_slot_offsets(offsets, width, *array, *from, mask, at, at + *len, start)
-        }
-        SlotRun::Nulls(count) => {
-            push_null_offsets(offsets, width, *count, start)?;
-            Ok(start)
-        }
-    }
-}
 
 // Makes the offsets of lists under a mask: 0, and then the end of the items of each.
 fn masked_list_offsets(
@@ -76,17 +44,7 @@ fn masked_list_offsets(
     ensures { IfOk result (λ bytes. bytes.items
         ≡ list_offsets (width_of width) (runs_under (list_kind width (column_of item.now)) mask.now 0 runs.now)) }
 {
-    let slots = count_slots(runs)?;
-    let size = slots.saturating_add(1).saturating_mul(offset_size(width));
-    let mut offsets = Vec::with_capacity(alloc, size)?;
-    let mut next = 0;
-    let mut at = 0;
-    for run in runs {
-        next = push_masked_offsets(&mut offsets, item, width, run, mask, at, next)?;
-        at += run_len(run);
-    }
-    push_offset(&mut offsets, width, next)?;
-    Ok(offsets)
+    masked_run_offsets(alloc, width, runs, mask)
 }
 
 // Appends items of an array, if there are any.
@@ -147,7 +105,8 @@ fn join_items<'a>(
     })
 }
 
-// The same, with the items of lists whose bits are all set, or with none.
+// Appends items of an array, and returns the later ones that are not appended yet, as `join_items`; the later ones are the items of `count` lists if their bits
+// are set, otherwise there are none.
 fn push_stretch<'a>(
     items: &mut Vec<SlotRun<'a>>,
     item: &Field,
@@ -206,7 +165,7 @@ fn push_slot_items<'a>(
     let mut len = 0;
     let mut i = at;
     while i < to {
-        let end = run_end(mask, i, to);
+        let end = run_to(mask, i, to);
         let span = push_stretch(
             items,
             item,

@@ -7,7 +7,7 @@ use byteorder::{ByteOrder, LittleEndian};
 use columns::OffsetWidth;
 use dictionary_codes::put_number;
 
-/// Writes an offset over the one at an index.
+/// Overwrites the offset at an index.
 #[inline]
 pub(crate) fn put_offset(offsets: &mut [u8], width: OffsetWidth, place: usize, offset: u64)
     requires { width_of width * place + width_of width ≤ length offsets.old }

@@ -30,7 +30,7 @@ fn push_run(bits: &mut MaskBuilder, run: &SlotRun<'_>) -> Result<(), AllocError>
     }
 }
 
-// The same, as a `bool` for each slot.
+// Appends the values of a run of booleans, whatever is below nulls, as a `bool` for each slot.
 #[tactic(auto, using(crate::proofs::RunBits::no_values))]
 fn push_flags(flags: &mut Vec<bool>, run: &SlotRun<'_>) -> Result<(), AllocError>
     requires { is_run_sound (plain_column booleans None) run.now ≡ true }

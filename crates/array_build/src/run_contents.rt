@@ -1,14 +1,13 @@
 // The bytes and offsets of strings and binaries, for runs that are already as they are written.
-ghost use Rattle.std.specs.Prelude.{◌≡◌, ◌≤◌, ◌+◌, ◌++◌, false, true, OnOk, IfOk, Some, None, length, replicate};
+ghost use Rattle.std.specs.Prelude.{◌≡◌, ◌≤◌, ◌+◌, ◌++◌, false, true, OnOk, IfOk, Some, None};
 ghost use Rattle.std.specs.List.{flat_map};
 ghost use Rattle.batch_build.specs.Batch.{batch_in, buffer_bytes, plain_column};
 ghost use Rattle.array_build.specs.inner.MaskedContents.{with_contents};
-ghost use Rattle.array_build.specs.inner.Runs.{AreAsWritten, AreOffsetsAdded, cell_sizes, is_run_as_written, kind_cells, span_contents};
+ghost use Rattle.array_build.specs.inner.Runs.{AreAsWritten, cell_sizes, is_run_as_written, kind_cells, span_contents};
 ghost use Rattle.columns.specs.Runs.{is_run_sound, run_cells};
 ghost use Rattle.columns.specs.declared.slot_runs.SlotRun.TheVariants.{Slots};
 ghost use Rattle.arrow_schema.specs.View.{kind_of};
 ghost use Rattle.columns.specs.Array.{slots_in};
-ghost use Rattle.columns.specs.Buildable.{large_offset};
 ghost use Rattle.columns.specs.Built.{contents_of, offsets_of};
 ghost use Rattle.columns.specs.Offsets.{contents_width, width_of};
 ghost use Rattle.columns.specs.Tests.{are_few_offsets};
@@ -16,12 +15,11 @@ ghost use Rattle.columns.specs.View.{view_array};
 
 use crate::kept_buffers::{kept_buffer, own_offsets};
 use crate::number_bytes::last_offset;
+use crate::run_offsets::run_offsets;
 use crate::run_slots::only_run;
-use crate::slot_offsets::push_slot_offsets;
 use arrow_schema::DataType;
 use batch_build::{Buffer, BuiltBatch, offset_size, push_any_buffer};
-use columns::{ArrayView, OffsetWidth, SlotRun, bytes_at, push_offset};
-use dictionary_codes::count_slots;
+use columns::{ArrayView, OffsetWidth, SlotRun, bytes_at};
 use std::alloc::{AllocError, Global};
 
 /// Returns the bytes of the strings or binaries of some slots.
@@ -117,50 +115,8 @@ fn run_contents<'a>(
     Ok(Buffer::Made(copied_contents(alloc, data_type, width, runs, room)?))
 }
 
-/// Appends the same offset for each of `count` nulls.
-pub(crate) fn push_null_offsets(
-    offsets: &mut Vec<u8>,
-    width: OffsetWidth,
-    count: usize,
-    start: u64,
-) -> Result<(), AllocError>
-    ensures { OnOk result (AreOffsetsAdded (width_of width) offsets.old.items offsets.new.items start start (replicate count 0)) }
-{
-    for _ in 0..count {
-        push_offset(offsets, width, start)?;
-    }
-    Ok(())
-}
-
-// Appends the offsets at which the strings or binaries of a run begin; returns the end of the last.
-fn push_run_offsets(
-    offsets: &mut Vec<u8>,
-    data_type: &DataType,
-    width: OffsetWidth,
-    run: &SlotRun<'_>,
-    start: u64,
-) -> Result<u64, AllocError>
-    requires width { contents_width (kind_of data_type.now) ≡ Some (width_of width) }
-    requires sound { is_run_sound (plain_column (kind_of data_type.now) None) run.now ≡ true }
-    requires written { is_run_as_written (kind_of data_type.now) run.now ≡ true }
-    requires room { start + length (flat_map contents_of (run_cells (plain_column (kind_of data_type.now) None) run.now)) ≤ large_offset }
-    ensures offsets { IfOk result (λ next. AreOffsetsAdded (width_of width) offsets.old.items offsets.new.items start next
-        (cell_sizes (run_cells (plain_column (kind_of data_type.now) None) run.now))) }
-    ensures next { IfOk result (λ next. next ≡ start + length (flat_map contents_of (run_cells (plain_column (kind_of data_type.now) None) run.now))) }
-{
-    match run {
-        SlotRun::Slots { array, from, len } => {
-            push_slot_offsets(offsets, width, *array, *from, *len, start)
-        }
-        SlotRun::Nulls(count) => {
-            push_null_offsets(offsets, width, *count, start)?;
-            Ok(start)
-        }
-    }
-}
-
 // Makes the offsets of strings or binaries: 0, and then the end of each.
-fn run_offsets(
+fn content_offsets(
     alloc: Global,
     data_type: &DataType,
     width: OffsetWidth,
@@ -170,16 +126,7 @@ fn run_offsets(
     requires ready { AreAsWritten (kind_of data_type.now) runs.now }
     ensures { IfOk result (λ bytes. bytes.items ≡ offsets_of (width_of width) (cell_sizes (kind_cells (kind_of data_type.now) runs.now))) }
 {
-    let size = count_slots(runs)?
-        .saturating_add(1)
-        .saturating_mul(offset_size(width));
-    let mut offsets = Vec::with_capacity(alloc, size)?;
-    let mut next = 0;
-    for run in runs {
-        next = push_run_offsets(&mut offsets, data_type, width, run, next)?;
-    }
-    push_offset(&mut offsets, width, next)?;
-    Ok(offsets)
+    run_offsets(alloc, width, runs)
 }
 
 /// Adds the offsets and the bytes of strings or binaries.
@@ -195,7 +142,7 @@ pub(crate) fn push_written_contents<'a>(
     ensures { OnOk result (batch_in batch.new
         ≡ with_contents (width_of width) (batch_in batch.old) (kind_cells (kind_of data_type.now) runs.now)) }
 {
-    let offsets = run_offsets(alloc, data_type, width, runs)?;
+    let offsets = content_offsets(alloc, data_type, width, runs)?;
     let room = last_offset(&offsets, width);
     let own = own_offsets(runs, offset_size(width), offsets.len());
     push_any_buffer(batch, kept_buffer(own, offsets))?;

@@ -124,7 +124,7 @@ fn repeated_bits(
     Ok(bits.into_mask())
 }
 
-// The same, for a mask that may be empty.
+// Makes a mask with each of the bits of a mask repeated, or an empty one for an empty mask.
 fn repeated_mask(
     alloc: Global,
     mask: &[u8],

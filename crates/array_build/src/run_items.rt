@@ -1,50 +1,20 @@
 // The items and offsets of lists, for runs that are already as they are written.
-ghost use Rattle.std.specs.Prelude.{◌≡◌, ◌≤◌, ◌+◌, true, IfOk, length};
+ghost use Rattle.std.specs.Prelude.{◌≡◌, true, IfOk};
 ghost use Rattle.std.specs.List.{flat_map};
 ghost use Rattle.batch_build.specs.Nodes.{list_kind};
-ghost use Rattle.array_build.specs.inner.RunItems.{AreItems, list_column, list_sizes, run_lists};
-ghost use Rattle.array_build.specs.inner.Runs.{AreAsWritten, AreOffsetsAdded, is_run_as_written, kind_cells};
+ghost use Rattle.array_build.specs.inner.RunItems.{AreItems, list_column, run_lists};
+ghost use Rattle.array_build.specs.inner.Runs.{AreAsWritten, is_run_as_written, kind_cells};
 ghost use Rattle.columns.specs.Runs.{are_runs_sound, is_run_sound, runs_cells};
 ghost use Rattle.arrow_schema.specs.View.{column_of};
 ghost use Rattle.cells.specs.Dictionary.{item_list};
-ghost use Rattle.columns.specs.Buildable.{large_offset};
 ghost use Rattle.columns.specs.Built.{list_offsets};
 ghost use Rattle.columns.specs.Offsets.{width_of};
 
 use crate::item_slots::item_slots;
-use crate::run_contents::push_null_offsets;
-use crate::slot_offsets::push_slot_offsets;
+use crate::run_offsets::run_offsets;
 use arrow_schema::Field;
-use batch_build::offset_size;
-use columns::{OffsetWidth, SlotRun, push_offset};
-use dictionary_codes::count_slots;
+use columns::{OffsetWidth, SlotRun};
 use std::alloc::{AllocError, Global};
-
-// Appends the offsets at which the items of a run's lists begin, the first at `start`; returns the end of the last.
-fn push_list_offsets(
-    offsets: &mut Vec<u8>,
-    item: &Field,
-    width: OffsetWidth,
-    run: &SlotRun<'_>,
-    start: u64,
-) -> Result<u64, AllocError>
-    requires sound { is_run_sound (list_column width (column_of item.now)) run.now ≡ true }
-    requires written { is_run_as_written (list_kind width (column_of item.now)) run.now ≡ true }
-    requires room { start + length (flat_map item_list (run_lists width (column_of item.now) run.now)) ≤ large_offset }
-    ensures offsets { IfOk result (λ next. AreOffsetsAdded (width_of width) offsets.old.items offsets.new.items start next
-        (list_sizes (run_lists width (column_of item.now) run.now))) }
-    ensures next { IfOk result (λ next. next ≡ start + length (flat_map item_list (run_lists width (column_of item.now) run.now))) }
-{
-    match run {
-        SlotRun::Slots { array, from, len } => {
-            push_slot_offsets(offsets, width, *array, *from, *len, start)
-        }
-        SlotRun::Nulls(count) => {
-            push_null_offsets(offsets, width, *count, start)?;
-            Ok(start)
-        }
-    }
-}
 
 /// Makes the offsets of lists: 0, and then the end of the items of each.
 pub(crate) fn run_list_offsets(
@@ -56,16 +26,7 @@ pub(crate) fn run_list_offsets(
     requires { AreAsWritten (list_kind width (column_of item.now)) runs.now }
     ensures { IfOk result (λ bytes. bytes.items ≡ list_offsets (width_of width) (kind_cells (list_kind width (column_of item.now)) runs.now)) }
 {
-    let size = count_slots(runs)?
-        .saturating_add(1)
-        .saturating_mul(offset_size(width));
-    let mut offsets = Vec::with_capacity(alloc, size)?;
-    let mut next = 0;
-    for run in runs {
-        next = push_list_offsets(&mut offsets, item, width, run, next)?;
-    }
-    push_offset(&mut offsets, width, next)?;
-    Ok(offsets)
+    run_offsets(alloc, width, runs)
 }
 
 // Returns the items of a run, which are consecutive: a null has none.

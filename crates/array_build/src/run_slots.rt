@@ -162,7 +162,7 @@ fn bits_validity(alloc: Global, bits: &[bool]) -> Result<Vec<u8>, AllocError>
     pack(alloc, bits)
 }
 
-/// The same, for slots that are valid if their bit is set.
+/// Adds the node and the validity bitmap of slots that are valid if their bit is set.
 pub(crate) fn push_bit_slots(
     alloc: Global,
     batch: &mut BuiltBatch<'_>,

@@ -33,7 +33,8 @@ pub(crate) fn next_unset(bits: &[u8], from: usize, to: usize) -> usize
     alike_end(bits, true, from, to)
 }
 
-/// Returns the end of the run of equal bits that begins at bit `from`, or `to` if the run is longer.
+/// Returns what `bitmap::run_end` returns, but reads set bits 57 at a time: the end of the run of equal bits that begins at bit `from`, or `to` if the run is
+/// longer.
 #[inline]
 pub(crate) fn run_to(bits: &[u8], from: usize, to: usize) -> usize
     requires within { to ≤ 8 * length bits.now }

@@ -8,6 +8,7 @@ ghost use Rattle.arrow_schema.specs.Limits.{IsWithinLimits, first_exceeded, numb
 ghost use Rattle.arrow_schema.specs.inner.SchemaTotals.{saturated, tallied, tallied_one};
 
 use crate::types::{DataType, Field, Schema};
+use thiserror::Error;
 
 /// The maximum number of fields in a schema, including all children.
 pub const MAX_FIELDS: u64 = 2048;
@@ -21,19 +22,25 @@ pub const MAX_TEXT_BYTES: u64 = 4_194_304;
 pub const NUMBER_END: u32 = 1 << 31;
 
 /// The first limit that a schema exceeds, in the order of the variants.
-#[derive(Clone, Copy, Debug, PartialEq, Eq)]
+#[derive(Clone, Copy, Debug, PartialEq, Eq, Error)]
 pub enum SchemaError {
     /// A field is deeper than `MAX_DEPTH`.
+    #[error("a field nested more than {most} deep", most = MAX_DEPTH)]
     Depth,
     /// There are more than `MAX_FIELDS` fields.
+    #[error("more than {most} fields", most = MAX_FIELDS)]
     Fields,
     /// There are more than `MAX_PAIRS` pairs.
+    #[error("more than {most} pairs of metadata", most = MAX_PAIRS)]
     Pairs,
     /// There are more than `MAX_TEXT_BYTES` bytes of text.
+    #[error("more than {most} bytes of names, timezones, keys and values", most = MAX_TEXT_BYTES)]
     Bytes,
     /// A width or a size is `NUMBER_END` or more.
+    #[error("a width or a size of {end} or more", end = NUMBER_END)]
     Number,
     /// A dictionary has lists or structs as its values.
+    #[error("a dictionary of lists or structs")]
     Dictionary,
 }
 

@@ -2,20 +2,19 @@
 // of the input finds.
 use crate::Failures;
 use crate::copying_files::open_to_read;
-use crate::failed_file::KeptFile;
 use crate::failing::{is_of_failure, report_of_failure};
 use crate::in_place_of_store::{file_in_place_of_store, file_of_bad_size, refused_sectors};
 use crate::input_again::{FoundField, field_of_no_table};
 use crate::script_again::line_of_script;
 use crate::streams_again::{FoundOfStreams, found_in_stream};
 use crate::unread_tables::unread_table;
-use cli_refusals::Refusal;
+use cli_refusals::{FailedFile, Refusal};
 use cli_requests::{StoreCommand, StoreRequest};
 use cli_texts::Audience;
 use commit::{Cause, OpeningRefusal};
 use sector_dev::LockFile;
 use std::fs::OpenFile;
-use std::io::{Read, Seek, Write};
+use std::io::{self, Read, Seek, Write};
 use std::rt::Files;
 use values::Table;
 
@@ -26,7 +25,7 @@ pub(crate) enum AskedAgain {
     /// A number of sectors that no store has.
     Sectors(u64),
     /// The file on which a call failed, and why.
-    File(KeptFile),
+    File(FailedFile),
     /// What is wrong with the input or the output.
     Streams(FoundOfStreams),
     /// An empty table with the schema of the table that the refused query was for.
@@ -46,7 +45,11 @@ pub(crate) struct Served<'a> {
     pub(crate) start: &'a [u8],
     /// Whether no byte of the input was read.
     pub(crate) is_input_empty: bool,
-    /// How the last system call failed, if it did.
+    /// How the last read of the input failed, if it did.
+    pub(crate) input_failure: Option<io::Error>,
+    /// How the last write of the output failed, if it did.
+    pub(crate) output_failure: Option<io::Error>,
+    /// How the last system call on a file failed, if it did.
     pub(crate) failures: &'a Failures,
 }
 
@@ -75,7 +78,10 @@ fn queried_table<
 }
 
 // The file that is opened comes before the one that is made with a number of sectors.
-fn found_of_size<H: Files + AllocGlobal>(rt: &H, request: &StoreRequest<'_>) -> Option<AskedAgain> {
+fn found_of_size<F: Read + Seek + OpenFile + Drop, H: Files<File = F> + AllocGlobal>(
+    rt: &H,
+    request: &StoreRequest<'_>,
+) -> Option<AskedAgain> {
     match file_of_bad_size(rt, request) {
         Some(file) => Some(AskedAgain::File(file)),
         None => Some(AskedAgain::Sectors(refused_sectors(request)?)),
@@ -89,8 +95,8 @@ fn found_of<F: Read + Write + Seek + OpenFile + LockFile + Drop, H: Files<File =
     refusal: &Refusal,
 ) -> Option<AskedAgain> {
     if is_of_failure(refusal) {
-        if let Some(failure) = served.failures.take() {
-            return report_of_failure(rt, request, &failure);
+        if let Some(found) = report_of_failure(rt, request, served) {
+            return Some(found);
         }
     }
     match refusal {
@@ -98,9 +104,8 @@ fn found_of<F: Read + Write + Seek + OpenFile + LockFile + Drop, H: Files<File =
             let file = file_in_place_of_store(rt, request)?;
             Some(AskedAgain::File(file))
         }
-        Refusal::BadSize => found_of_size(rt, request),
-        Refusal::Opening(OpeningRefusal::Damaged(Cause::DeviceSize)) => {
-            Some(AskedAgain::Sectors(refused_sectors(request)?))
+        Refusal::BadSize | Refusal::Opening(OpeningRefusal::Damaged(Cause::DeviceSize)) => {
+            found_of_size(rt, request)
         }
         Refusal::BadScript(number) => {
             let line = line_of_script(rt, request, *number)?;

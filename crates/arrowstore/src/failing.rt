@@ -1,10 +1,9 @@
 // Explains the system call that failed while a request was served.
-use crate::asking_again::AskedAgain;
-use crate::failed_file::{KeptFile, Reason};
+use crate::asking_again::{AskedAgain, Served};
 use crate::in_place_of_store::reason_in_place_of_store;
+use crate::noted::{Failure, FileCall};
 use crate::streams_again::FoundOfStreams;
-use crate::{Failure, FileCall};
-use cli_refusals::{MOST_SHOWN, Refusal};
+use cli_refusals::{FailedFile, FileReason, MOST_SHOWN, Refusal};
 use cli_requests::StoreRequest;
 use cli_texts::system_text;
 use commit::OpeningRefusal;
@@ -33,8 +32,8 @@ fn may_be_shown(request: &StoreRequest<'_>, path: &str) -> bool {
     }
 }
 
-fn unopened(alloc: Global, error: &io::Error) -> Option<Reason> {
-    Some(Reason::Unopened(system_text(alloc, error)?))
+fn unopened(alloc: Global, error: &io::Error) -> Option<FileReason> {
+    Some(FileReason::Unopened(system_text(alloc, error)?))
 }
 
 fn reason_of_opening<H: Files + AllocGlobal>(
@@ -42,9 +41,9 @@ fn reason_of_opening<H: Files + AllocGlobal>(
     request: &StoreRequest<'_>,
     path: &str,
     error: &io::Error,
-) -> Option<Reason> {
+) -> Option<FileReason> {
     if error.kind() == ErrorKind::AlreadyExists {
-        return Some(Reason::Exists);
+        return Some(FileReason::Exists);
     }
     match reason_in_place_of_store(rt, request, path) {
         Some(reason) => Some(reason),
@@ -52,9 +51,9 @@ fn reason_of_opening<H: Files + AllocGlobal>(
     }
 }
 
-fn reason_of_lock(alloc: Global, error: &io::Error) -> Option<Reason> {
+fn reason_of_lock(alloc: Global, error: &io::Error) -> Option<FileReason> {
     if error.kind() == ErrorKind::WouldBlock {
-        Some(Reason::Locked)
+        Some(FileReason::Locked)
     } else {
         unopened(alloc, error)
     }
@@ -66,13 +65,13 @@ fn reason_of<H: Files + AllocGlobal>(
     path: &str,
     call: FileCall,
     error: &io::Error,
-) -> Option<Reason> {
+) -> Option<FileReason> {
     match call {
         FileCall::Open => reason_of_opening(rt, request, path, error),
         FileCall::Lock => reason_of_lock(rt.alloc(), error),
-        FileCall::Read => Some(Reason::Unread(system_text(rt.alloc(), error)?)),
-        FileCall::Write => Some(Reason::Unwritten(system_text(rt.alloc(), error)?)),
-        FileCall::Sync => Some(Reason::Unsynced(system_text(rt.alloc(), error)?)),
+        FileCall::Read => Some(FileReason::Unread(system_text(rt.alloc(), error)?)),
+        FileCall::Write => Some(FileReason::Unwritten(system_text(rt.alloc(), error)?)),
+        FileCall::Sync => Some(FileReason::Unsynced(system_text(rt.alloc(), error)?)),
     }
 }
 
@@ -90,27 +89,38 @@ fn reason_of_input<H: Files + AllocGlobal>(rt: &H, error: &io::Error) -> Option<
     }
 }
 
-/// Returns what to report of a failed call, or `None` if its path can't be shown or memory is refused.
-pub(crate) fn report_of_failure<H: Files + AllocGlobal>(
+// Returns why a read of the input or a write of the output failed. Nothing is written after a failed read.
+fn failed_stream<H: Files + AllocGlobal>(rt: &H, served: Served<'_>) -> Option<FoundOfStreams> {
+    if let Some(error) = served.input_failure {
+        return Some(FoundOfStreams::Unread(reason_of_input(rt, &error)?));
+    }
+    let error = served.output_failure?;
+    Some(FoundOfStreams::Unwritten(system_text(rt.alloc(), &error)?))
+}
+
+fn failed_file<H: Files + AllocGlobal>(
     rt: &H,
     request: &StoreRequest<'_>,
     failure: &Failure,
-) -> Option<AskedAgain> {
-    match failure {
-        Failure::Input(error) => {
-            let reason = reason_of_input(rt, error)?;
-            Some(AskedAgain::Streams(FoundOfStreams::Unread(reason)))
-        }
-        Failure::Output(error) => {
-            let reason = system_text(rt.alloc(), error)?;
-            Some(AskedAgain::Streams(FoundOfStreams::Unwritten(reason)))
-        }
-        Failure::File { path, call, error } => {
-            if !may_be_shown(request, path) {
-                return None;
-            }
-            let reason = reason_of(rt, request, path, *call, error)?;
-            Some(AskedAgain::File(KeptFile::new(rt.alloc(), path, reason)?))
-        }
+) -> Option<FailedFile> {
+    let path = failure.path.as_str();
+    if !may_be_shown(request, path) {
+        return None;
     }
+    let reason = reason_of(rt, request, path, failure.call, &failure.error)?;
+    FailedFile::new(rt.alloc(), path, reason)
+}
+
+/// Returns what to report of a failed call, or `None` if none is known, its path can't be shown, or memory is refused. No file is used after a failed
+/// read or write of a stream.
+pub(crate) fn report_of_failure<H: Files + AllocGlobal>(
+    rt: &H,
+    request: &StoreRequest<'_>,
+    served: Served<'_>,
+) -> Option<AskedAgain> {
+    if let Some(found) = failed_stream(rt, served) {
+        return Some(AskedAgain::Streams(found));
+    }
+    let failure = served.failures.take()?;
+    Some(AskedAgain::File(failed_file(rt, request, &failure)?))
 }

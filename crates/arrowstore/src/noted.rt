@@ -1,4 +1,4 @@
-// Wrappers of the input, the output and files that note how the last system call failed.
+// A wrapper of files that notes how the last system call on one failed.
 ghost use Rattle.std.specs.Prelude.{◌≡◌};
 
 use sector_dev::LockFile;
@@ -7,24 +7,17 @@ use std::cell::Cell;
 use std::fs::{Metadata, OpenFile};
 use std::io::{self, Read, Seek, SeekFrom, Write};
 
-/// A failed system call, with the system's error.
+/// A failed system call on the file at this path, with the system's error.
 #[derive(Drop)]
-pub enum Failure {
-    /// A read of the input.
-    Input(io::Error),
-    /// A write of the output.
-    Output(io::Error),
-    /// A call on the file at this path.
-    File {
-        path: String,
-        call: FileCall,
-        error: io::Error,
-    },
+pub(crate) struct Failure {
+    pub(crate) path: String,
+    pub(crate) call: FileCall,
+    pub(crate) error: io::Error,
 }
 
 /// A kind of call on a file.
 #[derive(Clone, Copy)]
-pub enum FileCall {
+pub(crate) enum FileCall {
     /// Opening or creating it.
     Open,
     /// Locking it.
@@ -37,7 +30,7 @@ pub enum FileCall {
     Sync,
 }
 
-/// How the last noted system call failed, if it did.
+/// How the last noted system call on a file failed, if it did.
 #[derive(Drop)]
 pub struct Failures {
     last: Cell<Option<Failure>>,
@@ -52,7 +45,7 @@ impl Failures {
     }
 
     /// Takes the failure of the last noted call, or `None` if that call succeeded.
-    pub fn take(&self) -> Option<Failure> {
+    pub(crate) fn take(&self) -> Option<Failure> {
         self.last.take()
     }
 
@@ -70,75 +63,11 @@ impl Failures {
 }
 
 fn failed_opening(alloc: Global, path: &str, error: io::Error) -> Option<Failure> {
-    Some(Failure::File {
+    Some(Failure {
         path: String::from_str(alloc, path).ok()?,
         call: FileCall::Open,
         error,
     })
-}
-
-/// An input that notes how its last read ended.
-#[derive(Drop)]
-pub struct NotedInput<'a, R: Read> {
-    input: R,
-    failures: &'a Failures,
-}
-
-impl<'a, R: Read> NotedInput<'a, R> {
-    pub fn new(input: R, failures: &'a Failures) -> NotedInput<'a, R>
-        ensures { result.input ≡ input }
-    {
-        NotedInput { input, failures }
-    }
-}
-
-impl<R: Read> Read for NotedInput<'_, R> {
-    ghost remaining = { λ noted. R.remaining noted.input };
-
-    fn read(&mut self, buf: &mut [u8]) -> io::Result<usize> {
-        let read = self.input.read(buf);
-        self.failures.note(match &read {
-            Ok(_) => None,
-            Err(error) => Some(Failure::Input(*error)),
-        });
-        read
-    }
-}
-
-/// An output that notes how its last write ended, and a failed flush.
-#[derive(Drop)]
-pub struct NotedOutput<'a, W: Write> {
-    output: W,
-    failures: &'a Failures,
-}
-
-impl<'a, W: Write> NotedOutput<'a, W> {
-    pub fn new(output: W, failures: &'a Failures) -> NotedOutput<'a, W>
-        ensures { result.output ≡ output }
-    {
-        NotedOutput { output, failures }
-    }
-}
-
-impl<W: Write> Write for NotedOutput<'_, W> {
-    ghost contents = { λ noted. W.contents noted.output };
-
-    fn write(&mut self, buf: &[u8]) -> io::Result<usize> {
-        let written = self.output.write(buf);
-        self.failures.note(match &written {
-            Ok(_) => None,
-            Err(error) => Some(Failure::Output(*error)),
-        });
-        written
-    }
-
-    fn flush(&mut self) -> io::Result<()> {
-        let flushed = self.output.flush();
-        if let Err(error) = &flushed {
-            self.failures.note(Some(Failure::Output(*error)));
-        }
-        flushed
-    }
 }
 
 // Where the failures of a file are noted, and the path at which it was opened, unless memory for it was refused.
@@ -151,7 +80,7 @@ struct FileNote<'a> {
 impl FileNote<'_> {
     // Returns `None` if memory for the path is refused.
     fn failure(&self, call: FileCall, error: io::Error) -> Option<Failure> {
-        Some(Failure::File {
+        Some(Failure {
             path: self.path.as_ref()?.clone().ok()?,
             call,
             error,

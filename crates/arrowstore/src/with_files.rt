@@ -76,7 +76,7 @@ fn found_hint<'a>(
 {
     match asked {
         AskedAgain::Sectors(number) => Some(Hint::Sectors(*number)),
-        AskedAgain::File(file) => Some(file.hint()),
+        AskedAgain::File(file) => Some(Hint::File(file)),
         AskedAgain::Streams(found) => Some(found.hint()),
         AskedAgain::Unread(name) => Some(Hint::UnreadTable(name.as_str())),
         AskedAgain::Line(text) => Some(Hint::ScriptLine(text.as_slice())),
@@ -140,6 +140,8 @@ fn serve_and_report<
             let served = Served {
                 start: input.start(),
                 is_input_empty: input.is_empty(),
+                input_failure: input.failure(),
+                output_failure: output.failure(),
                 failures,
             };
             let asked = ask_again(rt, request, served, &done, audience);

@@ -16,6 +16,7 @@ pub enum Buffer<'a> {
 }
 
 impl Buffer<'_> {
+    /// Returns the bytes.
     pub fn bytes(&self) -> &[u8]
         ensures { result.now ≡ buffer_bytes self.now }
     {

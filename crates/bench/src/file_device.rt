@@ -98,19 +98,15 @@ fn measure_on(
     start: Instant,
 ) -> Result<()> {
     let mut device = device;
-    match is_done(&mut device, step) {
-        Ok(true) => report(rt, step, start),
-        Ok(false) => bail!("other bytes were read"),
-        Err(error) => bail!("{error:?}"),
+    if !is_done(&mut device, step)? {
+        bail!("other bytes were read");
     }
+    report(rt, step, start)
 }
 
 fn measure_step(rt: &HostRuntime, path: &str, sectors: u64, step: Step) -> Result<()> {
     let start = Instant::now(rt)?;
-    match device_of(rt, path, sectors, step) {
-        Ok(device) => measure_on(rt, device, step, start),
-        Err(error) => bail!("{error:?}"),
-    }
+    measure_on(rt, device_of(rt, path, sectors, step)?, step, start)
 }
 
 fn measure_sectors(rt: &HostRuntime, path: &str, sectors: u64) -> Result<()> {

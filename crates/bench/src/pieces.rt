@@ -1,5 +1,5 @@
 // Exports a table piece by piece: one segment is in memory at a time.
-use anyhow::{Error, Result, bail};
+use anyhow::{Result, bail};
 use sector_dev::{FileDevice, SectorDevice};
 use std::alloc::Global;
 use std::fs::File;
@@ -16,7 +16,7 @@ fn write_pieces<D: SectorDevice, W: Write>(
     output: &mut W,
 ) -> Result<()> {
     for _ in 0..MOST_PIECES {
-        match store.export_next(alloc, export).map_err(Error::msg)? {
+        match store.export_next(alloc, export)? {
             Some(piece) => output.write_all(&piece)?,
             None => return Ok(()),
         }
@@ -26,21 +26,15 @@ fn write_pieces<D: SectorDevice, W: Write>(
 
 fn write_table<D: SectorDevice + Drop>(rt: &HostRuntime, device: D, table: &str) -> Result<()> {
     let alloc = rt.alloc();
-    let mut store = match Store::open(alloc, device) {
-        Ok(store) => store,
-        Err((refusal, _device)) => bail!("{refusal}"),
-    };
-    let export = store.open_export(alloc, table).map_err(Error::msg)?;
+    let mut store = Store::open(alloc, device).map_err(|(refusal, _device)| refusal)?;
+    let export = store.open_export(alloc, table)?;
     write_pieces(alloc, &mut store, export, &mut rt.stdout())?;
-    store.close_export(export).map_err(Error::msg)?;
+    store.close_export(export)?;
     let _device = store.close();
     Ok(())
 }
 
 /// Writes the stream of a table of the store in a file to standard output, piece by piece.
 pub fn write(rt: &HostRuntime, path: &str, table: &str) -> Result<()> {
-    match FileDevice::<File>::open_to_read(rt, path) {
-        Ok(device) => write_table(rt, device, table),
-        Err(error) => bail!("{error:?}"),
-    }
+    write_table(rt, FileDevice::<File>::open_to_read(rt, path)?, table)
 }

@@ -6,7 +6,7 @@ use Rattle.cells.specs.Cell.{PlainTable}
 use Rattle.catalogue.specs.Entries.{PlainEntry}
 use Rattle.query.specs.Bound as query
 use Rattle.query.specs.ConditionText.{condition_of}
-use Rattle.query.specs.Printed.{rows_text, printed_selection}
+use Rattle.query.specs.Printed.{printed_selection}
 use Rattle.query.specs.Query.{PlainCondition, PlainQuery}
 use Rattle.query.specs.Selection.{all_some}
 use Rattle.query.specs.declared.row_form.RowForm.{RowForm}
@@ -34,10 +34,6 @@ RefusesWords stated (Query BadCondition) = stated ≡ None
 RefusesWords stated OutOfMemory = Unit {0}
 RefusesWords stated _ = ⊥
 
--- these are the lines of what a query selects from a table
-abbrev pub AreLines : RowForm → PlainTable → PlainQuery → List ℕ → Type 0
-AreLines form table q text = (selected : PlainTable) × (printed_selection form table q ≡ Ok selected) × (text ≡ rows_text form selected)
-
 -- a query of the table that reads show has this answer
 pub record QueryAnswers (form : RowForm) (halted tells : Bool) (image : Image) (found : Option PlainEntry) (q : PlainQuery)
     (answer : Result PlainTable query.SelectionRefusal) : Type 0 where
@@ -49,12 +45,6 @@ abbrev pub plain_reason : QueryRefusal → query.SelectionRefusal
 plain_reason UnknownColumn = query.unknown_column
 plain_reason BadCondition = query.bad_condition
 plain_reason NotComparable = query.not_comparable
-
--- why no lines are made of what a query selects from a table: the query or memory is refused
-abbrev pub RefusesLines : RowForm → PlainTable → PlainQuery → Refusal → Type 0
-RefusesLines form table q (Query refusal) = printed_selection form table q ≡ Err (plain_reason refusal)
-RefusesLines form table q OutOfMemory = Unit {0}
-RefusesLines form table q _ = ⊥
 
 -- why a query prints nothing: the table is not read; or it is, and the query or memory is refused; or there is a selection, and the output failed
 abbrev pub RefusesQuery : RowForm → (halted tells : Bool) → Image → Option PlainEntry → PlainQuery → Refusal → Type 0

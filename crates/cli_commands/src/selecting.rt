@@ -5,22 +5,19 @@ ghost use Rattle.std.specs.Io.KnownBytes.{Appends};
 ghost use Rattle.sector_dev.specs.Disk.{now, shown_image};
 ghost use Rattle.catalogue.specs.Edits.{entry_of};
 ghost use Rattle.cells.specs.Cell.{PlainTable};
-ghost use Rattle.values.specs.TableView.{table_of};
 ghost use Rattle.query.specs.Printed.{rows_text};
 ghost use Rattle.query.specs.View.{query_in, condition_in};
 ghost use Rattle.store.specs.Fits.{device_of, is_halted, listed_in};
 ghost use Rattle.store.specs.Reading.{OnlyReadsStore};
 ghost use Rattle.cli_commands.specs.Reading.{store_ended};
-ghost use Rattle.cli_commands.specs.Selecting.{named_columns, conditions_of, stated_query, RefusesWords, AreLines, RefusesLines, QueryAnswers, RefusesQuery};
+ghost use Rattle.cli_commands.specs.Selecting.{named_columns, conditions_of, stated_query, RefusesWords, QueryAnswers, RefusesQuery};
 
 use cli_refusals::{Refusal, write_whole};
 use query::{Condition, Query, RowForm};
 use sector_dev::SectorDevice;
-use selection::push_selected_lines;
 use std::alloc::{AllocError, Global};
 use std::io::Write;
 use store::Store;
-use values::Table;
 
 fn words_between_commas(alloc: Global, word: &str) -> Result<Vec<&str>, AllocError>
     ensures { IfOk result (λ v. map (λ t. t.now) v.items ≡ named_columns (Some word.now)) }
@@ -81,22 +78,8 @@ pub fn query_of(
     })
 }
 
-fn lines_of_selection(
-    alloc: Global,
-    form: RowForm,
-    table: &Table,
-    query: &Query,
-) -> Result<Vec<u8>, Refusal>
-    ensures lines { IfOk result (λ v. AreLines form (table_of table.now) (query_in query.now) v.items) }
-    ensures refused { IfErr result (RefusesLines form (table_of table.now) (query_in query.now)) }
-{
-    let mut text = Vec::new(alloc);
-    push_selected_lines(alloc, &mut text, form, table, query)?;
-    Ok(text)
-}
-
-/// Prints each row that a query selects from a table as a line of JSON: an array, or an object with the names of the columns. All lines are made
-/// before the first is written.
+/// Prints each row that a query selects from a table as a line of JSON: an array, or an object with the names of the columns. The whole table is read
+/// first, and all lines are made before the first is written; in memory are these lines, and one segment of the table.
 ///
 /// # Errors
 /// Those of [`Store::read`]; `Query` if the query is refused, or with `UnknownColumn` if rows are objects and two of the chosen columns have the
@@ -120,7 +103,9 @@ pub fn print_selection<D: SectorDevice, W: Write>(
     // A refusal writes nothing, unless a write failed.
     ensures silent { IfErr result (λ refusal. refusal ≢ Refusal.Io → output.new ≡ output.old) }
 {
-    let table = store.read(alloc, name)?;
-    let text = lines_of_selection(alloc, form, &table, query)?;
-    write_whole(output, &text)
+    let answer = store.selected_lines(alloc, name, query, form)?;
+    match answer {
+        Ok(text) => write_whole(output, &text),
+        Err(error) => Err(Refusal::from(error)),
+    }
 }

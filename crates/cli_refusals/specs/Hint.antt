@@ -7,7 +7,7 @@ use Rattle.text_import.specs.declared.value_part.Reason.TheVariants.{Value, Miss
 use Rattle.cli_refusals.specs.declared.hint.Hint.{Hint}
 use Rattle.cli_refusals.specs.declared.hint.Hint.TheVariants.{Word, Sectors, File, Input, EmptyInput, Output, Part, Table, UnreadTable, ScriptLine, Field, OtherField, FieldCount}
 use Rattle.cli_refusals.specs.RefusedWord.{role_text}
-use Rattle.cli_refusals.specs.FailedFile.{reason_text}
+use Rattle.cli_refusals.specs.FailedFile.{path_of, reason_of, reason_text, reason_remedy}
 use Rattle.cli_refusals.specs.Shown.{shown}
 use Rattle.cli_refusals.specs.Form.{line_form, name_form, script_line_form}
 use Rattle.cli_refusals.specs.Remedies.{remedy}
@@ -98,7 +98,7 @@ part_text (line part text) = line_text (shown text) ++ line_form text ++ line_pa
 unfoldable pub hint_text : Hint → List ℕ
 hint_text (Word word) = codes "The " ++ role_text word.role ++ codes " `" ++ word.text.now ++ codes "` is refused. "
 hint_text (Sectors number) = codes "The number of sectors `" ++ decimal number ++ codes "` is refused. "
-hint_text (File file) = codes "The file `" ++ file.path.now ++ codes "` " ++ reason_text file.reason ++ codes ". "
+hint_text (File file) = codes "The file `" ++ path_of file.now ++ codes "` " ++ reason_text (reason_of file.now) ++ codes ". "
 hint_text (Input reason) = codes "The input cannot be read: " ++ reason.now ++ codes ". "
 hint_text EmptyInput = codes "The input is empty. "
 hint_text (Output reason) = codes "The output cannot be written: " ++ reason.now ++ codes ". "
@@ -110,7 +110,8 @@ hint_text (Field name) = field_text (shown name.now) None
 hint_text (OtherField name found wanted) = other_field_text (shown name.now) (shown found.now) (shown wanted.now)
 hint_text (FieldCount fields columns) = counts_text (codes "input") (codes "field") fields columns
 
--- what to do about a refusal of which this is known: a number of sectors has a sentence of its own
+-- what to do about a refusal of which this is known: a number of sectors has a sentence of its own, and so has a file of another length
 abbrev pub remedy_of : Hint → Refusal → List ℕ
 remedy_of (Sectors number) refusal = NUMBER_OF_SECTORS.now
+remedy_of (File file) refusal = reason_remedy (reason_of file.now) refusal
 remedy_of hint refusal = remedy refusal

@@ -1,8 +1,7 @@
 -- How the errors of the layers are reported, and the text of a refusal: its code, its name and what it carries, separated by spaces.
 use Rattle.std.specs.Prelude.{ℕ, List, ◌++◌, codes}
 use Rattle.std.specs.Fmt.{decimal}
-use Rattle.field_texts.specs.declared.parse.ParseError.{ParseError}
-use Rattle.field_texts.specs.declared.parse.ParseError.TheVariants as fields
+use Rattle.field_texts.specs.ErrorText.{error_text}
 use Rattle.sector_dev.specs.declared.file.FileError.{FileError}
 use Rattle.sector_dev.specs.declared.file.FileError.TheVariants as files
 use Rattle.ipc_message.specs.FaultText.{fault_text}
@@ -41,11 +40,6 @@ query_refusal queries.BadCondition = Query reasons.BadCondition
 query_refusal queries.NotComparable = Query reasons.NotComparable
 query_refusal queries.OutOfMemory = OutOfMemory
 
-abbrev pub fields_text : ParseError → List ℕ
-fields_text (fields.BadText number) = codes "P1 BadText " ++ decimal number
-fields_text fields.Limit = codes "P2 Limit"
-fields_text fields.OutOfMemory = codes "OutOfMemory"
-
 -- code, name and what it carries
 unfoldable pub refusal_text : Refusal → List ℕ
 refusal_text (Fault fault) = fault_text fault
@@ -53,7 +47,7 @@ refusal_text TooManyBytes = codes "S7 TooMany Bytes"
 refusal_text Io = codes "G1 Io"
 refusal_text BadSize = codes "G2 BadSize"
 refusal_text (BadScript line) = codes "G3 BadScript " ++ decimal line
-refusal_text (Fields error) = fields_text error
+refusal_text (Fields error) = error_text error
 refusal_text (Text refused) = refused_text refused
 refusal_text (Query refusal) = tables.query_text refusal
 refusal_text (Opening refusal) = opening_text refusal

@@ -1,9 +1,43 @@
 // A file that can't be used, and why.
+ghost use Rattle.std.specs.Prelude.{◌≡◌, false, IfSome};
+ghost use Rattle.std.specs.List.{list_any};
+ghost use Rattle.std.specs.Str.{chars};
+ghost use Rattle.cli_refusals.specs.FailedFile.{path_of, reason_of, reason_remedy};
+ghost use Rattle.cli_refusals.specs.Shown.{is_unshown};
+
+use crate::Refusal;
+use crate::remedies::WHOLE_FILE;
+use crate::shown::has_unshown;
+use std::alloc::Global;
 use std::fmt;
 
-/// Why a file can't be used.
+/// The length of a file, and the number of sectors of the store in it, which needs another length.
 #[derive(Clone, Copy)]
-pub enum FileReason<'a> {
+pub struct OtherLength {
+    pub bytes: u64,
+    pub sectors: u32,
+}
+
+impl fmt::Display for OtherLength {
+    ghost use Rattle.std.specs.Prelude.{Some};
+    ghost use Rattle.cli_refusals.specs.FailedFile.{other_length_text};
+
+    ghost output = { λ other. Some (other_length_text other) };
+
+    #[tactic(auto, unfolding(crate::specs::FailedFile::other_length_text))]
+    fn fmt<W: fmt::Write>(&self, f: &mut fmt::Formatter<W>) -> fmt::Result {
+        let whole = self.sectors as u64 * 512;
+        write!(
+            f,
+            "has {} bytes, but its store was made with {} sectors ({whole} bytes)",
+            self.bytes, self.sectors
+        )
+    }
+}
+
+/// Why a file can't be used.
+#[derive(Drop)]
+pub enum FileReason {
     /// Another program has locked it.
     Locked,
     /// It was to be made, but something is at its path.
@@ -14,17 +48,31 @@ pub enum FileReason<'a> {
     NotRegular,
     /// It has this number of bytes, which no store has.
     Length(u64),
+    /// It has another length than its store.
+    OtherLength(OtherLength),
     /// It could not be opened or made, with the system's reason.
-    Unopened(&'a str),
+    Unopened(String),
     /// It could not be read, with the system's reason.
-    Unread(&'a str),
+    Unread(String),
     /// It could not be written or given its length, with the system's reason.
-    Unwritten(&'a str),
+    Unwritten(String),
     /// It could not be synced to the disk, with the system's reason.
-    Unsynced(&'a str),
+    Unsynced(String),
 }
 
-impl fmt::Display for FileReason<'_> {
+impl FileReason {
+    // Returns what to do about a refusal for this reason, in a sentence.
+    pub(crate) fn remedy(&self, refusal: Refusal) -> &'static str
+        ensures { result.now ≡ reason_remedy self.now refusal }
+    {
+        match self {
+            FileReason::OtherLength(_) => WHOLE_FILE,
+            _ => refusal.remedy(),
+        }
+    }
+}
+
+impl fmt::Display for FileReason {
     ghost use Rattle.std.specs.Prelude.{Some};
     ghost use Rattle.cli_refusals.specs.FailedFile.{reason_text};
 
@@ -37,6 +85,7 @@ impl fmt::Display for FileReason<'_> {
             FileReason::Folder => f.write_str("is a folder"),
             FileReason::NotRegular => f.write_str("is not a regular file"),
             FileReason::Length(bytes) => write!(f, "has {bytes} bytes"),
+            FileReason::OtherLength(other) => write!(f, "{other}"),
             FileReason::Unopened(text) => write!(f, "cannot be opened: {text}"),
             FileReason::Unread(text) => write!(f, "cannot be read: {text}"),
             FileReason::Unwritten(text) => write!(f, "cannot be written: {text}"),
@@ -46,8 +95,25 @@ impl fmt::Display for FileReason<'_> {
 }
 
 /// A file that the command line or a script names and that can't be used, and why.
-#[derive(Clone, Copy)]
-pub struct FailedFile<'a> {
-    pub path: &'a str,
-    pub reason: FileReason<'a>,
+#[derive(Drop)]
+pub struct FailedFile {
+    pub(crate) path: String,
+    pub(crate) reason: FileReason,
+}
+
+impl FailedFile {
+    /// Returns `None` if the path can't be shown on a terminal, or if memory for it is refused.
+    pub fn new(alloc: Global, path: &str, reason: FileReason) -> Option<FailedFile>
+        ensures path { IfSome result (λ file. path_of file ≡ path.now) }
+        ensures reason { IfSome result (λ file. reason_of file ≡ reason) }
+        ensures shown { IfSome result (λ file. list_any is_unshown (chars (path_of file)) ≡ false) }
+    {
+        if has_unshown(path) {
+            return None;
+        }
+        Some(FailedFile {
+            path: String::from_str(alloc, path).ok()?,
+            reason,
+        })
+    }
 }

@@ -29,7 +29,7 @@ pub enum Hint<'a> {
     /// A number of sectors that no store has.
     Sectors(u64),
     /// A file that the command line or a script names and that can't be used, and why.
-    File(FailedFile<'a>),
+    File(&'a FailedFile),
     /// The system's reason for a failed read of the input.
     Input(&'a str),
     /// The input is empty.
@@ -111,6 +111,7 @@ impl Hint<'_> {
     {
         match self {
             Hint::Sectors(_) => NUMBER_OF_SECTORS,
+            Hint::File(file) => file.reason.remedy(refusal),
             _ => refusal.remedy(),
         }
     }
@@ -128,7 +129,7 @@ impl fmt::Display for Hint<'_> {
         match self {
             Hint::Word(Word { role, text }) => write!(f, "The {role} `{text}` is refused. "),
             Hint::Sectors(number) => write!(f, "The number of sectors `{number}` is refused. "),
-            Hint::File(FailedFile { path, reason }) => write!(f, "The file `{path}` {reason}. "),
+            Hint::File(file) => write!(f, "The file `{}` {}. ", file.path, file.reason),
             Hint::Input(reason) => write!(f, "The input cannot be read: {reason}. "),
             Hint::EmptyInput => f.write_str("The input is empty. "),
             Hint::Output(reason) => write!(f, "The output cannot be written: {reason}. "),

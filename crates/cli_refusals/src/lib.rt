@@ -20,7 +20,7 @@ mod refused_word;
 mod remedies;
 mod shown;
 
-pub use failed_file::{FailedFile, FileReason};
+pub use failed_file::{FailedFile, FileReason, OtherLength};
 pub use hint::{Hint, Hinted, report_table};
 pub use output::write_whole;
 pub use page::{REFUSALS, refusals_page};

@@ -15,7 +15,7 @@ use std::alloc::{AllocError, Global};
 
 /// What each refusal means and what to do about it: strings to be joined, among them the sentences of `remedies`. The file `docs/refusals.md` has
 /// the same bytes.
-pub const REFUSALS: [&str; 89] = [
+pub const REFUSALS: [&str; 91] = [
     "# What each refusal means
 
 A refusal is one line on standard error: `refused`, a code, a name, and for some of them a detail, as in
@@ -119,7 +119,8 @@ or appended. If no advice follows a fault, the cause is the program that wrote t
 - G2 BadSize: a store has 16 to 4,194,304 sectors, and its file has exactly 512 bytes for each of them.
   The given number of sectors, or the length of the file, is not possible. Such a file is not a store, or
   it was cut short or made longer, or a `copy` into it was interrupted. A folder, a named pipe, or a device
-  that is not a disk is refused in the same way, if it is to be read as a store.
+  that is not a disk is refused in the same way, if it is to be read as a store. A terminal shows the length
+  of the file, and the length that it should have, if it begins as a store does.
   For the number of sectors: ",
     NUMBER_OF_SECTORS,
     "
@@ -141,8 +142,8 @@ or appended. If no advice follows a fault, the cause is the program that wrote t
     "
 - C3 Damaged CAUSE: the file contains a store that cannot be used: the file was cut short or made longer,
   some of its bytes were changed, or it was copied while a command changed it. The causes are:
-  DeviceSize: the file is shorter or longer than its store says. `replay`, which makes a device of its own,
-  reports this if no store can have the number of sectors of `--sectors`.
+  DeviceSize: the file is shorter or longer than its store says. A terminal shows both lengths. `replay`,
+  which makes a device of its own, reports this if no store can have the number of sectors of `--sectors`.
   CatalogueRange: the place of the list of tables is past the end of the file or in its first two sectors,
   or its length is impossible.
   CatalogueUnreadable: a sector of the list of tables can't be read.
@@ -152,6 +153,10 @@ or appended. If no advice follows a fault, the cause is the program that wrote t
   If there is no earlier copy, see \"A store that does not open\" in docs/using.md.
   ",
     EARLIER_COPY,
+    "
+  For a file of another length:
+  ",
+    WHOLE_FILE,
     "
   For the number of sectors: ",
     NUMBER_OF_SECTORS,

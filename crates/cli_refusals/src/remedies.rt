@@ -43,7 +43,7 @@ pub const FEWER_ROWS: &str = "Give fewer rows.";
 // ---- G and C: files
 
 pub const CHECK_FILES: &str =
-    "Check the file, the input and the output. `tables` shows what a store contains.";
+    "Check the path, the input and the output. If the output failed, the command may be done already: look with `tables` before you try again.";
 
 pub const NUMBER_OF_SECTORS: &str = "Give 16 to 4194304 sectors.";
 

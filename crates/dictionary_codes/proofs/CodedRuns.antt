@@ -22,7 +22,7 @@ use Rattle.dictionary_codes.specs.laws.AllCells.{all_front}
 pub first_cell : (f : ℕ → Cell) (i to : ℕ) → i < to → cells_from f i (to - i) ≡ f i ∷ cells_from f (i + 1) (to - (i + 1))
 first_cell f i to lt = let size : to - i ≡ suc (to - (i + 1)) = omega (arith, lt) in ap (cells_from f i) size
 
--- the cell at a slot is coded where all that are left are, and so are those after it
+-- the cell at a slot is coded if all that are left are, and so are those after it
 pub coded_here : (f : ℕ → Cell) (i to : ℕ) → i < to → list_all is_coded (cells_from f i (to - i)) ≡ true
     → (is_coded (f i) ≡ true) × (list_all is_coded (cells_from f (i + 1) (to - (i + 1))) ≡ true)
 coded_here f i to lt h =

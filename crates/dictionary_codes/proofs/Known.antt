@@ -257,7 +257,7 @@ named_within places named q h lt = placed_within places named q (get_or named q 
     at (x ∷ xs) zero within = refl
     at (x ∷ xs) (suc i) within = at xs i (omega (arith, within))
 
--- the cells of what is named stay, where those of all numbers do
+-- the cells of what is named stay, if those of all numbers do
 pub cells_stay : (seen after : List Cell) (places : List (Option ℕ)) (named : List ℕ) → length places ≡ length seen → HavePlaces places named
     → ((n : ℕ) → n < length seen → get_or after n null ≡ get_or seen n null) → cells_numbered after named ≡ cells_numbered seen named
 cells_stay seen after places named count placed stay = each named (λ q n found. stay n (rw (← count) (placed_within places named q n placed found)))

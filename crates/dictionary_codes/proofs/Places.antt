@@ -1,4 +1,4 @@
--- Places that are written as what is added to a first one: one that is written, and those that are taken back.
+-- Places that are written as their sums with a first number: one that is written, and those that are taken back.
 use Rattle.std.specs.Prelude.{Some, None, get_or, nat_lt, replicate}
 use Rattle.std.proofs.Common.{◌≡◌, ◌<◌, ℕ, zero, suc, ◌+◌, ◌-◌, false, List, [], ◌∷◌, map, refl, ap, arith}
 use Rattle.std.proofs.lemmas.Bool.{le-ltb, lt-ltb}
@@ -19,7 +19,7 @@ place_written first place =
 no_place : (first written : ℕ) → written < first → place_from first written ≡ None
 no_place first written lt = rw (lt-ltb written first lt) refl
 
--- where all are below the first none has a place
+-- if all are below the first number, none has a place
 pub none_placed : (first : ℕ) (xs : List ℕ) (n : ℕ) → AreBelow first xs → get_or (map (place_from first) xs) n None ≡ None
 none_placed first [] zero h = refl
 none_placed first [] (suc n) h = refl

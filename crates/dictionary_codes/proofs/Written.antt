@@ -1,4 +1,4 @@
--- Indices of codes, and which slots have one, as they are written over what stands where there is room for them.
+-- Indices of codes, and which slots have one, as they are written over what is in the room for them.
 use Rattle.std.specs.Prelude.{Option, None, get_or, is_some, set}
 use Rattle.std.specs.List.{flat_map}
 use Rattle.std.proofs.Common.{◌≡◌, ◌≤◌, ◌<◌, ◌+◌, ◌*◌, ◌-◌, ◌++◌, ◌∙◌, ℕ, zero, suc, Bool, true, false, List, [], ◌∷◌, arith, ap, ap₂, drop, length, length-append, length-drop, refl, replicate, sym, take}

@@ -1,4 +1,4 @@
--- The slots of runs: which are valid, and the cells under a mask. Below a struct or a fixed list that is null each cell is null, whatever stands there.
+-- The slots of runs: which are valid, and the cells under a mask. Below a struct or a fixed list that is null each cell is null, whatever the slot holds.
 use Rattle.std.specs.Prelude.{◌≡◌, ℕ, Bool, true, false, ◌==◌, List, [], ◌∷◌, length, map, replicate, if◌then◌else◌}
 use Rattle.std.specs.List.{flat_map, range_with_len, list_all}
 use Rattle.arrow_schema.specs.Column.{Column}
@@ -36,11 +36,11 @@ masked bits cells = masked_by null bits cells
 abbrev pub joined : List Bool → List Bool → List Bool
 joined bits others = masked_by false bits others
 
--- n bits of a mask, from a place on
+-- `n` bits of a mask, from bit `at` on
 abbrev pub mask_bits : List ℕ → (at n : ℕ) → List Bool
 mask_bits mask at n = map (bit mask) (range_with_len at n)
 
--- ---- masks that are written as a validity bitmap: all bits are set where it has no byte
+-- ---- masks that are written as a validity bitmap: all bits are set if it has no byte
 
 unfoldable pub bitmap_bits : List ℕ → (n : ℕ) → List Bool
 bitmap_bits mask n = if length mask == 0 then replicate n true else mask_bits mask 0 n
@@ -49,7 +49,7 @@ bitmap_bits mask n = if length mask == 0 then replicate n true else mask_bits ma
 abbrev pub slots_mask : (mask : List ℕ) → List SlotRun → List Bool
 slots_mask mask runs = bitmap_bits mask (length (runs_bits runs))
 
--- it has a bit for each slot of runs, or no byte where all are set
+-- it has a bit for each slot of runs, or no byte if all are set
 abbrev pub IsMask : (mask : List ℕ) → List SlotRun → Type 0
 IsMask mask runs = mask ≡ bitmap_of (slots_mask mask runs)
 

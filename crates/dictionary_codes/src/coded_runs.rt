@@ -18,8 +18,8 @@ use cells::Entry;
 use columns::SlotRun;
 use std::alloc::{AllocError, Global};
 
-/// What slots have in a column with a dictionary: the bytes of their indices, 0 at nulls; whether each has one, and is no null; and the entries that the
-/// indices name (Arrow columnar format, "Dictionary-encoded Layout").
+/// The codes of slots of a column with a dictionary: the bytes of the indices, zeros for nulls; whether each slot has an index, that is, is not null; and the
+/// entries that the indices name (Arrow columnar format, "Dictionary-encoded Layout").
 #[derive(Drop)]
 pub struct RunCodes<'a> {
     pub indices: Vec<u8>,
@@ -27,7 +27,7 @@ pub struct RunCodes<'a> {
     pub entries: Vec<Entry<'a>>,
 }
 
-// Room for n indices. More bytes than a number holds have none in memory.
+// Returns zeros for the indices of `slots` slots. If their number of bytes exceeds a `usize`, memory has no room for them.
 fn room_for(alloc: Global, width: BitWidth, slots: usize) -> Result<Vec<u8>, AllocError>
     ensures { IfOk result (λ bytes. length bytes.items ≡ bits_of width / 8 * slots) }
 {
@@ -37,7 +37,7 @@ fn room_for(alloc: Global, width: BitWidth, slots: usize) -> Result<Vec<u8>, All
     }
 }
 
-// The codes of runs that have n slots, of which no entry is named before.
+// Returns the codes of runs that have `slots` slots, if no entry is named yet.
 fn new_codes<'a>(
     alloc: Global,
     entries: &mut KnownEntries<'a>,
@@ -79,11 +79,11 @@ fn new_codes<'a>(
     })
 }
 
-/// The indices of runs of slots, each the place of a value among the distinct ones, in the order in which they are first seen. Where a bit of the mask is not
-/// set there is a null, whatever is there. What was known of dictionaries is used, and what is seen is kept.
+/// Returns the codes of runs of slots: the index of a slot is the place of its value among the distinct ones, in the order in which they are first seen. A slot
+/// whose bit in the mask is not set is null, whatever it holds. What is known of dictionaries is used, and what is learned about them is kept.
 ///
 /// # Errors
-/// `AllocError` where memory was refused: what is known is still so.
+/// `AllocError` if memory was refused. What is known stays true.
 pub fn codes_of_runs<'a>(
     alloc: Global,
     entries: &mut KnownEntries<'a>,

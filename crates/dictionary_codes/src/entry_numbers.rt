@@ -12,7 +12,7 @@ use indexmap::IndexSet;
 use std::alloc::AllocError;
 use values::ValueRef;
 
-/// The number of a cell among the entries that were seen, of which it is one then: a null has none.
+/// Adds a value to the entries that were seen, and returns its number among them; `None` if it is not an entry, as a null.
 pub(crate) fn number_of<'a>(
     seen: &mut IndexSet<Entry<'a>>,
     cell: ValueRef<'a>,
@@ -30,7 +30,7 @@ pub(crate) fn number_of<'a>(
     }
 }
 
-// The place that a code is, or 0 where there is none.
+// Returns the place that a code is, or 0 if there is no code.
 #[inline]
 fn place_or_zero(code: Option<usize>) -> u64
     ensures { result ≡ place_or_zero code }
@@ -41,7 +41,7 @@ fn place_or_zero(code: Option<usize>) -> u64
     }
 }
 
-/// Writes the index of n bytes that a code is over the bytes from a place on: 0 where there is none.
+/// Overwrites `SIZE` bytes from `at` on with the index of a code, or with zeros if there is no code.
 #[inline]
 pub(crate) fn put_code<const SIZE: usize>(indices: &mut [u8], at: usize, code: Option<usize>)
     requires size { SIZE ≤ 8 }

@@ -8,10 +8,11 @@ use crate::stamped_numbers::StampedNumbers;
 use arrow_schema::{DataType, Field};
 use columns::{ArrayView, KnownArrays};
 
-// How many bytes an entry pays for, when the dictionary is compared again: else it is compared alone, at a place that is in no cache.
+// How many bytes of a buffer are compared for each entry that the last run of a dictionary was the first to name. Otherwise such an entry is compared by
+// itself, at a place that is in no cache.
 const BYTES_PER_NAMED: usize = 256;
 
-/// A dictionary of values of a type, and the number that each of its entries is known by.
+/// A dictionary of values of a type, and the numbers under which its entries are known.
 #[derive(Drop)]
 pub(crate) struct KnownDictionary<'a> {
     pub(crate) data_type: &'a DataType,
@@ -23,21 +24,22 @@ pub(crate) struct KnownDictionary<'a> {
 }
 
 impl<'a> KnownDictionary<'a> {
-    /// Whether it is known to be the dictionary of an array: no buffer is compared of more bytes than n and those that the entries pay for that were named.
+    /// Returns whether this is known to be the dictionary of an array. No buffer is compared that has more than `most` bytes and `BYTES_PER_NAMED` for each of
+    /// the `named` entries.
     pub(crate) fn is_of(&self, field: &Field, array: ArrayView<'_>, most: usize) -> bool
         ensures { result ≡ true → dictionary_entries self.now ≡ own_entries field.now array.entry }
     {
-        let paid = self.named.saturating_mul(BYTES_PER_NAMED);
+        let for_named = self.named.saturating_mul(BYTES_PER_NAMED);
         let compared = Compared {
             own: self.bytes,
             others: array.bytes,
-            most: most.saturating_add(paid),
+            most: most.saturating_add(for_named),
         };
         self.data_type.equals(&field.data_type)
             && is_same_dictionary(compared, self.arrays, array.dictionary())
     }
 
-    /// Whether it may be the dictionary of an array, by the places of its arrays: no byte is compared.
+    /// Returns whether this may be the dictionary of an array, by the places of its arrays. No byte is compared.
     pub(crate) fn may_be_of(&self, array: ArrayView<'_>) -> bool {
         are_alike(self.arrays, array.dictionary())
     }

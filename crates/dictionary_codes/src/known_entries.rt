@@ -21,34 +21,37 @@ use indexmap::IndexSet;
 use std::alloc::{AllocError, Global};
 use values::ValueRef;
 
-// How many entries of a dictionary a slot pays for: their places are made at once, which costs less than to look up again one that was named before.
+// For each slot so far, how many entries of new dictionaries get a place for their number. To make so many places at once costs less than to look up again one
+// entry that was named before.
 const ENTRIES_PER_SLOT: usize = 32;
 
-// How many bytes of a dictionary a slot pays for, when it is compared with those that are known.
+// For each slot of this run, how many bytes of a buffer of its dictionary are compared with those of a known one.
 const BYTES_PER_SLOT: usize = 256;
 
-// What is known of more dictionaries than these, or of dictionaries with more entries together, is forgotten.
+// If there are more dictionaries than this, or more than `MOST_NUMBERS` entries in all of them, what is known of them is forgotten.
 const MOST_DICTIONARIES: usize = 64;
 
 const MOST_NUMBERS: usize = 1_048_576;
 
-// More entries than these are forgotten, unless the dictionaries that are known have as many; and where dictionaries change, more than the fewer.
+// If more entries were seen than this, and than the known dictionaries have, all is forgotten.
 const MOST_SEEN: usize = 262_144;
 
-const MOST_SEEN_BEFORE: usize = 16_384;
+// The same limit if a dictionary was new: others will follow, and the known ones may not come again.
+const MOST_SEEN_IF_NEW: usize = 16_384;
 
-/// What is known of the entries of dictionaries, and kept for the next columns and the next rows. Each entry that was seen has a number, so that its bytes are
-/// looked up once for each dictionary; and those that the slots of a column name, each the first time, are its entries.
+/// What is known of the entries of dictionaries. It is kept for the next columns and the next rows. Each entry that was seen has a number, so that its bytes
+/// are looked up once for each dictionary. The entries that the slots of a column name also have places, in the order in which they are first named.
 #[derive(Drop)]
 pub struct KnownEntries<'a> {
     pub(crate) seen: IndexSet<Entry<'a>>,
     pub(crate) places: NumberPlaces,
     pub(crate) named: Vec<usize>,
     pub(crate) dictionaries: Vec<KnownDictionary<'a>>,
+    // Whether a dictionary was new since the last end.
     pub(crate) are_new: bool,
-    // For how many entries more the slots that were visited pay.
-    pub(crate) paid: usize,
-    // How many entries were named where the slots of a run are begun.
+    // How many more entries of new dictionaries can get places for their numbers: `ENTRIES_PER_SLOT` for each slot so far, without those that got them.
+    pub(crate) credit: usize,
+    // How many entries were named before the slots of this run.
     pub(crate) named_before: usize,
     pub ghost count: { length places.written.items ≡ length seen.keys },
     pub ghost distinct: { AreDistinct (map entry_cell seen.keys) },
@@ -57,14 +60,14 @@ pub struct KnownEntries<'a> {
     pub ghost known: { AreAllKnown (map entry_cell seen.keys) dictionaries.items } by { Prim.hlevel props },
 }
 
-// Places for n entries of which none is known.
+// Returns places for the numbers of `entries` entries. None of these is known.
 fn unknown(alloc: Global, entries: usize) -> Result<StampedNumbers, AllocError>
     ensures { IfOk result (λ known. (seen own : List Cell) → AreKnown seen own known) }
 {
     StampedNumbers::none(alloc, entries)
 }
 
-// The same places, where none is known any more.
+// Returns the same places, with no number known any more.
 fn doubted(numbers: StampedNumbers) -> StampedNumbers
     ensures { (seen own : List Cell) → AreKnown seen own result }
 {
@@ -73,7 +76,7 @@ fn doubted(numbers: StampedNumbers) -> StampedNumbers
     numbers
 }
 
-// Whether a cell is the entry that was seen under a number.
+// Returns whether a value is the entry that was seen under a number.
 fn is_seen_as(seen: &IndexSet<Entry<'_>>, cell: ValueRef<'_>, number: usize) -> bool
     ensures { result ≡ true → is_entry (borrowed_cell cell.entry) (get_or (map entry_cell seen.now.keys) number null) ≡ true }
 {
@@ -83,7 +86,7 @@ fn is_seen_as(seen: &IndexSet<Entry<'_>>, cell: ValueRef<'_>, number: usize) -> 
     }
 }
 
-// Names a number that has no place, and gives it the next one.
+// Names an entry that has no place: gives its number the next place, and returns that.
 #[inline]
 fn name(
     places: &mut NumberPlaces,
@@ -107,7 +110,7 @@ fn name(
     Ok(place)
 }
 
-// Takes all places back.
+// Takes back the places of all named entries.
 fn forget_places(places: &mut NumberPlaces, named: &mut Vec<usize>)
     ensures count { length places.new.written.items ≡ length places.old.written.items }
     ensures named { named.new.items ≡ [] }
@@ -118,7 +121,7 @@ fn forget_places(places: &mut NumberPlaces, named: &mut Vec<usize>)
     named.clear();
 }
 
-// Sees a cell, which has no place yet if it is a new entry.
+// Adds a value to the entries that were seen, and returns its number; `None` if it is not an entry. A new entry has no place.
 fn see<'a>(
     seen: &mut IndexSet<Entry<'a>>,
     places: &mut NumberPlaces,
@@ -141,7 +144,7 @@ fn see<'a>(
     Ok(number)
 }
 
-// How many entries dictionaries have together.
+// Returns how many places for numbers the dictionaries have together.
 fn count_numbers(dictionaries: &[KnownDictionary<'_>]) -> usize {
     let mut count: usize = 0;
     for dictionary in dictionaries {
@@ -150,7 +153,7 @@ fn count_numbers(dictionaries: &[KnownDictionary<'_>]) -> usize {
     count
 }
 
-// The entry that was seen under a number.
+// Returns the entry that was seen under a number.
 fn seen_entry<'a>(seen: &IndexSet<Entry<'a>>, number: usize) -> Entry<'a>
     requires { number < length seen.now.keys }
     ensures { entry_cell result ≡ get_or (map entry_cell seen.now.keys) number null }
@@ -162,7 +165,7 @@ impl<'a> KnownEntries<'a> {
     ghost use Rattle.dictionary_codes.specs.Named.{named_cells, seen_cells};
     ghost use Rattle.dictionary_codes.specs.declared.known_dictionary.KnownDictionary.{KnownDictionary};
 
-    /// Nothing.
+    /// Returns a state in which nothing is known.
     pub fn none(alloc: Global) -> KnownEntries<'a>
         ensures { named_cells result ≡ [] }
     {
@@ -172,12 +175,12 @@ impl<'a> KnownEntries<'a> {
             named: Vec::new(alloc),
             dictionaries: Vec::new(alloc),
             are_new: false,
-            paid: 0,
+            credit: 0,
             named_before: 0,
         }
     }
 
-    // The number of a cell that is an entry, which is seen.
+    // Adds a value to the entries that were seen, and returns its number; `None` if it is not an entry.
     fn look_up(&mut self, cell: ValueRef<'a>) -> Result<Option<usize>, AllocError>
         ensures number { IfOk result (λ number. IsNumber (seen_cells self.new) number (borrowed_cell cell.entry)) }
         ensures seen { OnOk result (seen_cells self.new ≡ with_entry (seen_cells self.old) (borrowed_cell cell.entry)) }
@@ -186,8 +189,9 @@ impl<'a> KnownEntries<'a> {
         see(&mut self.seen, &mut self.places, cell)
     }
 
-    /// The same. It is looked up only where there is no guess, or a wrong one, which tells that the dictionary is another.
-    pub(crate) fn number_of(
+    /// Returns the number of a value, and adds it to the entries that were seen. It is looked up only if there is no guess or if the guess is wrong. A wrong
+    /// one shows that the dictionary is new.
+    pub(crate) fn number_by_guess(
         &mut self,
         cell: ValueRef<'a>,
         guess: Option<usize>,
@@ -206,7 +210,7 @@ impl<'a> KnownEntries<'a> {
         }
     }
 
-    /// The place that an entry of this number has among those that are named, of which it is one now.
+    /// Returns the place of the entry with this number among the named ones. It is named if it was not.
     #[inline]
     pub(crate) fn place_of(&mut self, number: usize) -> Result<usize, AllocError>
         requires { number < length (seen_cells self.old) }
@@ -222,7 +226,7 @@ impl<'a> KnownEntries<'a> {
         }
     }
 
-    /// The place of an entry of this number, if it is named. The places are given, so that a loop that writes keeps them in registers.
+    /// Returns the place of the entry with this number; `None` if it is not named. The places are passed, so that a loop that writes keeps them in registers.
     #[inline]
     pub(crate) fn named_place(&self, places: WrittenPlaces<'_>, number: usize) -> Option<usize>
         requires places { places_in places ≡ places_of self.now.places }
@@ -235,14 +239,14 @@ impl<'a> KnownEntries<'a> {
         places.at(number)
     }
 
-    /// How many entries are named.
+    /// Returns how many entries are named.
     pub(crate) fn count(&self) -> usize
         ensures { result ≡ length (named_cells self.now) }
     {
         self.named.len()
     }
 
-    /// The entries that are named.
+    /// Returns the named entries, in the order of their places.
     pub(crate) fn entries(&self, alloc: Global) -> Result<Vec<Entry<'a>>, AllocError>
         ensures { IfOk result (λ entries. map entry_cell entries.items ≡ named_cells self.now) }
     {
@@ -253,14 +257,14 @@ impl<'a> KnownEntries<'a> {
         Ok(entries)
     }
 
-    // Names none.
+    // Forgets which entries are named.
     fn clear(&mut self)
         ensures { self.new.named.items ≡ [] }
     {
         forget_places(&mut self.places, &mut self.named);
     }
 
-    // Forgets all, but keeps the room for it.
+    // Forgets all, but keeps the memory for it.
     fn forget(&mut self)
         requires { self.old.named.items ≡ [] }
         ensures { self.new.named.items ≡ [] }
@@ -270,13 +274,13 @@ impl<'a> KnownEntries<'a> {
         self.seen.clear();
     }
 
-    /// Names none. What is known of many entries is forgotten, and of fewer where dictionaries change.
+    /// Ends a column: forgets which entries are named. If more entries were seen than the limit, all is forgotten; the limit is lower if a dictionary was new.
     pub(crate) fn end(&mut self)
         ensures { self.new.named.items ≡ [] }
     {
         self.clear();
         let most = if self.are_new {
-            MOST_SEEN_BEFORE
+            MOST_SEEN_IF_NEW
         } else {
             count_numbers(&self.dictionaries).max(MOST_SEEN)
         };
@@ -286,7 +290,7 @@ impl<'a> KnownEntries<'a> {
         self.are_new = false;
     }
 
-    // Which of the dictionaries is that of an array, of which n slots are visited.
+    // Returns the index of the known dictionary that is that of an array, of which `slots` slots are visited.
     fn find(&self, field: &Field, array: ArrayView<'_>, slots: usize) -> Option<usize>
         ensures within { IfSome result (λ i. i < length self.now.dictionaries.items) }
         ensures known { IfSome result (λ i. (d : KnownDictionary) → slice_get self.now.dictionaries.items i ≡ Some d
@@ -301,7 +305,7 @@ impl<'a> KnownEntries<'a> {
         None
     }
 
-    // Which of the dictionaries may be that of an array, by its place.
+    // Returns the index of the known dictionary that may be that of an array, by its places.
     fn find_place(&self, array: ArrayView<'_>) -> Option<usize>
         ensures { IfSome result (λ i. i < length self.now.dictionaries.items) }
     {
@@ -313,23 +317,23 @@ impl<'a> KnownEntries<'a> {
         None
     }
 
-    // Whether the slots that were visited, and n more, pay for places for n entries.
+    // Adds the credit of `slots` slots, and returns whether it covers `entries` entries; if so, it is spent.
     fn pay(&mut self, entries: u128, slots: usize) -> bool
         ensures most { result ≡ true → entries < 2 ^ 64 }
         ensures seen { seen_cells self.new ≡ seen_cells self.old }
         ensures named { named_cells self.new ≡ named_cells self.old }
     {
-        self.paid = self
-            .paid
+        self.credit = self
+            .credit
             .saturating_add(slots.saturating_mul(ENTRIES_PER_SLOT));
-        if entries > self.paid as u128 {
+        if entries > self.credit as u128 {
             return false;
         }
-        self.paid -= entries as usize;
+        self.credit -= entries as usize;
         true
     }
 
-    // Places for the entries of the dictionary of an array of which nothing is known, if the slots pay for them.
+    // Returns places for the numbers of the entries of a new dictionary, if the credit covers them; otherwise no places.
     fn begin_numbers(
         &mut self,
         alloc: Global,
@@ -349,8 +353,8 @@ impl<'a> KnownEntries<'a> {
         }
     }
 
-    /// What is known of the dictionary of an array, of which n slots are visited. Of a large one that is where an earlier one was, the numbers of
-    /// its entries are guesses.
+    /// Takes what is known of the dictionary of an array, of which `slots` slots are visited. If a large dictionary is at the places of an earlier one, the
+    /// numbers of that one's entries are guesses.
     pub(crate) fn take_numbers(
         &mut self,
         alloc: Global,
@@ -374,7 +378,7 @@ impl<'a> KnownEntries<'a> {
         self.begin_numbers(alloc, array, slots)
     }
 
-    // Makes room for one dictionary more, of n entries.
+    // Makes room for one more dictionary, of `entries` entries, by forgetting the others.
     fn make_room(&mut self, entries: usize)
         ensures seen { seen_cells self.new ≡ seen_cells self.old }
         ensures named { named_cells self.new ≡ named_cells self.old }

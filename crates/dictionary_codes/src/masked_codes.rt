@@ -1,4 +1,4 @@
-// The places of cells among the entries of a dictionary, of slots under a mask: there are nulls where a bit is not set, whatever is there.
+// The indices of slots of an array under a mask: a slot whose bit is not set is null, whatever it holds.
 ghost use Rattle.std.specs.Prelude.{◌≡◌, ◌≢◌, ◌≤◌, ◌<◌, ◌+◌, ◌-◌, ◌*◌, ◌/◌, ℕ, true, OnOk, Some, length, replicate};
 ghost use Rattle.std.specs.List.{list_all};
 ghost use Rattle.arrow_schema.specs.View.{bits_of, column_of};
@@ -20,7 +20,7 @@ use bitmap::{get, run_end};
 use columns::CodedSlots;
 use std::alloc::AllocError;
 
-// Writes the indices of slots whose bits are all set, or of as many nulls, and whether each slot has one, where there is room for just these.
+// Writes the indices of slots whose bits are all `set`, and whether each slot has one. The slices have room for exactly these slots.
 fn put_alike_codes<'a>(
     entries: &mut KnownEntries<'a>,
     known: &mut StampedNumbers,
@@ -49,7 +49,7 @@ fn put_alike_codes<'a>(
     }
 }
 
-// Where the bits of a mask from one on end that are alike, or `to`: all of them are set where the mask has no byte.
+// Returns the end of the run of equal bits that begins at bit `from`, or `to` if the run is longer. In a mask without bytes all bits are set.
 fn alike_to(mask: &[u8], from: usize, to: usize) -> usize
     requires some { from < to }
     requires long { length mask.now ≢ 0 → to ≤ 8 * length mask.now }
@@ -63,6 +63,7 @@ fn alike_to(mask: &[u8], from: usize, to: usize) -> usize
     run_end(mask, from, to)
 }
 
+// Returns whether a bit is set. In a mask without bytes all bits are set.
 fn is_set(mask: &[u8], i: usize) -> bool
     requires { length mask.now ≢ 0 → i < 8 * length mask.now }
     ensures { result ≡ part_bit mask.now i }
@@ -70,8 +71,7 @@ fn is_set(mask: &[u8], i: usize) -> bool
     mask.is_empty() || get(mask, i)
 }
 
-/// Writes the indices of slots of an array, and whether each slot has one, where there is room for just these. Their bits are in a mask from a place on,
-/// unless it has no byte.
+/// Writes the indices of `len` slots of an array, whose mask bits begin at `at`, and whether each slot has one. The slices have room for exactly these slots.
 pub(crate) fn put_part_codes<'a>(
     entries: &mut KnownEntries<'a>,
     known: &mut StampedNumbers,
@@ -97,14 +97,14 @@ pub(crate) fn put_part_codes<'a>(
         indices.new valid.new (masked (part_bits mask.now at len) (cells_from (coded_cell field.now slots.entry) from len))) }
     ensures known { OnOk result (AreKnown (seen_cells entries.new) (own_entries field.now slots.entry.view) known.new) }
 {
-    // a number of the code is below 2^64, so that all places are too
+    // For the proof: lengths are below 2^64, so that all places are too.
     let _room = indices.len();
     let _slots = slots.view.slots();
     let width = slots.spec.index.width.bytes();
     let mut done = 0;
     while done < len {
         let stop = alike_to(mask, at + done, at + len) - at;
-        // called at this place alone, so that it is compiled into the loop, and what is known of the slots stays in registers
+        // This is the only call, so that it is compiled into the loop, and what is known of the slots stays in registers.
         put_alike_codes(
             entries,
             known,

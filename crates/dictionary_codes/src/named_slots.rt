@@ -90,7 +90,7 @@ fn name_array_slots<'a>(
 {
     let mut known = entries.take_numbers(alloc, field, array, len)?;
     let slots = CodedSlots::new(spec, array);
-    // the array has these slots, so that their number is below 2^64
+    // For the proof: the array has these slots, so that their number is below 2^64.
     let _slots = slots.view.slots();
     let count = name_coded_slots(entries, &mut known, field, slots, from, from + len, most)?;
     entries.keep_numbers(field, array, known)?;

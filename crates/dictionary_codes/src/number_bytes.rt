@@ -2,7 +2,7 @@
 ghost use Rattle.std.specs.Prelude.{◌≡◌, ◌≤◌, ◌+◌, ◌++◌, drop, length, take};
 ghost use Rattle.byteorder.specs.Endian.{little_bytes};
 
-/// Writes the low bytes of a number, `SIZE` of them, over the bytes from a place on, the lowest first.
+/// Overwrites `SIZE` bytes from `at` on with the low bytes of a number, the lowest first.
 #[inline]
 pub fn put_number<const SIZE: usize>(bytes: &mut [u8], at: usize, number: u64)
     requires size { SIZE ≤ 8 }

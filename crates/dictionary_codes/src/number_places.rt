@@ -1,34 +1,34 @@
-// The places that numbers have in a list, which are taken back at once, however many they are.
+// The places of numbers in a list. All are taken back at once, however many they are.
 ghost use Rattle.std.proofs.Props.{props};
 ghost use Rattle.std.specs.Prelude.{◌≡◌, ◌≤◌, ◌<◌, ◌+◌, ◌^◌, IfOk};
 ghost use Rattle.dictionary_codes.specs.inner.PlaceFrom.{AreBelow, place_from};
 
 use std::alloc::{AllocError, Global};
 
-// All are written anew when a number of 32 bits has room for fewer places than these: no table has as many entries, by what it may weigh.
+// All are written anew if a number of 32 bits has room for fewer places than this. No table has as many entries, because of its weight.
 const LEAST_ROOM: u32 = 1 << 31;
 
-/// For each number the place that it has, if any. A place is written in 4 bytes, as what is added to the first one. What is below that is no place: so all are
-/// taken back when the first one is advanced past the last.
+/// For each number its place, if it has one. A place is written in 4 bytes, as its sum with `first`. Less than `first` is no place: so all are taken back if
+/// `first` is advanced past the last one.
 #[derive(Drop)]
 pub(crate) struct NumberPlaces {
     pub(crate) written: Vec<u32>,
     pub(crate) first: u32,
-    // past the last one that was written
+    // Past the last one that was written.
     pub(crate) end: u32,
     pub ghost some: { 1 ≤ first },
     pub ghost order: { first ≤ end },
     pub ghost below: { AreBelow end written.items } by { Prim.hlevel props },
 }
 
-/// The same places, to be read only: a loop that writes keeps them in registers.
+/// The places of a [`NumberPlaces`], to be read only: a loop that writes keeps them in registers.
 #[derive(Clone, Copy)]
 pub(crate) struct WrittenPlaces<'a> {
     pub(crate) written: &'a [u32],
     pub(crate) first: u32,
 }
 
-// The place that is written so, where the first one is.
+// Returns the place that is written as `written`, or `None` if that is less than `first`.
 #[inline]
 fn place_from(first: u32, written: u32) -> Option<usize>
     ensures { result ≡ place_from first written }
@@ -39,7 +39,7 @@ fn place_from(first: u32, written: u32) -> Option<usize>
     Some((written - first) as usize)
 }
 
-// How a place is written, so that one more can be. Where 32 bits have no room for it, memory has none for the entries.
+// Returns how a place is written, if the next number has 32 bits too. If it does not, memory has no room for so many entries.
 fn written_as(first: u32, place: usize) -> Result<u32, AllocError>
     ensures sum { IfOk result (λ written. written ≡ first + place) }
     ensures small { IfOk result (λ written. written + 1 < 2 ^ 32) }
@@ -54,7 +54,7 @@ impl<'a> WrittenPlaces<'a> {
     ghost use Rattle.std.specs.Prelude.{None, get_or, length};
     ghost use Rattle.dictionary_codes.specs.inner.Places.{places_in};
 
-    /// The place of a number.
+    /// Returns the place of a number, or `None` if it has none.
     #[inline]
     pub(crate) fn at(self, number: usize) -> Option<usize>
         requires { number < length (places_in self) }
@@ -68,7 +68,7 @@ impl NumberPlaces {
     ghost use Rattle.std.specs.Prelude.{◌++◌, [], ◌∷◌, ℕ, OnErr, OnOk, None, Some, get_or, length, set, vec_capacity, vec_len};
     ghost use Rattle.dictionary_codes.specs.inner.Places.{places_in, places_of};
 
-    /// No number.
+    /// Returns the places of no numbers.
     pub(crate) fn none(alloc: Global) -> NumberPlaces
         ensures { places_of result ≡ [] }
     {
@@ -79,7 +79,7 @@ impl NumberPlaces {
         }
     }
 
-    /// The places, to be read.
+    /// Returns the places, to be read only.
     #[inline]
     pub(crate) fn all(&self) -> WrittenPlaces<'_>
         ensures { places_in result ≡ places_of self.now }
@@ -93,7 +93,7 @@ impl NumberPlaces {
     /// Gives a number a place.
     ///
     /// # Errors
-    /// `AllocError` where there is no room for so many entries: the places are unchanged.
+    /// `AllocError` if memory has no room for so many entries. The places are unchanged then.
     #[inline]
     pub(crate) fn set(&mut self, number: usize, place: usize) -> Result<(), AllocError>
         requires { number < length (places_of self.old) }
@@ -106,7 +106,7 @@ impl NumberPlaces {
         Ok(())
     }
 
-    /// Makes room for one number more.
+    /// Makes room for one more number.
     ///
     /// # Errors
     /// `AllocError` if memory was refused.
@@ -118,7 +118,7 @@ impl NumberPlaces {
         self.written.reserve(1)
     }
 
-    /// One number more, which has no place, where there is room for it.
+    /// Appends a number that has no place. There must be room for it.
     pub(crate) fn push_reserved(&mut self)
         requires { vec_len self.old.written < vec_capacity self.old.written }
         ensures places { places_of self.new ≡ places_of self.old ++ None ∷ [] }
@@ -127,7 +127,7 @@ impl NumberPlaces {
         self.written.push_reserved(0);
     }
 
-    /// The same numbers, of which none has a place.
+    /// Takes all places back. The numbers stay.
     pub(crate) fn clear(&mut self)
         ensures none { (n : ℕ) → get_or (places_of self.new) n None ≡ None }
         ensures count { length self.new.written.items ≡ length self.old.written.items }

@@ -1,5 +1,4 @@
-// The places of cells among the entries of a dictionary, of runs of slots. An entry of an array's own dictionary is looked up once, and then known by its
-// number.
+// The indices of runs of slots. An entry of an array's own dictionary is looked up once, and then known by its number.
 ghost use Rattle.std.specs.Prelude.{◌≡◌, ◌≢◌, ◌≤◌, ◌<◌, ◌+◌, ◌-◌, ◌*◌, ◌/◌, ◌++◌, List, true, false, OnOk, IfOk, IfSome, Some, drop, get_or, is_some, length, replicate, set, take};
 ghost use Rattle.std.specs.List.{list_all};
 ghost use Rattle.arrow_schema.specs.View.{bits_of, column_of, index_of};
@@ -26,10 +25,10 @@ use arrow_schema::{BitWidth, DictSpec, Field};
 use columns::{ArrayView, CodedSlots, SlotRun, value};
 use std::alloc::{AllocError, Global};
 
-// Where fewer slots than these have named entries in a row, the loop over named ones is left at nearly each slot, and costs more than it saves.
+// If fewer slots in a row than this have named entries, the loop over named ones is left at nearly each slot, and costs more than it saves.
 const FEW_NAMED: usize = 16;
 
-// So many slots are written then before it is tried again.
+// How many slots are then written one by one before that loop is tried again.
 const SLOTS_AT_ONCE: usize = 64;
 
 #[inline]
@@ -42,7 +41,7 @@ pub(crate) fn known_code(known: &StampedNumbers, number: Option<u64>) -> Option<
     }
 }
 
-// What an entry was known by before it was doubted.
+// Returns the number by which an entry was known before it was doubted.
 fn guessed_code(known: &StampedNumbers, number: Option<u64>) -> Option<usize> {
     match number {
         Some(number) if number < known.len() as u64 => known.last_at(number as usize),
@@ -50,7 +49,7 @@ fn guessed_code(known: &StampedNumbers, number: Option<u64>) -> Option<usize> {
     }
 }
 
-// A code of 32 bits. Larger ones are not noted.
+// Returns a number if it has at most 32 bits. Larger ones are not noted.
 fn small_code(code: Option<usize>) -> Option<u32>
     ensures { IfSome result (λ small. code ≡ Some small) }
 {
@@ -71,7 +70,7 @@ fn note_code(known: &mut StampedNumbers, number: Option<u64>, code: Option<u32>)
     }
 }
 
-// The place of the entry that has a number, where there is one.
+// Returns the place of the entry with a number, if there is a number.
 fn code_at(
     entries: &mut KnownEntries<'_>,
     number: Option<usize>,
@@ -89,7 +88,7 @@ fn code_at(
     }
 }
 
-// The code of a slot that is valid, and whose entry is not known.
+// Returns the code of a valid slot whose entry is not known.
 pub(crate) fn new_code<'a>(
     entries: &mut KnownEntries<'a>,
     known: &mut StampedNumbers,
@@ -106,24 +105,24 @@ pub(crate) fn new_code<'a>(
 {
     let place = slots.number(i);
     let guess = guessed_code(known, place);
-    let number = entries.number_of(value(field, slots.view, i), guess)?;
+    let number = entries.number_by_guess(value(field, slots.view, i), guess)?;
     note_code(known, place, small_code(number));
     code_at(entries, number)
 }
 
-// Writes the index that a code is at the place of a slot.
+// Writes the index of a code at the place of a slot.
 #[inline]
 fn put_index<const SIZE: usize>(indices: &mut [u8], place: usize, code: Option<usize>)
     requires small { SIZE ≤ 8 }
     requires room { SIZE * place + SIZE ≤ length indices.old }
     ensures { indices.new ≡ take (SIZE * place) indices.old ++ (sized_code SIZE code ++ drop (SIZE * place + SIZE) indices.old) }
 {
-    // a number of the code is below 2^64, so that the place of the index is too
+    // For the proof: lengths are below 2^64, so that the place of the index is too.
     let _room = indices.len();
     put_code::<SIZE>(indices, SIZE * place, code);
 }
 
-// The same, and whether there is one.
+// Writes the index of a code at the place of a slot, and whether there is a code.
 #[inline]
 fn put_at<const SIZE: usize>(
     indices: &mut [u8],
@@ -139,7 +138,7 @@ fn put_at<const SIZE: usize>(
     valid[place] = code.is_some();
 }
 
-// Writes what a slot has that is valid, and whose entry is not known. It is no part of the loop over slots, which would keep its variables in memory for it.
+// Writes the index of a valid slot whose entry is not known. It is not compiled into the loop over slots, which would keep its variables in memory for it.
 #[inline(never)]
 fn put_new_code<'a, const SIZE: usize>(
     entries: &mut KnownEntries<'a>,
@@ -165,7 +164,7 @@ fn put_new_code<'a, const SIZE: usize>(
     Ok(())
 }
 
-// Writes what a slot has. Each way writes by itself, so that none asks again whether there is a code.
+// Writes the index of a slot, and whether it has one. Each branch writes by itself, so that none tests again whether there is a code.
 #[inline]
 fn put_slot_code<'a, const SIZE: usize, const SIGNED: bool>(
     entries: &mut KnownEntries<'a>,
@@ -200,7 +199,7 @@ fn put_slot_code<'a, const SIZE: usize, const SIGNED: bool>(
     put_new_code::<SIZE>(entries, known, indices, valid, field, slots, i, place)
 }
 
-// The place of the entry of a slot, which is valid, if it is named.
+// Returns the place of the entry of a valid slot; `None` if it is not named.
 #[inline]
 fn named_code<const SIZE: usize, const SIGNED: bool>(
     entries: &KnownEntries<'_>,
@@ -226,7 +225,7 @@ fn named_code<const SIZE: usize, const SIGNED: bool>(
     }
 }
 
-// Writes what a slot has whose bit is set, if it is null or its entry is named, and tells whether it is.
+// Writes the index of a slot, whose bit in `valid` is set before, if it is null or its entry is named. Returns whether it is written.
 #[inline]
 fn put_named_code<const SIZE: usize, const SIGNED: bool>(
     entries: &KnownEntries<'_>,
@@ -266,7 +265,8 @@ fn put_named_code<const SIZE: usize, const SIGNED: bool>(
     }
 }
 
-// Writes what slots have from one on, up to the first whose entry is not named, and gives that one. Their bits are set before, and written for nulls alone.
+// Writes the indices of slots from `first` on, up to the first slot whose entry is not named, and returns that slot. The bits in `valid` are set before, and
+// written for nulls only.
 fn put_named_codes<const SIZE: usize, const SIGNED: bool>(
     entries: &KnownEntries<'_>,
     known: &StampedNumbers,
@@ -316,7 +316,7 @@ fn put_named_codes<const SIZE: usize, const SIGNED: bool>(
     to
 }
 
-// Writes what slots have from one on up to another, whether their entries are named or not. It is no part of the loop over named ones either.
+// Writes the indices of slots from `first` up to `end`, whether their entries are named or not. It is not compiled into the loop over named ones either.
 #[inline(never)]
 fn put_each_code<'a, const SIZE: usize, const SIGNED: bool>(
     entries: &mut KnownEntries<'a>,
@@ -345,7 +345,7 @@ fn put_each_code<'a, const SIZE: usize, const SIGNED: bool>(
         → IsPartWritten SIZE start all (named_cells entries.old) (cells_from cells first (end - first) ++ left) indices.old valid.old (first - from)
         → IsPartWritten SIZE start all (named_cells entries.new) left indices.new valid.new (end - from)) }
 {
-    // a number of the code is below 2^64, so that the places of all indices are too
+    // For the proof: lengths are below 2^64, so that the places of all indices are too.
     let _room = indices.len();
     for i in first..end {
         put_slot_code::<SIZE, SIGNED>(entries, known, indices, valid, field, slots, i, i - from)?;
@@ -353,14 +353,14 @@ fn put_each_code<'a, const SIZE: usize, const SIGNED: bool>(
     Ok(())
 }
 
-// How many slots are written one by one after some with named entries: one alone where these were many.
+// Returns how many slots are written one by one after `named` slots with named entries: only one if these are many.
 fn count_of_each(named: usize) -> usize
     ensures { 0 < result }
 {
     if named < FEW_NAMED { SLOTS_AT_ONCE } else { 1 }
 }
 
-// Up to where slots are written one by one from the next on, where those from a first one on have named entries.
+// Returns the end of the slots that are written one by one from `next` on, if those from `first` up to `next` have named entries.
 fn end_of_each(first: usize, next: usize, to: usize) -> usize
     requires order { first ≤ next }
     requires within { next ≤ to }
@@ -373,7 +373,7 @@ fn end_of_each(first: usize, next: usize, to: usize) -> usize
     if to - next < count { to } else { next + count }
 }
 
-// Writes the indices of n bytes, with a sign or without, of some slots of an array, and whether each slot has one, where there is room for just these.
+// Writes the indices, of `SIZE` bytes each, of some slots of an array, and whether each slot has one. The slices have room for exactly these slots.
 fn put_sized_codes<'a, const SIZE: usize, const SIGNED: bool>(
     entries: &mut KnownEntries<'a>,
     known: &mut StampedNumbers,
@@ -396,7 +396,7 @@ fn put_sized_codes<'a, const SIZE: usize, const SIGNED: bool>(
         indices.new valid.new (cells_from (coded_cell field.now slots.entry) from (to - from))) }
     ensures known { OnOk result (AreKnown (seen_cells entries.new) (own_entries field.now slots.entry.view) known.new) }
 {
-    // a number of the code is below 2^64, so that the places of all indices are too
+    // For the proof: lengths are below 2^64, so that the places of all indices are too.
     let _room = indices.len();
     valid.fill(true);
     let mut i = from;
@@ -413,7 +413,7 @@ fn put_sized_codes<'a, const SIZE: usize, const SIGNED: bool>(
     Ok(())
 }
 
-// The same, by a loop for indices with a sign and one for those without.
+// Writes the indices of some slots, by a loop for indices with a sign or by one for those without.
 fn put_codes_of_size<'a, const SIZE: usize>(
     entries: &mut KnownEntries<'a>,
     known: &mut StampedNumbers,
@@ -442,7 +442,7 @@ fn put_codes_of_size<'a, const SIZE: usize>(
     }
 }
 
-/// The same, by loops for each size of an index.
+/// Writes the indices of some slots of an array, by a loop for their width. The slices have room for exactly these slots.
 pub(crate) fn put_slot_codes<'a>(
     entries: &mut KnownEntries<'a>,
     known: &mut StampedNumbers,
@@ -478,7 +478,7 @@ pub(crate) fn put_slot_codes<'a>(
     }
 }
 
-// The same of some slots of the array of a run, under a mask.
+// Writes the indices of slots of an array, whose mask bits begin at `at`, and whether each slot has one.
 fn put_array_codes<'a>(
     alloc: Global,
     entries: &mut KnownEntries<'a>,
@@ -510,7 +510,7 @@ fn put_array_codes<'a>(
     entries.keep_numbers(field, array, known)
 }
 
-/// The indices of nulls are zeros.
+/// Writes zeros for the indices of nulls, and that no slot has one.
 pub(crate) fn put_null_codes(indices: &mut [u8], valid: &mut [bool])
     ensures indices { indices.new ≡ replicate (length indices.old) 0 }
     ensures valid { valid.new ≡ replicate (length valid.old) false }
@@ -519,7 +519,7 @@ pub(crate) fn put_null_codes(indices: &mut [u8], valid: &mut [bool])
     valid.fill(false);
 }
 
-// The same of a run.
+// Writes the indices of the cells of a run, whose mask bits begin at `at`, and whether each slot has one.
 fn put_run_codes<'a>(
     alloc: Global,
     entries: &mut KnownEntries<'a>,
@@ -554,8 +554,8 @@ fn put_run_codes<'a>(
     }
 }
 
-/// Writes the indices of the cells of runs under a mask, each the place of a cell among the entries of the dictionary, to which they are added, and whether
-/// each slot has one, where there is room for just these. It is compiled by itself: within a large function the loop over slots has too few registers.
+/// Writes the indices of the cells of runs under a mask, and whether each slot has one; adds the cells to the named entries. The slices have room for exactly
+/// these slots. It is compiled by itself: within a large function the loop over slots has too few registers.
 #[inline(never)]
 pub(crate) fn put_codes<'a>(
     alloc: Global,
@@ -576,7 +576,7 @@ pub(crate) fn put_codes<'a>(
     ensures { OnOk result (IsWritten (bits_of spec.index.width / 8) (named_cells entries.old) (named_cells entries.new) indices.new valid.new
         (masked_cells (column_of field.now) mask.now runs.now)) }
 {
-    // a number of the code is below 2^64, so that all places are too
+    // For the proof: lengths are below 2^64, so that all places are too.
     let _room = indices.len();
     let _places = valid.len();
     let width = spec.index.width.bytes();

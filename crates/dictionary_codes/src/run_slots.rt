@@ -5,7 +5,7 @@ ghost use Rattle.dictionary_codes.specs.Masks.{run_bits, runs_bits};
 use columns::SlotRun;
 use std::alloc::AllocError;
 
-/// How many slots a run has.
+/// Returns how many slots a run has.
 #[tactic(auto, using(crate::specs::laws::SlotCounts::slots_counted))]
 pub fn run_len(run: &SlotRun<'_>) -> usize
     ensures { result ≡ length (run_bits run.now) }
@@ -16,10 +16,10 @@ pub fn run_len(run: &SlotRun<'_>) -> usize
     }
 }
 
-/// How many slots runs have.
+/// Returns how many slots runs have.
 ///
 /// # Errors
-/// `AllocError` where a number does not hold them: they have no room in memory.
+/// `AllocError` if their number exceeds a `usize`: memory has no room for them.
 pub fn count_slots(runs: &[SlotRun<'_>]) -> Result<usize, AllocError>
     ensures { IfOk result (λ count. count ≡ length (runs_bits runs.now)) }
 {

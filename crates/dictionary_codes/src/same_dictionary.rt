@@ -1,4 +1,4 @@
-// Whether dictionaries are one, by the bytes of their arrays.
+// Whether two dictionaries are equal, by the bytes of their arrays.
 ghost use Rattle.std.specs.Prelude.{◌≡◌, true};
 ghost use Rattle.dictionary_codes.specs.inner.Same.{IsSameArray, IsSameLayout};
 ghost use Rattle.columns.specs.Places.{within};
@@ -6,10 +6,10 @@ ghost use Rattle.columns.specs.View.{placed_dictionary};
 
 use columns::{KnownArrays, PlacedArray, PlacedLayout, Span, bytes_at};
 
-// Dictionaries that were appended to more often than this are not compared.
+// Dictionaries of more arrays than this are not compared.
 const MOST_ARRAYS: usize = 16;
 
-/// The bytes that the buffers of two dictionaries are looked for in, and up to how many bytes of a buffer are compared.
+/// The bytes in which the buffers of two dictionaries are, and up to how many bytes a buffer is compared.
 #[derive(Clone, Copy)]
 pub struct Compared<'a> {
     pub own: &'a [u8],
@@ -37,7 +37,7 @@ fn is_same_layout(bytes: Compared<'_>, a: &PlacedLayout, b: &PlacedLayout) -> bo
     }
 }
 
-// Whether two arrays are one, of a type whose values are flat.
+// Returns whether two arrays of a flat type are equal.
 fn is_same_array(bytes: Compared<'_>, a: &PlacedArray, b: &PlacedArray) -> bool
     ensures { result ≡ true → IsSameArray bytes.entry.own.now a.now bytes.entry.others.now b.now }
 {
@@ -50,7 +50,7 @@ fn is_at(a: Span, b: Span) -> bool {
     a.start == b.start && a.len == b.len
 }
 
-// Whether the values of two arrays are at the same places, each in its own bytes.
+// Returns whether the values of two arrays are at the same places, each in its own bytes.
 fn is_alike(a: &PlacedArray, b: &PlacedArray) -> bool {
     match (&a.layout, &b.layout) {
         (PlacedLayout::Bits(a), PlacedLayout::Bits(b)) => is_at(*a, *b),
@@ -62,7 +62,7 @@ fn is_alike(a: &PlacedArray, b: &PlacedArray) -> bool {
     }
 }
 
-/// Whether two dictionaries are at the same places, each in its own bytes: within the same bytes they are one.
+/// Returns whether the values of two dictionaries are at the same places, each in its own bytes.
 pub(crate) fn are_alike(own: KnownArrays<'_>, others: KnownArrays<'_>) -> bool {
     if own.arrays.len() != others.arrays.len() {
         return false;
@@ -75,7 +75,7 @@ pub(crate) fn are_alike(own: KnownArrays<'_>, others: KnownArrays<'_>) -> bool {
     true
 }
 
-/// Whether two dictionaries are known to be one: large ones are not compared.
+/// Returns whether two dictionaries are known to be equal. Large ones are not compared.
 pub fn is_same_dictionary(
     bytes: Compared<'_>,
     own: KnownArrays<'_>,

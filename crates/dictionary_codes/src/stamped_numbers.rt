@@ -12,14 +12,14 @@ pub(crate) struct StampedNumber {
     pub(crate) number: u32,
 }
 
-// What is at a place where no number was written: no list has the stamp 0.
+// What is at a place without a number: no list has the stamp 0.
 const UNWRITTEN: StampedNumber = StampedNumber {
     stamp: 0,
     number: 0,
 };
 
-/// Numbers at places, some of which have none. To clear it, the stamp is advanced: only the numbers that were written under the last stamp are there.
-/// Contracts see the list of these.
+/// Places, some of which have a number. To clear it, the stamp is advanced: only the numbers that were written under the last stamp are there. Contracts see
+/// the list of these.
 #[derive(Drop)]
 pub(crate) struct StampedNumbers {
     numbers: Vec<StampedNumber>,
@@ -37,7 +37,7 @@ impl Model for StampedNumbers {
     ghost invariant = { λ s. AreStamped s.stamp s.numbers.items };
 }
 
-// The number that was written at a place under a stamp.
+// Returns the number that was written at a place under a stamp.
 #[inline]
 fn number_at(numbers: &[StampedNumber], stamp: u32, place: usize) -> Option<usize>
     ensures { result ≡ get_or (map (number_under stamp) numbers.now) place None }
@@ -53,7 +53,7 @@ fn number_at(numbers: &[StampedNumber], stamp: u32, place: usize) -> Option<usiz
     }
 }
 
-// So many places where no number was written.
+// Returns `places` places without a number.
 fn unwritten(alloc: Global, places: usize) -> Result<Vec<StampedNumber>, AllocError>
     ensures { IfOk result (λ numbers. AreStamped 0 numbers.items) }
 {
@@ -63,10 +63,10 @@ fn unwritten(alloc: Global, places: usize) -> Result<Vec<StampedNumber>, AllocEr
 }
 
 impl StampedNumbers {
-    /// So many places, and no number.
+    /// Returns `places` places without a number.
     ///
     /// # Errors
-    /// `AllocError` where memory was refused.
+    /// `AllocError` if memory was refused.
     pub(crate) fn none(alloc: Global, places: usize) -> Result<StampedNumbers, AllocError>
         ensures { IfOk result (λ numbers. (n : ℕ) → get_or numbers n None ≡ None) }
     {
@@ -74,7 +74,7 @@ impl StampedNumbers {
         Ok(StampedNumbers { numbers, stamp: 1 })
     }
 
-    /// How many places there are.
+    /// Returns how many places there are.
     #[inline]
     pub(crate) fn len(&self) -> usize
         ensures { result ≡ length self.now }
@@ -82,7 +82,7 @@ impl StampedNumbers {
         self.numbers.len()
     }
 
-    /// The number at a place.
+    /// Returns the number at a place, or `None` if it has none.
     #[inline]
     pub(crate) fn get(&self, place: usize) -> Option<usize>
         ensures { result ≡ get_or self.now place None }
@@ -90,7 +90,7 @@ impl StampedNumbers {
         number_at(&self.numbers, self.stamp, place)
     }
 
-    /// The number that was written last at a place, also if it was cleared since.
+    /// Returns the number that was last written at a place, even if it was cleared since.
     pub(crate) fn last_at(&self, place: usize) -> Option<usize> {
         match self.numbers.get(place) {
             Some(written) if written.stamp > 0 => Some(written.number as usize),
@@ -98,7 +98,7 @@ impl StampedNumbers {
         }
     }
 
-    /// Writes a number at a place, where there is such a place.
+    /// Writes a number at a place, if there is such a place.
     pub(crate) fn set(&mut self, place: usize, number: u32)
         ensures { self.new ≡ set self.old place (Some number) }
     {
@@ -110,7 +110,7 @@ impl StampedNumbers {
         }
     }
 
-    /// The same places, and no number. Where the stamps are used up, it has no place more.
+    /// Clears the numbers. If the stamps are used up, the places are removed too.
     pub(crate) fn clear(&mut self)
         ensures { (n : ℕ) → get_or self.new n None ≡ None }
     {

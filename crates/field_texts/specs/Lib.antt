@@ -2,4 +2,5 @@ pub mod Keywords
 pub mod FieldText
 pub mod Typed
 pub mod Reported
+pub mod ErrorText
 pub mod inner

@@ -11,16 +11,35 @@ use crate::build::{BuildError, build_field};
 use crate::grammar::is_field_text;
 use arrow_schema::{Field, MAX_DEPTH, Schema};
 use std::alloc::{AllocError, AllocFailed, Global};
+use std::fmt;
 
 /// Why field texts are refused.
 #[derive(Clone, Copy, Debug, PartialEq, Eq)]
 pub enum ParseError {
-    /// The text with this number, counted from 1, is not that of a field.
+    /// P1: the text with this number, counted from 1, is not that of a field.
     BadText(usize),
-    /// A number above 2,147,483,647, or a schema that exceeds its limits.
+    /// P2: a number above 2,147,483,647, or a schema that exceeds its limits.
     Limit,
     OutOfMemory,
 }
+
+/// Code, name and number, as `P1 BadText 2`.
+impl fmt::Display for ParseError {
+    ghost use Rattle.std.specs.Prelude.{Some};
+    ghost use Rattle.field_texts.specs.ErrorText.{error_text};
+
+    ghost output = { λ error. Some (error_text error) };
+
+    fn fmt<W: fmt::Write>(&self, f: &mut fmt::Formatter<W>) -> fmt::Result {
+        match self {
+            ParseError::BadText(number) => write!(f, "P1 BadText {number}"),
+            ParseError::Limit => f.write_str("P2 Limit"),
+            ParseError::OutOfMemory => f.write_str("OutOfMemory"),
+        }
+    }
+}
+
+impl std::error::Error for ParseError {}
 
 impl From<AllocError> for ParseError {
     ghost from_gives = { λ _ e. e ≡ OutOfMemory };

@@ -12,14 +12,17 @@ use crate::stream::Stream;
 use batch_build::Buffer;
 use std::alloc::{AllocError, Global};
 use std::io::{self, Write};
+use thiserror::Error;
 use values::Table;
 
 /// Why a stream was not written.
-#[derive(Clone, Copy, Debug, PartialEq, Eq)]
+#[derive(Clone, Copy, Debug, PartialEq, Eq, Error)]
 pub enum WriteError {
     /// The writer failed, which includes a `Vec` that gets no memory. Part of the stream may be written.
+    #[error("G1 Io")]
     Io,
     /// Memory was refused, before anything was written.
+    #[error("OutOfMemory")]
     OutOfMemory,
 }
 

@@ -4,11 +4,14 @@ ghost use Rattle.ipc_message.specs.declared.error.ImportError.TheVariants.{OutOf
 
 use crate::fault::Fault;
 use std::alloc::{AllocError, AllocFailed};
+use thiserror::Error;
 
 /// Why a stream was not read: it has a fault, or memory was refused.
-#[derive(Clone, Copy, Debug, PartialEq, Eq)]
+#[derive(Clone, Copy, Debug, PartialEq, Eq, Error)]
 pub enum ImportError {
+    #[error(transparent)]
     Fault(Fault),
+    #[error("OutOfMemory")]
     OutOfMemory,
 }
 

@@ -1,5 +1,5 @@
 // Adds one message to the state of a stream.
-ghost use Rattle.std.specs.Prelude.{◌≡◌, ◌≤◌, ◌<◌, ◌+◌, ◌++◌, ℕ, length, map, take, slice_index, List, [], ◌∷◌, IfOk, OnOk, Option, None, Some};
+ghost use Rattle.std.specs.Prelude.{◌≡◌, ◌≤◌, ◌+◌, ◌++◌, ℕ, length, map, take, List, [], ◌∷◌, IfOk, OnOk, Option, None, Some};
 ghost use Rattle.columns.specs.Places.{within};
 ghost use Rattle.columns.specs.View.{array_in, arrays_in, no_dictionary};
 ghost use Rattle.columns.specs.declared.array.Dictionary.{Dictionary as DictionaryList};
@@ -119,7 +119,6 @@ fn add_batch(
     read_rows_are_rows();
     read_dictionaries_are_readable();
     read_dictionaries_have_bytes();
-    bytes_are_small(bytes);
     front.batches.push(Batch {
         arrays: placed.arrays,
         rows: raw.length as usize,
@@ -168,17 +167,11 @@ fn add_dictionary(
 {
     read_dictionaries_are_readable();
     read_dictionaries_have_bytes();
-    bytes_are_small(bytes);
     let array = read_dictionary(alloc, &front.columns, &front.dictionaries, raw, body, bytes)?;
     lists_are_kept(&front.dictionaries);
     keep_array(alloc, &mut front.dictionaries, raw.id, raw.is_delta, array)?;
     Ok(())
 }
-
-// Gives a contract that every element of a slice of bytes is below 256.
-fn bytes_are_small(bytes: &[u8])
-    ensures { (i : ℕ) → slice_index bytes.now i < 256 }
-{}
 
 // Adds a message after the schema to the state.
 fn grow(

@@ -8,8 +8,7 @@
 mod progress;
 
 use arrowstore::{
-    Audience, Failures, KeptStart, NotedInput, NotedOutput, WatchedOutput,
-    report_unreadable_arguments, run_with_files,
+    Audience, Failures, KeptStart, WatchedOutput, report_unreadable_arguments, run_with_files,
 };
 use progress::{ProgressFiles, ProgressLine, ProgressReader, ProgressWriter, Target};
 use std::process::ExitCode;
@@ -27,12 +26,13 @@ fn main(rt: HostRuntime) -> ExitCode {
             arguments.as_slice(),
             &mut KeptStart::new(
                 rt.alloc(),
-                NotedInput::new(ProgressReader::new(rt.reader(), line.as_ref()), &failures),
+                ProgressReader::new(rt.reader(), line.as_ref()),
                 audience,
             ),
-            &mut WatchedOutput::new(NotedOutput::new(
-                ProgressWriter::new(rt.stdout(), line.as_ref(), Target::of_output(&rt)),
-                &failures,
+            &mut WatchedOutput::new(ProgressWriter::new(
+                rt.stdout(),
+                line.as_ref(),
+                Target::of_output(&rt),
             )),
             &mut errors,
             &failures,

@@ -18,6 +18,10 @@ const LEAST_SHOWN: u64 = 1_000_000;
 // This many bytes are reported however fast they were read: what is made of them may take longer.
 const LONG_WORK: u64 = 32_000_000;
 
+// Said once, if the input comes from a terminal: the command would seem to do nothing. An Arrow stream can't be typed.
+const TYPED_INPUT: &str =
+    "The input is read from the terminal: Ctrl-D ends it, Ctrl-C stops the command. `< FILE` reads a file.\n";
+
 /// What the line reports.
 #[derive(Clone, Copy, Debug, PartialEq, Eq)]
 pub enum Stage {
@@ -70,6 +74,13 @@ impl<'a, C: Clock, T: Write + Copy> ProgressLine<'a, C, T> {
     /// Shows a number of bytes.
     pub fn show(&self, stage: Stage, bytes: u64) {
         let _ = self.write_line(stage, bytes / 1_000_000);
+    }
+
+    /// Says, in a line that stays, that the input is to be typed.
+    pub fn ask_for_input(&self) {
+        self.clear();
+        let mut terminal = self.terminal;
+        let _ = terminal.write_all(TYPED_INPUT.as_bytes());
     }
 
     /// Returns whether the work has taken more than a second so far.

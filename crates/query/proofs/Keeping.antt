@@ -1,12 +1,10 @@
 -- The rows that a mask keeps: those of which a test holds.
-use Rattle.std.proofs.Common.{◌≡◌, ℕ, suc, ◌+◌, ◌-◌, ◌*◌, ◌^◌, ◌≤◌, ◌<◌, Bool, true, false, cond, List, [], ◌∷◌, map, length, take, get_or, refl, ap, ◌∙◌, arith}
-use Rattle.std.specs.Prelude.{Option, Some, None, filter, slice_get, unwrap_or, option_map, if◌then◌else◌}
-use Rattle.std.proofs.lemmas.List.{length-map, take_all}
-use Rattle.std.proofs.lemmas.List.Sums.{length-filter, count_by-le-length}
+use Rattle.std.proofs.Common.{◌≡◌, ℕ, suc, ◌+◌, ◌*◌, ◌≤◌, ◌<◌, Bool, true, false, cond, List, [], ◌∷◌, map, length, get_or, refl, ap, ◌∙◌, arith}
+use Rattle.std.specs.Prelude.{Some, filter, slice_get, option_map, if◌then◌else◌}
+use Rattle.std.proofs.lemmas.List.{length-map}
 use Rattle.std.proofs.lemmas.Option.{slice_get-map, get_or_from_slice_get, slice_get-get_or}
 use Rattle.bitmap.specs.Bits.{bit}
 use Rattle.cells.specs.Cell.{Cell}
-use Rattle.query.specs.Selection.{limited}
 use Rattle.query.specs.Choice.{rows_set}
 use Rattle.query.specs.inner.Masks.{IsMask}
 
@@ -34,19 +32,6 @@ set_are mask p g from (row ∷ rows) each =
 -- what the mask of a test keeps
 pub set_rows_are : (mask : List ℕ) (p : List Cell → Bool) (g : List Cell → List Cell) (rows : List (List Cell)) → IsMask mask (map p rows) → rows_set mask 0 (map g rows) ≡ map g (filter p rows)
 set_rows_are mask p g rows is = set_are mask p g 0 rows (λ i h. let e : 0 + i ≡ i = omega arith in ap (bit mask) e ∙ bit_of_row mask p rows i is h)
-
--- a limit of 64 bits
-pub limited_is : (limit : Option ℕ) (xs : List (List Cell)) → length xs < 2 ^ 64 → take (unwrap_or limit (2 ^ 64 - 1)) xs ≡ limited limit xs
-limited_is (Some most) xs h = refl
-limited_is None xs h = take_all (2 ^ 64 - 1) xs (omega (arith, h))
-
--- what is kept of the rows of which a test holds
-pub kept_rows_are : (limit : Option ℕ) (most : ℕ) (p : List Cell → Bool) (g : List Cell → List Cell) (rows : List (List Cell)) (mask : List ℕ) → IsMask mask (map p rows)
-    → most ≡ unwrap_or limit (2 ^ 64 - 1) → length rows < 2 ^ 64 → take most (rows_set mask 0 (map g rows)) ≡ limited limit (map g (filter p rows))
-kept_rows_are limit most p g rows mask is e few =
-    ap (λ n. take n (rows_set mask 0 (map g rows))) e
-    ∙ ap (take (unwrap_or limit (2 ^ 64 - 1))) (set_rows_are mask p g rows is)
-    ∙ limited_is limit (map g (filter p rows)) (omega (arith, length-map (filter p rows) g, length-filter p rows, count_by-le-length p rows, few))
 
 -- the mask has a bit for each row
 pub mask_long : (mask : List ℕ) (p : List Cell → Bool) (rows : List (List Cell)) → IsMask mask (map p rows) → length rows ≤ 8 * length mask

@@ -3,6 +3,7 @@ pub mod ConditionText
 pub mod Literal
 pub mod Bound
 pub mod Selection
+pub mod BoundQuery
 pub mod Choice
 pub mod BatchArrays
 pub mod Line

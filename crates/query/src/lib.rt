@@ -11,12 +11,14 @@
 //! ```
 //!
 //! This chooses the first ten rows of `table` whose `a` is at least 1, with all columns; a null is not. `selection::select` makes a table of them, and
-//! `selection::push_selected_lines` prints them.
+//! `selection::push_selected_lines` prints them. Where rows come one part after another, the query is bound to their schema once ([`bind_query`]),
+//! and the rows of each part are chosen on their own ([`choose_rows`]).
 #![tactic(auto)]
 
 mod batch_arrays;
 mod blocks;
 mod bound;
+mod bound_query;
 mod choice;
 mod column_slots;
 mod condition;
@@ -43,6 +45,7 @@ mod slot_value;
 mod validity;
 
 pub use batch_arrays::BatchArrays;
+pub use bound_query::BoundQuery;
 pub use choice::Choice;
 pub use condition::{Condition, Test};
 pub use errors::QueryError;
@@ -51,6 +54,6 @@ pub use object_line::{are_named_apart, push_line_in};
 pub use operator::Operator;
 pub use query::Query;
 pub use row_form::RowForm;
-pub use selecting::choose;
+pub use selecting::{bind_query, choose, choose_rows};
 pub use set_lines::push_set_lines;
 pub use set_rows::next_set;

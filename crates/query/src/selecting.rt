@@ -1,22 +1,25 @@
 // Chooses the columns and rows of a table that a query selects.
-ghost use Rattle.std.specs.Prelude.{◌≡◌, ◌≤◌, ◌*◌, Ok, Some, IfOk, IfErr, map, length, string_bytes, replicate, true};
+ghost use Rattle.std.specs.Prelude.{◌≡◌, ◌≤◌, ◌*◌, ℕ, List, Ok, Some, IfOk, IfErr, map, length, string_bytes, replicate, true};
 ghost use Rattle.std.specs.List.{range_with_len};
-ghost use Rattle.arrow_schema.specs.View.{column_of};
+ghost use Rattle.arrow_schema.specs.View.{column_of, schema_of};
+ghost use Rattle.cells.specs.Cell.{PlainTable};
 ghost use Rattle.values.specs.TableView.{table_of};
 ghost use Rattle.query.specs.Bound.{bound, holds};
-ghost use Rattle.query.specs.Selection.{chosen, all_ok, holds_all, selected, selection};
+ghost use Rattle.query.specs.BoundQuery.{bound_query_in, rows_held, selected_by};
+ghost use Rattle.query.specs.Selection.{chosen, all_ok, holds_all, pick, selection};
 ghost use Rattle.query.specs.View.{condition_in, query_in, Reports, Unchosen};
 ghost use Rattle.query.specs.inner.BoundView.{bound_in};
-ghost use Rattle.query.specs.Choice.{chosen_table};
+ghost use Rattle.query.specs.Choice.{rows_set, chosen_table};
 ghost use Rattle.query.specs.inner.Masks.{IsMask};
 
 use crate::bound::{Bound, bind, holds, place_of};
+use crate::bound_query::BoundQuery;
 use crate::choice::Choice;
 use crate::condition::Condition;
 use crate::errors::QueryError;
 use crate::query::Query;
 use crate::slot_test::slot_test_of;
-use arrow_schema::Field;
+use arrow_schema::{Field, Schema};
 use bitmap::MaskBuilder;
 use std::alloc::{AllocError, Global};
 use values::Table;
@@ -116,20 +119,49 @@ fn mask_of_all(alloc: Global, table: &Table, bounds: &[Bound]) -> Result<Vec<u8>
     Ok(mask)
 }
 
+/// Binds a query to the columns of a table. The columns asked for are tested first, and then the conditions in order.
+///
+/// # Errors
+/// `UnknownColumn`, `BadCondition` or `NotComparable`, by the first test that fails. `OutOfMemory` if memory is refused.
+pub fn bind_query(alloc: Global, schema: &Schema, query: &Query) -> Result<BoundQuery, QueryError>
+    // Rows refuse no query: this is the answer for each table of the schema.
+    ensures ok { IfOk result (λ b. (t : PlainTable) → schema_of schema.now ≡ t.schema → selection t (query_in query.now) ≡ Ok (selected_by (bound_query_in b) t)) }
+    ensures refused { IfErr result (λ e. (t : PlainTable) → schema_of schema.now ≡ t.schema → Reports e (selection t (query_in query.now))) }
+{
+    let places = places_of(alloc, &schema.fields, &query.columns)?;
+    let bounds = bind_all(alloc, &schema.fields, &query.conditions)?;
+    Ok(BoundQuery {
+        places,
+        bounds,
+        limit: query.limit,
+    })
+}
+
+/// Returns a bit for each row of a table, which is set if all conditions of a query hold. The query is bound to the columns of this table.
+///
+/// # Errors
+/// `AllocError` if memory is refused.
+pub fn choose_rows(alloc: Global, table: &Table, query: &BoundQuery) -> Result<Vec<u8>, AllocError>
+    ensures rows { IfOk result (λ mask. (places : List ℕ) → rows_set mask.items 0 (map (pick places) (table_of table.now).rows)
+        ≡ map (pick places) (rows_held (bound_query_in query.now) (table_of table.now).rows)) }
+    ensures mask { IfOk result (λ mask. length (table_of table.now).rows ≤ 8 * length mask.items) }
+{
+    mask_of_all(alloc, table, &query.bounds)
+}
+
 // Chooses the rows for which all conditions hold, then the columns at these places, then the first rows.
-fn choose_bound(
-    alloc: Global,
-    table: &Table,
-    places: Vec<usize>,
-    bounds: &[Bound],
-    limit: Option<u64>,
-) -> Result<Choice, AllocError>
-    ensures chosen { IfOk result (λ c. chosen_table c (table_of table.now) ≡ selected places.items (map bound_in bounds.now) limit (table_of table.now)) }
+fn choose_bound(alloc: Global, table: &Table, query: BoundQuery) -> Result<Choice, AllocError>
+    ensures chosen { IfOk result (λ c. chosen_table c (table_of table.now) ≡ selected_by (bound_query_in query) (table_of table.now)) }
     ensures mask { IfOk result (λ c. length (table_of table.now).rows ≤ 8 * length c.mask.items) }
 {
     // For the proof: the number of rows is below 2^64, so that the limit 2^64 - 1 cuts off none.
     let _rows = table.len();
-    let mask = mask_of_all(alloc, table, bounds)?;
+    let mask = choose_rows(alloc, table, &query)?;
+    let BoundQuery {
+        places,
+        bounds: _bounds,
+        limit,
+    } = query;
     Ok(Choice {
         columns: places,
         mask,
@@ -152,9 +184,7 @@ pub fn choose(alloc: Global, table: &Table, query: &Query) -> Result<Choice, Que
     ensures mask { IfOk result (λ c. length (table_of table.now).rows ≤ 8 * length c.mask.items) }
     ensures refused { IfErr result (λ e. Reports e (selection (table_of table.now) (query_in query.now))) }
 {
-    let schema = table.schema();
-    let places = places_of(alloc, &schema.fields, &query.columns)?;
-    let bounds = bind_all(alloc, &schema.fields, &query.conditions)?;
-    let choice = choose_bound(alloc, table, places, &bounds, query.limit)?;
+    let bound = bind_query(alloc, table.schema(), query)?;
+    let choice = choose_bound(alloc, table, bound)?;
     Ok(choice)
 }

@@ -3,15 +3,19 @@ ghost use Rattle.std.specs.Prelude.{◌≡◌, ◌≢◌, ◌<◌, ◌≤◌, �
 ghost use Rattle.sector_dev.specs.Disk.{Story, now, moment, ShowsImage, Watches, Passes, Puts, FailsToPut, Flushes, Counts, Each, IsWhole};
 ghost use Rattle.sector_dev.specs.Rows.{row_writes, GrowsBy, FailsAmong};
 
+use thiserror::Error;
+
 /// The size of a sector in bytes.
 pub const SECTOR_BYTES: usize = 512;
 
 /// Why a call of a device failed.
-#[derive(Clone, Copy, Debug, PartialEq, Eq)]
+#[derive(Clone, Copy, Debug, PartialEq, Eq, Error)]
 pub enum DevError {
     /// E1: the device failed. Such failures are counted.
+    #[error("E1 Failed")]
     Failed,
     /// E2: a crash left the sector unreadable until it is written again. This is not a failure of the device.
+    #[error("E2 Unreadable")]
     Unreadable,
 }
 
@@ -40,7 +44,7 @@ pub trait SectorDevice {
     fn failures(&self) -> u64
         ensures { result ≡ failed self.now };
 
-    /// Reads a sector. Changes nothing. After an error `to` may hold anything.
+    /// Reads sector `n`, which must be below `sectors()`. Changes nothing. After an error `to` may hold anything.
     ///
     /// # Errors
     /// `Failed` if the device failed, and `Unreadable` if a crash left the sector unreadable.
@@ -53,7 +57,7 @@ pub trait SectorDevice {
         ensures content { OnOk result (tells ≡ true → ((now (story self.old)).at n).shown ≡ Some to.new) }
         ensures unreadable { IsErrOf result DevError.Unreadable → tells ≡ true → ((now (story self.old)).at n).shown ≡ None };
 
-    /// Writes a sector. It is safe from a crash once a sync has succeeded.
+    /// Writes sector `n`, which must be below `sectors()`. It is safe from a crash once a sync has succeeded.
     ///
     /// # Errors
     /// `Failed` only: reads then return the new content, or what they returned before, but always the same one.
@@ -65,7 +69,7 @@ pub trait SectorDevice {
         ensures ok { OnOk result (tells ≡ true → Puts (story self.old) n from.now (Some from.now) (story self.new)) }
         ensures err { OnErr result (tells ≡ true → FailsToPut (story self.old) n from.now (story self.new)) };
 
-    /// Writes neighbouring sectors in ascending order, as a call of `write` for each.
+    /// Writes neighbouring sectors in ascending order, as a call of `write` for each. All of them must be below `sectors()`.
     ///
     /// # Errors
     /// `Failed` only: the sectors before one of them were written, this one failed as in `write`, and those after it are untouched.

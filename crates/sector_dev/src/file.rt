@@ -6,6 +6,7 @@ ghost use Rattle.sector_dev.specs.declared.file.TheConstants.{MOST_SECTORS};
 use crate::buffer::SectorBuffer;
 use std::fs::OpenFile;
 use std::io::{self, Read, Seek, Write};
+use thiserror::Error;
 
 mod calls;
 mod locking;
@@ -15,11 +16,13 @@ mod transfer;
 pub use locking::LockFile;
 
 /// Why a file can't be opened as a device.
-#[derive(Clone, Copy, Debug, PartialEq, Eq)]
+#[derive(Clone, Copy, Debug, PartialEq, Eq, Error)]
 pub enum FileError {
     /// G1: the system refused, or `create` found something at the path.
+    #[error("G1 Io")]
     Io,
     /// G2: the size of the file is not a whole number of sectors, or is too small or too large for a device.
+    #[error("G2 BadSize")]
     BadSize,
 }
 

@@ -12,6 +12,7 @@ pub enum PiecePart<'a> {
 }
 
 impl PiecePart<'_> {
+    /// Returns the bytes.
     pub fn bytes(&self) -> &[u8]
         ensures { result.now ≡ part_bytes self.now }
     {

@@ -1,1 +1,3 @@
+pub mod LinePrinter
+pub mod laws
 pub mod inner

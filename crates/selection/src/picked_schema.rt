@@ -1,4 +1,4 @@
-// The schema of the columns asked for.
+// The fields and the schema of the columns asked for.
 ghost use Rattle.std.specs.Prelude.{◌≡◌, IfOk, map};
 ghost use Rattle.arrow_schema.specs.View.{column_of, schema_of};
 ghost use Rattle.query.specs.Selection.{pick};
@@ -6,7 +6,15 @@ ghost use Rattle.query.specs.Selection.{pick};
 use arrow_schema::{Field, Schema};
 use std::alloc::{AllocError, Global};
 
-fn pick_fields(alloc: Global, fields: &[Field], places: &[usize]) -> Result<Vec<Field>, AllocError>
+/// Returns the fields at some places.
+///
+/// # Errors
+/// `AllocError` if memory is refused.
+pub(crate) fn pick_fields(
+    alloc: Global,
+    fields: &[Field],
+    places: &[usize],
+) -> Result<Vec<Field>, AllocError>
     ensures { IfOk result (λ v. map column_of v.items ≡ pick places.now (map column_of fields.now)) }
 {
     let mut picked = Vec::with_capacity(alloc, places.len())?;

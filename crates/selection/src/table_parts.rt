@@ -13,7 +13,7 @@ use ipc_canonical::canonical_means_its_table;
 use ipc_encode::encode;
 use ipc_stream::decode;
 use query::QueryError;
-use std::alloc::Global;
+use std::alloc::{AllocError, Global};
 use values::{Table, TablePart};
 
 /// The record batches of a table: its own, or those of its stream.
@@ -49,10 +49,9 @@ pub(crate) fn table_of_stream(alloc: Global, bytes: Vec<u8>) -> Result<Table, Qu
 }
 
 /// Returns the record batches of a table. One that is kept as rows is written as a stream, which is read again.
-pub(crate) fn parts_of<'a>(alloc: Global, table: &'a Table) -> Result<TableParts<'a>, QueryError>
+pub(crate) fn parts_of<'a>(alloc: Global, table: &'a Table) -> Result<TableParts<'a>, AllocError>
     ensures rows { IfOk result (λ p. table_of table.now ≡ parts_table (table_of table.now).schema (parts_in p)) }
     ensures sound { IfOk result (λ p. are_parts_sound (columns_of (table_of table.now).schema.columns) (parts_in p) ≡ true) }
-    ensures refused { IfErr result (λ e. e ≡ OutOfMemory) }
 {
     if let Some(parts) = table.parts() {
         return Ok(TableParts::Own(parts));
@@ -60,6 +59,8 @@ pub(crate) fn parts_of<'a>(alloc: Global, table: &'a Table) -> Result<TableParts
     // For the proof: a table is within all limits.
     let _schema = table.schema();
     let bytes = encode(alloc, table)?;
-    let read = table_of_stream(alloc, bytes)?;
-    Ok(TableParts::OfStream(read.into_parts()))
+    match table_of_stream(alloc, bytes) {
+        Ok(read) => Ok(TableParts::OfStream(read.into_parts())),
+        Err(_) => Err(AllocError),
+    }
 }

@@ -12,6 +12,7 @@ pub mod Reading
 pub mod Input
 pub mod Exporting
 pub mod Salvaging
+pub mod Selecting
 pub mod Places
 pub mod Answering
 pub mod laws

@@ -61,7 +61,7 @@ impl<D: SectorDevice> Store<D> {
     ///
     /// ```
     /// let name = String::from_str(alloc, "readings")?;
-    /// store.apply(alloc, Command::Drop { name }).map_err(Error::msg)?;
+    /// store.apply(alloc, Command::Drop { name })?;
     /// ```
     ///
     /// # Errors

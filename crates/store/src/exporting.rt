@@ -78,7 +78,7 @@ impl<D: SectorDevice> Store<D> {
     /// borrowed from the table's bytes.
     ///
     /// ```
-    /// store.export(alloc, "readings", &mut file).map_err(Error::msg)?;
+    /// store.export(alloc, "readings", &mut file)?;
     /// ```
     ///
     /// # Errors

@@ -196,12 +196,14 @@ impl<D: SectorDevice> Store<D> {
     /// export is closed. Until then the sectors of the table are not written. Ids count from 0 since the store was opened, and none is used twice.
     ///
     /// ```
-    /// let id = store.open_export(alloc, "readings").map_err(Error::msg)?;
-    /// while let Some(piece) = store.export_next(alloc, id).map_err(Error::msg)? {
-    ///     file.write_all(&piece)?;
-    /// }
-    /// store.close_export(id).map_err(Error::msg)?;
+    /// let id = store.open_export(alloc, "readings")?;
+    /// // A failed write must not leave the export open, so its error waits.
+    /// let sent = send_pieces(alloc, &mut store, id, &mut file);
+    /// store.close_export(id)?;
+    /// sent?;
     /// ```
+    ///
+    /// Here `send_pieces` calls `export_next` in a loop `for _ in 0..65_539` until there is no piece: a table has at most 65,536 segments.
     ///
     /// # Errors
     /// `Halted` after a failure of the device; `NoTable` if no table has the name; `TooMany(Exports)` if 64 exports are open, or the last id is used;

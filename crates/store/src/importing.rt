@@ -23,7 +23,7 @@ impl<D: SectorDevice> Store<D> {
     ///
     /// ```
     /// let mut reader = stream.as_slice();
-    /// store.import_from(alloc, "readings", &mut reader).map_err(Error::msg)?;
+    /// store.import_from(alloc, "readings", &mut reader)?;
     /// ```
     ///
     /// # Errors
@@ -57,7 +57,7 @@ impl<D: SectorDevice> Store<D> {
     ///
     /// ```
     /// let mut reader = more.as_slice();
-    /// store.append_from(alloc, "readings", &mut reader).map_err(Error::msg)?;
+    /// store.append_from(alloc, "readings", &mut reader)?;
     /// ```
     ///
     /// # Errors

@@ -11,7 +11,7 @@ use tables::{Limit, MAX_IMPORT_BYTES, Refusal};
 // The number of bytes that one read asks for: the capacity of a pipe on Linux.
 const CHUNK: usize = 64 * 1024;
 
-/// Reads all bytes up to the end. The input may have at most `largest` bytes; at most one more is read.
+/// Reads all bytes up to the end. The input may have at most `largest` bytes, which is below `usize::MAX`; at most one more is read.
 ///
 /// # Errors
 /// `TooMany(Bytes)` if the input is longer; `Read` if a read fails; `OutOfMemory`.

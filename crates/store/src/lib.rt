@@ -31,6 +31,7 @@ mod reading;
 mod running;
 mod salvaging;
 mod saving;
+mod selecting;
 mod store;
 mod summary;
 mod upgrading;

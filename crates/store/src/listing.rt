@@ -34,7 +34,7 @@ impl<D: SectorDevice> Store<D> {
     /// Returns the name and the number of rows of each table, in the byte order of the names.
     ///
     /// ```
-    /// for (name, rows) in store.tables(alloc).map_err(Error::msg)? {
+    /// for (name, rows) in store.tables(alloc)? {
     ///     println!(rt; "{name} {rows}")?;
     /// }
     /// ```

@@ -101,7 +101,8 @@ impl<D: SectorDevice> Store<D> {
         self.opened.commit.version
     }
 
-    /// Closes the store, even a halted one, and returns its device. Makes no call of the device.
+    /// Closes the store, even a halted one, and returns its device. Makes no call of the device. Open exports end. A file is unlocked when its device
+    /// is dropped.
     pub fn close(self) -> D
         ensures { result ≡ device_of self }
     {

@@ -98,7 +98,7 @@ impl<D: SectorDevice> Store<D> {
     /// Returns the numbers of the store. Makes no call of the device.
     ///
     /// ```
-    /// let free_bytes = store.summary(alloc).map_err(Error::msg)?.free * 512;
+    /// let free_bytes = store.summary(alloc)?.free * 512;
     /// ```
     ///
     /// # Errors

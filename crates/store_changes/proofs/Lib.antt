@@ -9,4 +9,3 @@ mod Undamaged
 mod Streamed
 mod StepFound
 mod Digesting
-mod ReadRows

@@ -20,6 +20,7 @@ pub mod Decided
 pub mod Placed
 pub mod Prepared
 pub mod ReadTables
+pub mod ReadRows
 pub mod Quiet
 pub mod StepParts
 pub mod StepChanges

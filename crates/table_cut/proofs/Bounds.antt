@@ -165,7 +165,7 @@ kind_light (large_lists item) w a i is = cc
 kind_light (fixed_lists count item) w a i is = cc
 kind_light (structs columns) w a i is = cc
 
--- an entry, or a null where there is none
+-- an entry, or a null if there is none
 entry_light : (w : Cell → ℕ) (f : ℕ → Cell) (b n : ℕ) (z : ℤ) → w null ≤ b → ((k : ℕ) → k < n → w (f k) ≤ b) → w (entry_at (cells_from f 0 n) z) ≤ b
 entry_light w f b n (pos i) none h = item_light w f b 0 n i none (λ k lt. h k (omega arith))
 entry_light w f b n (negsuc i) none h = none

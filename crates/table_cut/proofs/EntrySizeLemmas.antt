@@ -62,7 +62,7 @@ item_set [] i x y lt is = absurd (omega arith)
 item_set (z ∷ xs) zero x y lt is = is
 item_set (z ∷ xs) (suc i) x y lt is = item_set xs i x y (omega arith) is
 
--- where a run is in the place of another one, whose rows after some it has
+-- if a run is in the place of another one, whose rows after some it has
 pub sizes_of_rest : (items : List RowRun) (next : ℕ) (r s : RowRun) (sizes : List (Option EntrySize)) → next < length items → arrays_of_run s ≡ arrays_of_run r → AreSizesOf r sizes
     → AreSizesAt next (set items next s) sizes
 sizes_of_rest items next r s sizes lt same known = λ other is.

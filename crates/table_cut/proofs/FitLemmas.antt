@@ -234,7 +234,7 @@ have_with j c cs piece run k =
     list_all-append has_cell (flat_map (rows_from_place j (and_column c cs)) piece) (take k rows)
     ∙ and_from _ _ (have_cells j c cs piece) own.0
 
--- the columns of the rows from a place on have room just where their cells have
+-- the columns of the rows from a place on have room just if their cells have
 fits_from : (j : ℕ) (cs : Columns) (piece : List RowRun) (run : RowRun) (k : ℕ) (rows : List (List Cell)) → map (drop j) rows ≡ rows_with j cs piece run k
     → list_all has_few_entries (holdings_from j cs rows) ≡ fit_with j cs piece run k
 unfolding holdings_from fit_with
@@ -317,7 +317,7 @@ named_room index most before start new own n limit is room = record {
       ∙ ap (λ (xs : List Cell). nat_le (length xs) most) all ∙ below_room most start new own n k room le;
 }
 
--- where all fits that there can be, there is room for all
+-- if all fits that there can be, there is room for all
 pub all_room_for : (fits : List Cell → Bool) (before own : List Cell) (n : ℕ) → n ≡ length own → ((k : ℕ) → k ≤ length own → fits (before ++ take k own) ≡ true) → HasRoomFor fits before own n
 all_room_for fits before own n whole all = record {
   within = omega (arith, whole);
@@ -331,7 +331,7 @@ same_room f g before own n same room = record { within = room.within; room = λ 
 pub run_counted : (j : ℕ) (c : Column) (run : RowRun) → length (cells_at_place j c run) ≡ run.len
 run_counted j c run = length-map-range_with_len (cell_at c (array_at j run)) run.from run.len
 
--- there is room for a number where there is room for it in a column and in those before it
+-- there is room for a number if there is room for it in a column and in those before it
 pub least_room : (k m n r : ℕ) (rest : Bool) → r ≤ m → r ≤ n → (k ≤ m → k ≤ n → k ≤ r) → (nat_le k m && (nat_le k n && rest)) ≡ (nat_le k r && rest)
 least_room k m n r rest low other least = elim (cases_lt m k) [
   | inl lt ↦ rw (lt-leb k m lt, lt-leb k r (omega (arith, lt, low))) refl
@@ -361,7 +361,7 @@ first_few most all xs ys is few =
     let grow = entries_grow (entries_of xs) ys in
     omega (arith, ap length more, grow, few)
 
--- where there is room for the entries of all cells, none of a part is left out
+-- if there is room for the entries of all cells, none of a part is left out
 pub part_named : (most : ℕ) (all before own rest start new : List Cell) (n : ℕ) → all ≡ (before ++ own) ++ rest → length (entries_of all) ≤ most → start ≡ entries_of before
     → IsRoomFor most start new own n → new ≡ entries_of (before ++ own)
 part_named most all before own rest start new n is few begun room =

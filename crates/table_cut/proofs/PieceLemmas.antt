@@ -84,7 +84,7 @@ some_taken s rows [] (row ∷ rest) is are there full =
       | inr filled ↦ absurd (let fits = alone.1 in cc)
     ]
 
--- where n rows of a run are taken, the next one is the next row
+-- if n rows of a run are taken, the next one is the next row
 abbrev pub IsPastLimits : PlainSchema → List (List Cell) → List Cell → Type 0
 IsPastLimits s piece row = ((4096 ≤ length piece) ⊎ (16777216 < table_weight s piece + row_weight s row)) ⊎ (dictionaries_fit s (piece ++ row ∷ []) ≡ false)
 

@@ -147,7 +147,7 @@ pub both_share : (cs : Columns) (own : Arrays) (xs ys : List (List Cell)) → Ar
 both_share cs own [] ys a b = b
 both_share cs own (x ∷ xs) ys a b = (a.0, both_share cs own xs ys a.1 b)
 
--- there is room for all rows of a run, where the dictionaries have room for all together
+-- there is room for all rows of a run, if the dictionaries have room for all together
 pub all_room : (s : PlainSchema) (rows : List (List Cell)) (run : RowRun) → dictionaries_fit s (rows ++ run_rows (columns_of s.columns) run) ≡ true → HasRoom s rows run run.len
 all_room s rows run fits = record {
   within = omega arith;

@@ -54,7 +54,7 @@ pub taken_by : (s : PlainSchema) (t : PlainTable) → HaveOneShape s t.schema �
     → is_row s row ≡ dictionaries_fit s (row ∷ [])
 taken_by s t same is i row next = row_by s t.schema same row (row_at_is (is_row t.schema) t.rows i row (list_all-from_AllPass (is_row t.schema) t.rows is.rows) next)
 
--- where no row can fill a dictionary all are taken
+-- if no row can fill a dictionary, all are taken
 none_from : (s t : PlainSchema) → HaveOneShape s t → can_rows_fill 1 (columns_of s.columns) ≡ false → (i : ℕ) (rows : List (List Cell)) → list_all (is_row t) rows ≡ true → unfit_from s i rows ≡ None
 none_from s t same free i [] h = refl
 none_from s t same free i (row ∷ rows) h =

@@ -7,7 +7,7 @@ use Rattle.table_cut.specs.declared.row_run.RowRun.{RowRun}
 use Rattle.table_cut.specs.inner.Columns.{arrays_from_place}
 use Rattle.table_cut.proofs.ColumnLemmas.{arrays_next}
 
--- where the first shares its entries, and the others do
+-- if the first shares its entries, and the others do
 pub next_shares : (c : Column) (cs : Columns) (own others : RowRun) (i : ℕ) → SharesEntries c (first_array (arrays_from_place i own)) (first_array (arrays_from_place i others))
     → ShareEntries cs (arrays_from_place (i + 1) own) (arrays_from_place (i + 1) others) → ShareEntries (and_column c cs) (arrays_from_place i own) (arrays_from_place i others)
 unfolding ShareEntries

@@ -5,13 +5,13 @@ use Rattle.std.specs.Prelude.{ℕ, Bool, List, [], ◌∷◌, ◌++◌, if◌the
 abbrev pub within_limits : {A : Type 0} → (A → ℕ) → ℕ → ℕ → List A → Bool
 within_limits weight count total rows = nat_le (length rows) count && nat_le (sum_by weight rows) total
 
--- the pieces, where these rows are in the first of them already
+-- the pieces, if the rows `taken` are in the first of them already
 abbrev pub pieces_from : {A : Type 0} → (List A → Bool) → List A → List A → List (List A)
 pieces_from within taken [] = taken ∷ []
 pieces_from within taken (row ∷ rows) =
     if within (taken ++ row ∷ []) then pieces_from within (taken ++ row ∷ []) rows else taken ∷ pieces_from within (row ∷ []) rows
 
--- the pieces of all rows: none where there is no row
+-- the pieces of all rows; none if there is no row
 abbrev pub pieces : {A : Type 0} → (List A → Bool) → List A → List (List A)
 pieces within [] = []
 pieces within (row ∷ rows) = pieces_from within (row ∷ []) rows

@@ -1,4 +1,4 @@
-// A bound of what rows weigh, for which no slot of a dictionary of texts or binaries is visited.
+// A bound on the weight of rows, for which no slot of a dictionary of texts or binaries is visited.
 ghost use Rattle.std.specs.Prelude.{◌≡◌, ◌∷◌, ◌≤◌, ◌+◌, [], true, drop};
 ghost use Rattle.arrow_schema.specs.Column.{columns_of};
 ghost use Rattle.arrow_schema.specs.View.{column_of, schema_of};
@@ -18,14 +18,14 @@ use arrow_schema::{Field, Schema};
 use cells::{TOO_HEAVY, add_weights, multiply_weight};
 use columns::contents_width;
 
-/// What rows weigh, or a weight that they do not exceed.
+/// The weight of rows, or a weight that they do not exceed.
 #[derive(Clone, Copy)]
 pub(crate) enum Weighed {
     Exactly(u64),
     AtMost(u64),
 }
 
-/// What no row weighs. A bound is kept only where there are columns for which it takes less time.
+/// Returns the weight of no rows: a bound if a column has a dictionary of texts or binaries, otherwise exact. For other columns a bound takes no less time.
 pub(crate) fn nothing_weighed(schema: &Schema) -> Weighed
     ensures { Weighs result 0 }
 {
@@ -37,7 +37,7 @@ pub(crate) fn nothing_weighed(schema: &Schema) -> Weighed
     Weighed::Exactly(0)
 }
 
-// What the first n rows of a run weigh in the column at a place, as weights are reported.
+// Returns the weight of the column at a place in the first `rows` rows of a run. If it is too heavy together with 1 for each row, returns `TOO_HEAVY`.
 fn exact_column(fields: &[Field], field: &Field, run: RowRun<'_>, place: usize, rows: usize) -> u64
     requires field { drop place fields.now ≡ field.now ∷ drop (place + 1) fields.now }
     requires sound { are_sound (fields_of (field.now ∷ [])) (run.from + rows) (arrays_from_place place run) ≡ true }
@@ -52,7 +52,7 @@ fn exact_column(fields: &[Field], field: &Field, run: RowRun<'_>, place: usize, 
         run.from,
         rows,
     );
-    // each row weighs one besides
+    // Without the 1 that each row weighs besides its cells.
     if weight < TOO_HEAVY {
         weight - rows as u64
     } else {
@@ -60,7 +60,8 @@ fn exact_column(fields: &[Field], field: &Field, run: RowRun<'_>, place: usize, 
     }
 }
 
-// The same or more: a value with a dictionary of texts or binaries is taken for as long as its entries are at most.
+// Returns a weight that the column at a place does not exceed in the first `rows` rows of a run. Each value that has a dictionary of texts or binaries is taken
+// to be as long as the longest entry may be.
 fn column_bound(
     fields: &[Field],
     field: &Field,
@@ -80,7 +81,7 @@ fn column_bound(
     }
 }
 
-// The first n rows of a run: one each, and each column by itself.
+// Returns a weight that the first `rows` rows of a run do not exceed: the sum of 1 for each row and of a bound for each column.
 fn columns_bound(fields: &[Field], run: RowRun<'_>, sizes: &[Option<EntrySize>], rows: usize) -> u64
     requires sizes { AreSizesOf run sizes.now }
     requires sound { are_sound (fields_of fields.now) (run.from + run.len) (arrays_from_place 0 run) ≡ true }
@@ -94,8 +95,8 @@ fn columns_bound(fields: &[Field], run: RowRun<'_>, sizes: &[Option<EntrySize>],
     total
 }
 
-/// The first n rows of a run weigh no more than this, as weights are reported. No slot of a dictionary of texts or binaries is visited, if the sizes of its
-/// entries are known.
+/// Returns a weight that the first `rows` rows of a run do not exceed. No slot of a dictionary of texts or binaries is visited, if the sizes of its entries are
+/// known.
 pub(crate) fn front_bound(
     schema: &Schema,
     run: RowRun<'_>,

@@ -1,4 +1,4 @@
-// What each column has of some rows.
+// The slots that each column has in runs of rows.
 ghost use Rattle.std.specs.Prelude.{◌≡◌, true, map, IfOk};
 ghost use Rattle.arrow_schema.specs.Column.{Column};
 ghost use Rattle.columns.specs.Runs.{run_cells, is_run_sound, HaveRuns, are_columns_sound};
@@ -11,7 +11,7 @@ use arrow_schema::Field;
 use columns::{ArrayView, SlotRun};
 use std::alloc::{AllocError, Global};
 
-/// The slots that the column at a place has in a run of rows: a batch without an array for it has no row.
+/// Returns the slots that the column at a place has in a run of rows. A batch without an array for the column has no row.
 pub(crate) fn slots_at<'a>(run: RowRun<'a>, place: usize) -> SlotRun<'a>
     ensures cells { (c : Column) → has_sound_array place c run.entry ≡ true → run_cells c result ≡ cells_at_place place c run.entry }
     ensures sound { (c : Column) → has_sound_array place c run.entry ≡ true → is_run_sound c result ≡ true }
@@ -30,7 +30,7 @@ pub(crate) fn slots_at<'a>(run: RowRun<'a>, place: usize) -> SlotRun<'a>
     }
 }
 
-/// The runs of slots that the column at a place has of some rows.
+/// Returns the runs of slots that the column at a place has in runs of rows.
 pub(crate) fn column_at<'a>(
     alloc: Global,
     runs: &[RowRun<'a>],
@@ -45,10 +45,10 @@ pub(crate) fn column_at<'a>(
     Ok(slots)
 }
 
-/// For each column, the runs of slots that some rows have in it.
+/// Returns for each column the runs of slots that it has in runs of rows.
 ///
 /// # Errors
-/// `AllocError` where memory was refused.
+/// `AllocError` if memory was refused.
 pub fn column_runs<'a>(
     alloc: Global,
     fields: &[Field],

@@ -1,4 +1,4 @@
-// For how many rows of a run the dictionaries of columns have room, column by column, where no column is a list or a struct.
+// For how many rows of a run the dictionaries of columns have room, column by column, if no column is a list or a struct.
 ghost use Rattle.std.specs.Prelude.{◌≡◌, ◌≤◌, ◌++◌, ◌∷◌, [], ℕ, true, Some, IfOk, length, map};
 ghost use Rattle.std.specs.List.{flat_map};
 ghost use Rattle.arrow_schema.specs.Column.{Column};
@@ -16,7 +16,7 @@ use cells::entry_limit;
 use dictionary_codes::{KnownEntries, name_slots};
 use std::alloc::{AllocError, Global};
 
-/// Whether there are no lists or structs.
+/// Returns whether no field is a list or a struct.
 #[tactic(auto, unfolding(crate::specs::inner::Fit::are_flat))]
 pub(crate) fn are_flat(fields: &[Field]) -> bool
     ensures { result ≡ are_flat (fields_of fields.now) }
@@ -29,7 +29,7 @@ pub(crate) fn are_flat(fields: &[Field]) -> bool
     true
 }
 
-// Whether runs have no more rows than n.
+// Returns whether runs have at most `most` rows together.
 fn are_few(runs: &[RowRun<'_>], most: usize) -> bool
     ensures { result ≡ true → (place : ℕ) (c : Column) → length (flat_map (cells_at_place place c) runs.now) ≤ most }
 {
@@ -43,7 +43,7 @@ fn are_few(runs: &[RowRun<'_>], most: usize) -> bool
     true
 }
 
-// The entries that the column at a place has in the rows of a piece, whose dictionaries have room for them.
+// Returns the entries, at most `most`, that the column at a place has in the rows of a piece.
 fn piece_entries<'a>(
     alloc: Global,
     field: &'a Field,
@@ -71,7 +71,8 @@ fn piece_entries<'a>(
     Ok(entries)
 }
 
-// For how many rows of a run, which follows a piece, the dictionary of the column at a place has room: for all of few rows, which have no more values.
+// Returns for how many rows of a run, which follows a piece, the dictionary of the column at a place has room. If they are few together, no slot is visited:
+// they have no more values than rows.
 fn coded_column_room<'a>(
     alloc: Global,
     field: &'a Field,
@@ -99,7 +100,7 @@ fn coded_column_room<'a>(
     }
 }
 
-// The same of any column at a place.
+// Returns for how many rows of a run, which follows a piece, the column at a place has room.
 fn column_room<'a>(
     alloc: Global,
     field: &'a Field,
@@ -119,7 +120,7 @@ fn column_room<'a>(
     }
 }
 
-/// For how many rows of a run, which follows a piece, the dictionaries of all columns have room.
+/// Returns for how many rows of a run, which follows a piece, the dictionaries of all columns have room.
 pub(crate) fn columns_room<'a>(
     alloc: Global,
     fields: &'a [Field],

@@ -21,17 +21,17 @@ use cells::{MAX_PIECE_ROWS, MAX_PIECE_WEIGHT};
 use columns::{ArrayView, OffsetWidth, PlacedArray, array_or, contents_width, no_array, offset_at};
 use std::alloc::AllocError;
 
-// For how many entries a row pays, where the longest is searched: they are visited in order, and not looked up, as to weigh the row would.
+// For each row of a run, how many entries may be visited to find the longest. They are visited in order. To weigh the row, an entry would be looked up.
 const ENTRIES_PER_ROW: usize = 2;
 
-/// How many bytes an entry of a dictionary has at most, where its offsets have this width.
+/// How many bytes an entry of a dictionary has at most, if its offsets have this width.
 #[derive(Clone, Copy)]
 pub(crate) struct EntrySize {
     pub(crate) width: OffsetWidth,
     pub(crate) size: u64,
 }
 
-// How many bytes the longest text or binary of an array has, by its offsets.
+// Returns how many bytes the longest text or binary of an array has, by its offsets.
 fn longest(offsets: &[u8], width: OffsetWidth, slots: usize) -> u64
     requires { (slots + 1) * width_of width ≤ length offsets.now }
     ensures { (i : ℕ) → i < slots → number_at (width_of width) offsets.now (i + 1) - number_at (width_of width) offsets.now i ≤ result }
@@ -45,8 +45,8 @@ fn longest(offsets: &[u8], width: OffsetWidth, slots: usize) -> u64
     longest
 }
 
-// How many bytes an entry of one array has at most. All together have no less than the longest, which is searched where they have more than n bytes, unless
-// there are too many entries for so many rows.
+// Returns how many bytes an entry of one array has at most: as many as all together, if these are at most `short`, or if there are too many entries for `rows`
+// rows; otherwise the size of the longest, which is searched.
 fn entry_size(width: OffsetWidth, entries: ArrayView<'_>, rows: usize, short: u64) -> u64
     requires { not (are_few_offsets (width_of width) (view_array entries)) ≡ true }
     ensures { AreNoLonger (width_of width) result (arrays_of (view_array entries.entry ∷ [])) }
@@ -59,7 +59,7 @@ fn entry_size(width: OffsetWidth, entries: ArrayView<'_>, rows: usize, short: u6
     longest(entries.offsets(), width, count)
 }
 
-// The same of a dictionary, if its entries are in one array.
+// Returns the size of the entries of a dictionary; `None` unless they are in one array.
 fn dictionary_size(
     width: OffsetWidth,
     view: ArrayView<'_>,
@@ -83,7 +83,7 @@ fn dictionary_size(
     }
 }
 
-// The same of the column at a place, if it has such a dictionary of texts or binaries.
+// Returns the size of the entries of the column at a place; `None` unless it has a dictionary of texts or binaries, in one array.
 fn column_size(
     field: &Field,
     run: RowRun<'_>,
@@ -106,7 +106,7 @@ fn column_size(
     }
 }
 
-// Those of each column of a run, in order.
+// Appends the sizes of the entries of each column of a run, in order.
 fn add_sizes(
     sizes: &mut Vec<Option<EntrySize>>,
     fields: &[Field],
@@ -124,8 +124,8 @@ fn add_sizes(
     Ok(())
 }
 
-/// Finds the sizes for each column of a run, unless they are known, or rows are weighed without them. So they are found once for all pieces that the run is
-/// cut into, and an entry is visited only if its dictionary has no more than [`ENTRIES_PER_ROW`] entries for each row of the run.
+/// Finds the sizes for each column of a run, unless they are known or the rows are weighed without them. So they are found once for all pieces into which the
+/// run is cut, and an entry is visited only if its dictionary has at most [`ENTRIES_PER_ROW`] entries for each row of the run.
 pub(crate) fn keep_sizes(
     sizes: &mut Vec<Option<EntrySize>>,
     schema: &Schema,
@@ -151,7 +151,7 @@ fn are_same(a: OffsetWidth, b: OffsetWidth) -> bool
     }
 }
 
-/// The size that is known for the column at a place, if it has a dictionary of texts or binaries.
+/// Returns the size that is known for the entries of the column at a place; `None` unless it has a dictionary of texts or binaries.
 pub(crate) fn size_at(field: &Field, sizes: &[Option<EntrySize>], place: usize) -> Option<u64>
     ensures { IfSome result (λ size. (run : RowRun) → AreSizesOf run sizes.now
         → (i : ℕ) → weight (column_of field.now) (cell_at (column_of field.now) (array_at place run) i) ≤ 1 + size) }

@@ -7,7 +7,7 @@ ghost use Rattle.table_cut.specs.inner.Filling.{can_exceed, can_fill, can_kind_f
 use arrow_schema::{DataType, DictSpec, Field, Schema};
 use cells::entry_limit;
 
-// Whether n values, or any number of them, can be more than the indices of a dictionary name.
+// Returns whether so many values (`None` is any number) can be more than the indices of a dictionary name.
 fn can_exceed(values: Option<usize>, dictionary: Option<DictSpec>) -> bool
     ensures { result ≡ can_exceed values (option_map index_of dictionary) }
 {
@@ -57,7 +57,7 @@ fn can_any_fill(fields: &[Field], values: Option<usize>) -> bool
     false
 }
 
-/// Whether n rows can fill a dictionary of a schema. In any other they have no more values than its indices can name.
+/// Returns whether `rows` rows can fill a dictionary of a schema. If not, they have no more values than its indices can name.
 pub(crate) fn can_rows_fill(schema: &Schema, rows: usize) -> bool
     ensures { result ≡ can_rows_fill rows (columns_of (schema_of schema.now).columns) }
 {

@@ -15,14 +15,14 @@ use arrays::row_span_weight;
 use arrow_schema::Schema;
 use cells::{MAX_PIECE_WEIGHT, add_weights};
 
-/// How many rows, and what a piece weighs with them.
+/// How many rows, and the weight of a piece with them.
 #[derive(Clone, Copy)]
 pub(crate) struct Taken {
     pub(crate) rows: usize,
     pub(crate) weight: Weighed,
 }
 
-// The first n rows of a run.
+// Returns the weight of the first `rows` rows of a run.
 fn front_weight(schema: &Schema, run: RowRun<'_>, rows: usize) -> u64
     requires sound { is_run_sound (columns_of (schema_of schema.now).columns) run ≡ true }
     requires within { rows ≤ run.len }
@@ -38,7 +38,7 @@ fn front_weight(schema: &Schema, run: RowRun<'_>, rows: usize) -> u64
     )
 }
 
-// One row of a run.
+// Returns the weight of row `i` of a run.
 fn weight_at(schema: &Schema, run: RowRun<'_>, i: usize) -> u64
     requires sound { is_run_sound (columns_of (schema_of schema.now).columns) run ≡ true }
     requires within { i < run.len }
@@ -54,8 +54,8 @@ fn weight_at(schema: &Schema, run: RowRun<'_>, i: usize) -> u64
     )
 }
 
-// The rows of a run that a piece has room for, which may have n rows more and weighs just so much before them: all of them together, or else one after
-// another.
+// Returns how many rows of a run fit into a piece that weighs exactly `before` and may get `room` more rows. They are weighed together first, and one by one
+// only if that is too heavy.
 fn fitting_exactly(schema: &Schema, run: RowRun<'_>, room: usize, before: u64) -> Taken
     requires sound { is_run_sound (columns_of (schema_of schema.now).columns) run ≡ true }
     requires light { before ≤ MAX_PIECE_WEIGHT }
@@ -92,7 +92,7 @@ fn fitting_exactly(schema: &Schema, run: RowRun<'_>, room: usize, before: u64) -
     }
 }
 
-// What the rows of some runs weigh, as weights are reported.
+// Returns the weight of the rows of runs.
 fn runs_weight(schema: &Schema, runs: &[RowRun<'_>]) -> u64
     requires { are_runs_sound (columns_of (schema_of schema.now).columns) runs.now ≡ true }
     ensures { result ≡ capped_weight (piece_weight (schema_of schema.now) runs.now) }
@@ -104,7 +104,7 @@ fn runs_weight(schema: &Schema, runs: &[RowRun<'_>]) -> u64
     total
 }
 
-// What a piece weighs: where only a bound is known, its rows are weighed.
+// Returns the weight of a piece. If only a bound is known, its rows are weighed.
 fn exact_weight(schema: &Schema, piece: &[RowRun<'_>], known: Weighed) -> u64
     requires sound { are_runs_sound (columns_of (schema_of schema.now).columns) piece.now ≡ true }
     requires weighed { Weighs known (piece_weight (schema_of schema.now) piece.now) }
@@ -117,8 +117,8 @@ fn exact_weight(schema: &Schema, piece: &[RowRun<'_>], known: Weighed) -> u64
     }
 }
 
-/// The rows of a run that a piece has room for, which may have n rows more. While a bound shows that the piece is light enough, no slot of a dictionary is
-/// visited; from the first run on for which it does not, the rows are weighed.
+/// Returns how many rows of a run fit into a piece that may get `room` more rows. While a bound shows that the piece is light enough, no slot of a dictionary
+/// is visited. From the first run on for which it does not, the rows are weighed.
 pub(crate) fn fitting(
     schema: &Schema,
     piece: &[RowRun<'_>],

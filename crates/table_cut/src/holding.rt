@@ -59,7 +59,7 @@ fn parts_at<'a>(
     Ok(parts)
 }
 
-// The field's own cells, where it has a dictionary.
+// Adds the cells of a field itself, if it has a dictionary.
 fn hold_own<'a>(
     alloc: Global,
     held: &mut Vec<Held<'a>>,
@@ -80,7 +80,7 @@ fn hold_own<'a>(
     }
 }
 
-// Where the field has these cells: its own, and those of all fields below it, in preorder.
+// Adds the cells of each dictionary column at and below a field that has these cells, in preorder.
 #[tactic(auto, using(crate::proofs::SeenLemmas::held_append), unfolding(cells::specs::Dictionary::holdings))]
 #[cycle(holdings)]
 fn hold_field<'a>(
@@ -148,7 +148,7 @@ fn hold_parts<'a>(
     Ok(())
 }
 
-// The cell of a field at its place in one row, and those of all fields below it. No vector is made of one value.
+// Adds the cells of each dictionary column at and below a field in one row. No vector is made for the row's one value.
 fn hold_cell<'a>(
     alloc: Global,
     held: &mut Vec<Held<'a>>,
@@ -165,7 +165,7 @@ fn hold_cell<'a>(
     }
 }
 
-/// The cells of the dictionary columns of a row, in preorder.
+/// Returns the cells of the dictionary columns of a row, in preorder.
 #[tactic(auto, using(crate::proofs::SeenLemmas::held_append), unfolding(cells::specs::Dictionary::holdings_from))]
 pub(crate) fn held_in_row<'a>(
     alloc: Global,

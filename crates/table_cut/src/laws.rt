@@ -10,15 +10,15 @@ ghost use Rattle.table_cut.specs.CutRows.{HasNoRoom, IsCut};
 ghost use Rattle.table_cut.specs.Piece.{pieces_of, within_piece};
 ghost use Rattle.values.specs.Table.{IsTable};
 
-/// The cut of a table's rows by what it is: joined, the pieces are the rows; none is empty, each is within the limits of a piece, and none has room for the
+/// States what the cut of a table's rows is: joined, the pieces are the rows; none is empty, each is within the limits of a piece, and none has room for the
 /// row that follows it. There is no other such cut.
 pub fn pieces_are_the_cut()
     ensures cut { (t : PlainTable) → IsTable t → IsCut (within_piece t.schema) t.rows (pieces_of t) }
     ensures only { (t : PlainTable) (pieces : List (List (List Cell))) → IsCut (within_piece t.schema) t.rows pieces → pieces ≡ pieces_of t }
 {}
 
-/// The next piece by what it is. `next`: rows within the limits of a piece that have no room for the row that follows them; `unlimited`: where no
-/// dictionary has a limit, only how many they are counts, and what they weigh.
+/// States what the next piece is. `next`: rows within the limits of a piece that have no room for the row that follows them. `unlimited`: if no dictionary has
+/// a limit, only the number of the rows counts, and their weight.
 pub fn longest_fronts_are_pieces()
     ensures next { (s : PlainSchema) (piece rest : List (List Cell)) → piece ≢ [] → within_piece s piece ≡ true
         → HasNoRoom (within_piece s) piece rest

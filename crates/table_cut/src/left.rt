@@ -29,17 +29,17 @@ use columns::PlacedArray;
 use std::alloc::{AllocError, Global};
 use values::TablePart;
 
-/// The rows of a table that is kept in record batches, of which the first are in pieces already.
+/// The rows of a table kept in record batches that are in no piece yet.
 #[derive(Drop)]
 pub struct RowsLeft<'a> {
     pub(crate) runs: Vec<RowRun<'a>>,
     pub(crate) next: usize,
-    // of the entries of the next run's dictionaries, once a piece was begun with it
+    // The sizes of the entries of the next run's dictionaries, once a piece was begun with it.
     pub(crate) sizes: Vec<Option<EntrySize>>,
     ghost known: { AreSizesAt next runs.items sizes.items } by { Prim.hlevel props },
 }
 
-/// The rows of a piece, as runs, and how many they are.
+/// The rows of a piece as runs, and how many rows these are.
 #[derive(Drop)]
 pub struct RunPiece<'a> {
     pub runs: Vec<RowRun<'a>>,
@@ -58,7 +58,7 @@ fn push_run<'a>(runs: &mut Vec<RowRun<'a>>, run: RowRun<'a>) -> Result<(), Alloc
     Ok(())
 }
 
-// All rows of a batch of a part, which has n.
+// Returns all rows of a batch, of which there are `rows`, as a run.
 fn whole_batch<'a>(part: &'a TablePart, arrays: &'a [PlacedArray], rows: usize) -> RowRun<'a>
     ensures rows { (columns : Columns)
         → run_rows columns result ≡ rows_in columns (placed_arrays part.now.bytes.items part.now.dictionaries.items arrays.now) rows }
@@ -88,10 +88,10 @@ fn add_part<'a>(runs: &mut Vec<RowRun<'a>>, part: &'a TablePart) -> Result<(), A
 impl<'a> RowsLeft<'a> {
     ghost use Rattle.table_cut.specs.Left.{runs_left, rows_left};
 
-    /// All rows.
+    /// Returns all rows of the parts, none of them in a piece yet.
     ///
     /// # Errors
-    /// `AllocError` where memory was refused.
+    /// `AllocError` if memory was refused.
     pub fn new(alloc: Global, parts: &'a [TablePart]) -> Result<RowsLeft<'a>, AllocError>
         ensures rows { IfOk result (λ left. (columns : Columns) → rows_left columns left ≡ parts_rows columns parts.now) }
         ensures sound { IfOk result (λ left. (columns : Columns) → are_parts_sound columns parts.now ≡ true
@@ -104,7 +104,7 @@ impl<'a> RowsLeft<'a> {
         Ok(RowsLeft::of_runs(runs))
     }
 
-    /// The rows of runs that are given.
+    /// Returns the rows of runs, none of them in a piece yet.
     pub fn of_runs(runs: Vec<RowRun<'a>>) -> RowsLeft<'a>
         ensures { runs_left result ≡ runs.entry.items }
     {
@@ -116,13 +116,15 @@ impl<'a> RowsLeft<'a> {
         }
     }
 
-    /// The rows of the next piece: the longest front of the rows that are left which is within the limits of a piece. It takes time linear in the runs of
-    /// the piece, and for a piece that is too heavy with one run more, in the rows of that run; and once for each run linear in its rows, for the entries of
-    /// its dictionaries. If its rows have several dictionaries and can fill one, with 8 bit indices, or below a list with 16 bit ones, it also takes time
-    /// linear in the cells of all its rows, for each of its first such runs anew.
+    /// Returns the rows of the next piece: the longest front of the rows that are left which is within the limits of a piece. A row must be left, and
+    /// all that are left must be rows of this schema.
+    ///
+    /// It takes time linear in the runs of the piece; if one more run makes the piece too heavy, also in the rows of that run; and once for each run, for the
+    /// entries of its dictionaries, in its rows. If the rows of a piece have several dictionaries and can fill one (with 8-bit indices, or with 16-bit ones
+    /// below a list), it also takes time linear in the cells of all its rows, for each of its first such runs anew.
     ///
     /// # Errors
-    /// `AllocError` where memory was refused. It is not promised then which rows are left: a caller that tries again begins with [`RowsLeft::new`].
+    /// `AllocError` if memory was refused. Then it is not promised which rows are left: a caller that tries again begins with [`RowsLeft::new`].
     pub fn next_piece(&mut self, alloc: Global, schema: &Schema) -> Result<RunPiece<'a>, AllocError>
         requires schema { IsWithinLimits (schema_of schema.now) }
         requires sound { are_runs_sound (columns_of (schema_of schema.now).columns) (runs_left self.old) ≡ true }

@@ -1,21 +1,21 @@
 //! The cut of a table's rows into pieces: each is written as one record batch of a canonical stream.
 //!
-//! [`next_piece`] has the longest front of the rows that are left which is within the limits: at most 4,096 rows, a weight of at most 16,777,216,
-//! and in no dictionary more values than its indices can name. It borrows the rows, and weighs each once, but for the first of the next piece.
-//! [`first_unfit_row`] gives which row of a table another schema of its shape does not take: rows are borrowed only where a dictionary of 8 or 16 bit
-//! indices is below a list.
+//! [`next_piece`] returns the longest front of the rows that are left which is within the limits: at most 4,096 rows, a weight of at most 16,777,216,
+//! and in no dictionary more values than its indices can name. It borrows the rows, and weighs each once, except the first of the next piece.
+//! [`first_unfit_row`] returns the first row of a table that another schema of its shape does not take. Rows are borrowed only if a dictionary of 8-bit or
+//! 16-bit indices is below a list.
 //!
 //! ```ignore
 //! let piece = next_piece(alloc, table.schema(), &table, from)?;
 //! from += piece.len();
 //! ```
 //!
-//! [`RowsLeft`] cuts a table that is kept in record batches into the same pieces, as runs of its rows, and [`column_runs`] gives what each column has of
-//! them. Where a piece ends is found from the weights of spans of rows ([`arrays::row_span_weight`]), unless a bound shows that all rows that it may have
-//! are light enough (`bound.rt`); for it the longest entry of a dictionary is found once for all pieces that a run is cut into (`entry_sizes.rt`). Only a
-//! dictionary of 8 bit indices, or one of 16 bit indices below a list, can be full within a piece (`filling.rt`). Where there is one, and a piece has rows
-//! under several dictionaries, the end is the least row over its columns for whose entry a dictionary has no room ([`dictionary_codes::name_slots`]). Rows are
-//! borrowed only where there are lists or structs besides, or many such dictionaries in one piece.
+//! [`RowsLeft`] cuts a table that is kept in record batches into the same pieces, as runs of its rows, and [`column_runs`] returns the slots that each column
+//! has in them. The end of a piece is found from the weights of spans of rows ([`arrays::row_span_weight`]), unless a bound shows that all rows that it may
+//! have are light enough (`bound.rt`). For the bound, the longest entry of a dictionary is found once for all pieces into which a run is cut
+//! (`entry_sizes.rt`). Only a dictionary of 8-bit indices, or one of 16-bit indices below a list, can be full within a piece (`filling.rt`). If there is one,
+//! and a piece has rows under several dictionaries, the end is the least row over its columns for whose entry a dictionary has no room
+//! ([`dictionary_codes::name_slots`]). Rows are borrowed only if there are lists or structs too, or many such dictionaries in one piece.
 //!
 //! ```ignore
 //! let mut left = RowsLeft::new(alloc, parts)?;

@@ -20,11 +20,11 @@ pub(crate) fn row_at(table: &Table, place: usize) -> Values<'_>
     table.row(place).unwrap()
 }
 
-/// The rows of the next piece, where the rows before a place are in pieces already: the longest front of the rows that are left which is within the
-/// limits of a piece, as rows of this schema. Refused only where a growth was.
+/// Returns the rows of the next piece, if those before row `from` are in pieces already: the longest front of the rows that are left which is within the limits
+/// of a piece, as rows of this schema. A row must be left: `from` is less than `table.len()`.
 ///
 /// # Errors
-/// `AllocError` where memory was refused.
+/// `AllocError` if memory was refused.
 pub fn next_piece<'a>(
     alloc: Global,
     schema: &Schema,
@@ -41,7 +41,7 @@ pub fn next_piece<'a>(
     let limited = has_limits(schema);
     let rows = table.len();
     let first = row_at(table, from);
-    // room for as many rows as a piece may have, and no more than are left
+    // Room for as many rows as a piece may have, but not for more than are left.
     let mut piece = Vec::with_capacity(alloc, MAX_PIECE_ROWS.min(rows - from))?;
     piece.push(first).unwrap();
     let mut weight = row_weight(schema, first);

@@ -26,30 +26,30 @@ use columns::row;
 use std::alloc::{AllocError, Global};
 use values::Values;
 
-// For how many runs of a piece its columns are visited, each time from its first row on.
+// For how many runs of a piece its columns are visited, each time from its first row on. After that its rows are visited.
 const MOST_TRIED: usize = 16;
 
 /// What is known of the entries that dictionaries have in the rows of a piece.
 #[derive(Drop)]
 pub(crate) enum Seen<'a> {
-    /// There is no row.
+    /// The piece has no row.
     Nothing,
-    /// All rows have, in each dictionary whose indices can name only some, the entries that those of this run have.
+    /// In each dictionary whose indices can name only some entries, all rows have the entries of this run's dictionary.
     Shared(RowRun<'a>),
-    /// The columns of all rows were visited, for n runs.
+    /// The columns of all rows were visited, for so many runs.
     Columns(usize),
     /// Each row was visited.
     Rows(SeenRows<'a>),
 }
 
-/// How many rows of a run there is room for, and what is known where that is all of them.
+/// How many rows of a run there is room for, and what is known of the entries if that is all of them.
 #[derive(Drop)]
 pub(crate) struct Room<'a> {
     pub(crate) rows: usize,
     pub(crate) seen: Seen<'a>,
 }
 
-// A byte is below 256: a contract knows it of a slice that it is given.
+// States that each byte is below 256, which a contract knows of a slice that is passed.
 fn are_bytes(bytes: &[u8])
     ensures { AreBytes bytes.now }
 {}
@@ -69,7 +69,7 @@ fn row_of<'a>(schema: &'a Schema, run: RowRun<'a>, i: usize) -> Values<'a>
     )
 }
 
-// Goes through the rows of a run.
+// Adds the entries of the rows of a run.
 fn see_rows<'a>(
     alloc: Global,
     schema: &'a Schema,
@@ -88,7 +88,7 @@ fn see_rows<'a>(
     Ok(())
 }
 
-// Goes through the rows of some runs.
+// Returns the entries of the rows of runs.
 fn see_runs<'a>(
     alloc: Global,
     schema: &'a Schema,
@@ -105,7 +105,7 @@ fn see_runs<'a>(
     Ok(seen)
 }
 
-// Goes through the rows of a run up to the first one that there is no room for, and says how many there is room for.
+// Adds the entries of the rows of a run, up to the first row for which there is no room; returns how many rows there is room for.
 fn take_rows<'a>(
     alloc: Global,
     schema: &'a Schema,
@@ -128,7 +128,7 @@ fn take_rows<'a>(
     Ok(run.len)
 }
 
-// The same of a run after rows that were visited.
+// Returns for how many rows of a run there is room after rows that were visited.
 fn room_after<'a>(
     alloc: Global,
     schema: &'a Schema,
@@ -149,7 +149,7 @@ fn room_after<'a>(
     })
 }
 
-// Where all rows have the entries that those of one run have, indices name no more of them than they can: there is room for all rows of a run more.
+// Returns that there is room for all rows of a run, if these and all rows before have the entries of one run: its indices can name them.
 fn room_sharing<'a>(schema: &Schema, first: RowRun<'a>, run: RowRun<'a>) -> Room<'a>
     requires schema { IsWithinLimits (schema_of schema.now) }
     requires shares { let columns = columns_of (schema_of schema.now).columns in ShareEntries columns (arrays_of_run first) (arrays_of_run run) }
@@ -164,7 +164,7 @@ fn room_sharing<'a>(schema: &Schema, first: RowRun<'a>, run: RowRun<'a>) -> Room
     }
 }
 
-// A run alone has the entries of its own dictionaries.
+// Returns that there is room for all rows of a run by itself: it has the entries of its own dictionaries.
 fn room_alone<'a>(schema: &Schema, run: RowRun<'a>) -> Room<'a>
     requires schema { IsWithinLimits (schema_of schema.now) }
     ensures { IsRoom (schema_of schema.now) [] run.entry result }
@@ -173,7 +173,7 @@ fn room_alone<'a>(schema: &Schema, run: RowRun<'a>) -> Room<'a>
     room_sharing(schema, run, run)
 }
 
-// How many rows of a run there is room for after a piece, where no column is a list or a struct.
+// Returns for how many rows of a run there is room after a piece, if no column is a list or a struct.
 fn rows_after<'a>(
     alloc: Global,
     schema: &'a Schema,
@@ -187,7 +187,8 @@ fn rows_after<'a>(
     columns_room(alloc, &schema.fields, piece, run)
 }
 
-// The same after a piece of which that is found by columns, unless it was for many of its runs; else its rows are visited.
+// Returns for how many rows of a run there is room after a piece. Its columns are visited for that, or its rows if a column is nested, or if its columns were
+// visited for many runs.
 fn room_anew<'a>(
     alloc: Global,
     schema: &'a Schema,
@@ -210,7 +211,7 @@ fn room_anew<'a>(
     room_after(alloc, schema, seen, run)
 }
 
-// The same after a piece, all of whose rows have the entries that those of one run have.
+// Returns for how many rows of a run there is room after a piece, all of whose rows have the entries of run `first`.
 fn room_after_shared<'a>(
     alloc: Global,
     schema: &'a Schema,
@@ -229,7 +230,7 @@ fn room_after_shared<'a>(
     room_anew(alloc, schema, 0, piece, run)
 }
 
-// How many rows of a run the dictionaries of a piece have room for, after the rows that it has.
+// Returns for how many rows of a run there is room after a piece whose rows can fill a dictionary.
 fn room_for<'a>(
     alloc: Global,
     schema: &'a Schema,
@@ -250,8 +251,8 @@ fn room_for<'a>(
     }
 }
 
-/// How many rows of a run the dictionaries of a piece have room for, after the rows that it has: where the rows of a piece can fill no dictionary, or the
-/// run has no row, nothing is asked.
+/// Returns for how many rows of a run the dictionaries have room after a piece. If the rows of a piece can fill no dictionary, or the run has no row, no row is
+/// visited.
 pub(crate) fn room_within<'a>(
     alloc: Global,
     schema: &'a Schema,

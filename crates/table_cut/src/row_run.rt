@@ -1,9 +1,9 @@
-// Rows of a record batch, one after another.
+// Consecutive rows of a record batch.
 ghost use Rattle.std.specs.Prelude.{◌+◌, ◌<◌, ◌^◌};
 
 use columns::{Dictionary, PlacedArray};
 
-/// n rows of a record batch, from one on: its arrays, the bytes in which they are, and its dictionaries.
+/// `len` rows of a record batch, from row `from` on: its arrays, the bytes in which they are, and its dictionaries.
 #[derive(Clone, Copy)]
 pub struct RowRun<'a> {
     pub arrays: &'a [PlacedArray],
@@ -19,7 +19,7 @@ impl<'a> RowRun<'a> {
     ghost use Rattle.arrow_schema.specs.Column.{Columns};
     ghost use Rattle.table_cut.specs.Rows.{arrays_of_run, run_rows, is_run_sound};
 
-    /// The first of these rows.
+    /// Returns the first `len` of these rows.
     pub fn front(self, len: usize) -> RowRun<'a>
         requires { len ≤ self.len }
         ensures arrays { arrays_of_run result ≡ arrays_of_run self.entry }
@@ -37,7 +37,7 @@ impl<'a> RowRun<'a> {
         }
     }
 
-    /// The rows after the first of these.
+    /// Returns the rows after the first `len` of these.
     pub fn skip(self, len: usize) -> RowRun<'a>
         requires { len ≤ self.len }
         ensures arrays { arrays_of_run result ≡ arrays_of_run self.entry }

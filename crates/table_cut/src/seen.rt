@@ -27,7 +27,7 @@ fn note_all<'a>(
     Ok(())
 }
 
-// A set of entries for each dictionary column.
+// Returns a set of the entries of each dictionary column.
 fn begin<'a>(alloc: Global, held: &[Held<'a>]) -> Result<Vec<IndexSet<Entry<'a>>>, AllocError>
     ensures { IfOk result (λ sets. map entries_in sets.items ≡ map entries_held (map held_in held.now)) }
 {
@@ -72,7 +72,7 @@ fn are_within(sets: &[IndexSet<Entry<'_>>], held: &[Held<'_>]) -> bool
     true
 }
 
-/// The entries of a piece's first row, of each dictionary column: none where no dictionary has a limit.
+/// Returns the entries of a piece's first row, a set for each dictionary column; no set if no dictionary has a limit.
 pub(crate) fn first_entries<'a>(
     alloc: Global,
     schema: &Schema,
@@ -89,7 +89,7 @@ pub(crate) fn first_entries<'a>(
     begin(alloc, &held)
 }
 
-/// Whether the dictionaries have room for a row more. Its entries are then among those of the rows before.
+/// Adds the entries of one more row, and returns whether the dictionaries have room for it.
 pub(crate) fn takes_row<'a>(
     alloc: Global,
     schema: &Schema,
@@ -112,7 +112,7 @@ pub(crate) fn takes_row<'a>(
     Ok(are_within(sets, &held))
 }
 
-/// Whether the dictionaries have room for a row by itself.
+/// Returns whether the dictionaries have room for a row by itself.
 pub(crate) fn fits_dictionaries(
     alloc: Global,
     schema: &Schema,

@@ -22,17 +22,17 @@ pub struct SeenRows<'a> {
 impl<'a> SeenRows<'a> {
     ghost use Rattle.table_cut.specs.SeenRows.{HaveSeen};
 
-    /// Those of no row.
+    /// Returns the entries of no row.
     pub fn none() -> SeenRows<'a>
         ensures { (s : PlainSchema) → HaveSeen s [] result }
     {
         SeenRows { sets: None }
     }
 
-    /// Adds those of a row more, and answers whether the dictionaries have room for all of these rows.
+    /// Adds the entries of one more row, and returns whether the dictionaries have room for all of these rows.
     ///
     /// # Errors
-    /// `AllocError` where memory was refused. It is not promised then which entries it has: a caller that tries again begins with [`SeenRows::none`].
+    /// `AllocError` if memory was refused. Then it is not promised which entries it has: a caller that tries again begins with [`SeenRows::none`].
     pub fn take(
         &mut self,
         alloc: Global,

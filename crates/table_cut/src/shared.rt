@@ -1,4 +1,4 @@
-// Whether runs of rows have the same entries in their dictionaries, where indices can name only some.
+// Whether runs of rows have the same entries in the dictionaries whose indices can name only some.
 ghost use Rattle.std.specs.Prelude.{◌≡◌, true, length, map};
 ghost use Rattle.arrays.specs.Shared.{SharesEntries, SharesBelow, ShareEntries};
 ghost use Rattle.arrow_schema.specs.Column.{columns_of};
@@ -14,12 +14,12 @@ use cells::entry_limit;
 use columns::{ArrayView, PlacedArray, array_or, no_array};
 use dictionary_codes::{Compared, is_same_dictionary};
 
-// Buffers with more bytes than these together, of which the second are for each row, are not compared: the rows are visited.
+// A buffer is compared only if it has at most `LEAST_COMPARED` bytes, and `COMPARED_PER_ROW` for each row. Otherwise the rows are visited.
 const LEAST_COMPARED: usize = 16_384;
 
 const COMPARED_PER_ROW: usize = 64;
 
-// The arrays below that of structs.
+// Returns the arrays below an array of structs, as those of a run without rows.
 fn children_of<'a>(view: ArrayView<'a>) -> RowRun<'a>
     ensures { arrays_of_run result ≡ children_in (view_array view.entry) }
 {
@@ -43,7 +43,7 @@ fn view_at<'a>(run: RowRun<'a>, i: usize, none: &'a PlacedArray) -> ArrayView<'a
     }
 }
 
-// Whether an array has the entries of another.
+// Returns whether an array is known to have the entries of another.
 #[tactic(auto, unfolding(arrays::specs::Shared::SharesEntries))]
 #[cycle(shared)]
 fn shares_entries(
@@ -121,7 +121,7 @@ fn share_entries(
     true
 }
 
-/// Whether the arrays of a run are known to have the entries of those of another. Where dictionaries are large beside the rows, that is not asked.
+/// Returns whether the arrays of a run are known to have the entries of those of another. Dictionaries that are large beside the rows are not compared.
 pub(crate) fn runs_share_entries(fields: &[Field], own: RowRun<'_>, others: RowRun<'_>) -> bool
     ensures { result ≡ true → ShareEntries (columns_of (map column_of fields.now)) (arrays_of_run own.entry) (arrays_of_run others.entry) }
 {

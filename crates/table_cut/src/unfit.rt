@@ -12,11 +12,11 @@ use arrow_schema::Schema;
 use std::alloc::{AllocError, Global};
 use values::Table;
 
-/// The first row of a table, counted from 0, that tables of another schema of its shape don't take: it fills a dictionary of that schema. What fits
-/// and what it weighs does not depend on dictionaries. Refused only where a growth was.
+/// Returns the first row of a table, counted from 0, that tables of another schema of its shape do not take; `None` if they take all. Such a row fills a
+/// dictionary of that schema: what fits and what it weighs does not depend on dictionaries.
 ///
 /// # Errors
-/// `AllocError` where memory was refused.
+/// `AllocError` if memory was refused.
 pub fn first_unfit_row(
     alloc: Global,
     schema: &Schema,
@@ -25,6 +25,7 @@ pub fn first_unfit_row(
     requires { HaveOneShape (schema_of schema.now) (table_of table.now).schema }
     ensures { IfOk result (λ found. found ≡ first_unfit (schema_of schema.now) (table_of table.now).rows) }
 {
+    // For the proof: this call states what is true of every table.
     table.schema();
     if !can_rows_fill(schema, 1) {
         return Ok(None);

@@ -1,4 +1,4 @@
-// How much values and rows weigh that are borrowed.
+// The weights of borrowed values and rows, capped at `TOO_HEAVY` as all weights are.
 ghost use Rattle.std.specs.Prelude.{◌≡◌, map, get_or};
 ghost use Rattle.arrow_schema.specs.Column.{columns_of};
 ghost use Rattle.arrow_schema.specs.View.{kind_of, column_of, schema_of};
@@ -20,7 +20,7 @@ fn byte_count(value: ValueRef<'_>) -> u64
     }
 }
 
-/// The weight of a field's value, by its type, as weights are reported.
+// Returns the weight of a field's value.
 #[tactic(auto, unfolding(cells::specs::Weight::weight))]
 #[cycle(weight)]
 fn weight(field: &Field, value: ValueRef<'_>) -> u64
@@ -73,7 +73,7 @@ fn items_weight(item: &Field, items: Values<'_>) -> u64
     total
 }
 
-// A null fixed list is not visited: its size is the type's word alone.
+// Returns the weight of the items of a fixed list. Those of a null one are not visited: their number is in the type.
 #[tactic(auto, using(cells::specs::laws::Weights::capped_product))]
 #[cycle(weight)]
 fn fixed_weight(size: u32, item: &Field, value: ValueRef<'_>) -> u64
@@ -98,7 +98,7 @@ fn struct_weight(fields: &[Field], value: ValueRef<'_>) -> u64
     }
 }
 
-// Where a struct is null it weighs as if all its parts were.
+// Returns the weight of the parts of a null struct: all of them are null.
 #[tactic(auto, unfolding(cells::specs::Weight::parts_weight))]
 #[cycle(weight)]
 fn nulls_weight(fields: &[Field]) -> u64
@@ -111,7 +111,7 @@ fn nulls_weight(fields: &[Field]) -> u64
     total
 }
 
-// A part that is not there weighs as a null.
+// Returns a part, or null if it is not there.
 fn part_or_null<'a>(parts: Values<'a>, i: usize) -> ValueRef<'a>
     ensures { borrowed_cell result ≡ get_or (borrowed_cells parts.entry) i null }
 {
@@ -133,7 +133,7 @@ fn parts_weight(fields: &[Field], parts: Values<'_>) -> u64
     total
 }
 
-/// The weight of a row, as weights are reported.
+/// Returns the weight of a row.
 pub(crate) fn row_weight(schema: &Schema, row: Values<'_>) -> u64
     ensures { result ≡ capped_weight (row_weight (schema_of schema.now) (borrowed_cells row.entry)) }
 {

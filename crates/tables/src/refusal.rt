@@ -60,11 +60,11 @@ pub enum Refusal {
     Query(QueryRefusal),
     /// S13: this segment of the table, counted from 0, does not hold its rows.
     SegmentUnread(usize),
-    /// S14: the reader of the input failed.
+    /// The reader of the input failed; printed as `G1 Io`.
     Read,
     /// S15: the bytes of this segment of the table, counted from 0, are not those that were written.
     SegmentDamaged(usize),
-    /// The writer of an export failed.
+    /// The writer of an export or of a salvage failed; printed as `G1 Io`.
     Write,
     /// Memory was refused.
     OutOfMemory,

@@ -58,4 +58,6 @@ mod summaries;
 #[cfg(test)]
 mod versions;
 #[cfg(test)]
+mod weights;
+#[cfg(test)]
 mod without_memory;

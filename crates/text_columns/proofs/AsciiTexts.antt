@@ -6,7 +6,7 @@ use Rattle.std.proofs.Common.{◌≡◌, ℕ, zero, suc, ◌+◌, ◌-◌, ◌�
 use Rattle.std.proofs.lemmas.Bool.{and_parts, lt-ltb, ltb-true}
 use Rattle.std.proofs.lemmas.Nat.{le_or_l, le_or_r}
 use Rattle.std.proofs.lemmas.Str.{IsUtf8-from_ascii, is_utf8-from_IsUtf8}
-use Rattle.text_columns.specs.inner.Plain.{AllBetween, IsScanned, IsTextAt, below_128, ends_field}
+use Rattle.text_columns.specs.inner.Plain.{IsScanned, IsTextAt, below_128, ends_field}
 use Rattle.text_columns.proofs.PlainText.{one_between}
 
 pub none_scanned : (text : List ℕ) (from : ℕ) → IsScanned text from from 0

@@ -32,6 +32,7 @@ use Rattle.cells.specs.Weight.{kind_weight}
 use Rattle.cells.specs.laws.Entries.{entries_append}
 use Rattle.columns.specs.Built.{entry_index, fixed_bytes, index_bytes, integer_bytes, place_or_zero}
 use Rattle.columns.specs.laws.Integers.{number_back, number_fits, width_cases}
+use Rattle.text_import.specs.Objects.{has_name}
 use Rattle.text_import.specs.Flat.{cell_of_text, boolean_cell, bytes_cell, fitting, number_cell}
 use Rattle.text_import.specs.declared.refusal.Refusal.{Refusal}
 use Rattle.text_import.specs.declared.refusal.Refusal.TheVariants.{FixedWidth, NotUtf8, OutOfRange}
@@ -321,7 +322,7 @@ seen_now es c own same = by (list_any (is_entry c) es) refl
     by true h = rw (with_seen es c own h) h
     by false h = rw (with_unseen es c own h) (any_at (is_entry c) (es ++ c ∷ []) ∙ ap is_some (last_at (is_entry c) es c h same))
 
--- the index of a cell stays where entries come after those that have it, or where it has none
+-- the index of a cell stays if entries come after those that have it, or if it has none
 stays_at : (es more : List Cell) (cells : List Cell) (c : Cell) → entry_index (with_entries (with_entry es c) cells ++ more) c ≡ entry_index (with_entries (with_entry es c) cells) c
 stays_at es more cells null = ap place_or_zero (never_at (is_entry null) _ (λ x. refl) ∙ sym (never_at (is_entry null) _ (λ x. refl)))
 stays_at es more cells (boolean b) =
@@ -535,9 +536,9 @@ text_fits (fixed_lists size item) t x flat h = absurd cc
 text_fits (structs columns) t x flat h = absurd cc
 
 -- the buffers of the one value were cleared and then have the value that is coded
-pub text_coded : (t : List ℕ) (heavy : ℕ) (old new : Coding) (values values2 : ColumnValues) (cleared one : ColumnValues) → Clears old.one cleared → TakesText t heavy cleared one
-    → Codes (record { index = old.index; indices = old.indices; keys = old.keys; one = one }) values new values2 → TakesCodedText t heavy old values new values2
-text_coded t heavy old new values values2 cleared one clears takes codes index kind cells h =
+pub text_coded : (t : List ℕ) (weight : ℕ) (old new : Coding) (values values2 : ColumnValues) (cleared one : ColumnValues) → Clears old.one cleared → TakesText t weight cleared one
+    → Codes (record { index = old.index; indices = old.indices; keys = old.keys; one = one }) values new values2 → TakesCodedText t weight old values new values2
+text_coded t weight old new values values2 cleared one clears takes codes index kind cells h =
     let own = takes kind [] (clears kind h.one) in
     let fits = text_fits kind t own.taken (own_flat kind old.one h.one) own.read in
     record {
@@ -548,13 +549,13 @@ text_coded t heavy old new values values2 cleared one clears takes codes index k
       holds = codes index kind cells own.taken (with_one index kind cells values old one h own.takes.kind_is) own.takes fits;
     }
 
-pub plain_text : (t : List ℕ) (heavy : ℕ) (old new : ColumnValues) → TakesText t heavy old new → TakesField t heavy old None new None
-plain_text t heavy old new takes None kind cells h = (let own = takes kind cells h in record { taken = own.taken; read = own.read; there = own.there; weighs = own.weighs; holds = own.takes })
-plain_text t heavy old new takes (Some index) kind cells h = absurd h
+pub plain_text : (t : List ℕ) (weight : ℕ) (old new : ColumnValues) → TakesText t weight old new → TakesField t weight old None new None
+plain_text t weight old new takes None kind cells h = (let own = takes kind cells h in record { taken = own.taken; read = own.read; there = own.there; weighs = own.weighs; holds = own.takes })
+plain_text t weight old new takes (Some index) kind cells h = absurd h
 
-pub coded_text : (t : List ℕ) (heavy : ℕ) (old new : Coding) (values values2 : ColumnValues) → TakesCodedText t heavy old values new values2 → TakesField t heavy values (Some old) values2 (Some new)
-coded_text t heavy old new values values2 takes None kind cells h = absurd h
-coded_text t heavy old new values values2 takes (Some index) kind cells h = takes index kind cells h
+pub coded_text : (t : List ℕ) (weight : ℕ) (old new : Coding) (values values2 : ColumnValues) → TakesCodedText t weight old values new values2 → TakesField t weight values (Some old) values2 (Some new)
+coded_text t weight old new values values2 takes None kind cells h = absurd h
+coded_text t weight old new values values2 takes (Some index) kind cells h = takes index kind cells h
 
 -- ---- what columns hold is of their type
 
@@ -564,7 +565,7 @@ own_kind (Some index) kind cells values (Some d) h = h.entries.kind_is
 own_kind None kind cells values (Some d) h = absurd h
 own_kind (Some index) kind cells values None h = absurd h
 
--- ---- what a call tells, where it appended the cell
+-- ---- what a call tells, if it appended the cell
 
 pub plain_null_step : {E : Type 0} (old new : ColumnValues) (r : Result (Unit {0}) E) → OnOk r (TakesNull old new) → OnOk r (TakesNullCell old None new None)
 plain_null_step old new (Err e) h = tt
@@ -575,17 +576,17 @@ pub coded_null_step : {E : Type 0} (values : ColumnValues) (d : Coding) (indices
 coded_null_step values d indices (Err e) h = tt
 coded_null_step values d indices (Ok u) h = coded_null values d indices h
 
-pub plain_text_step : {E : Type 0} (t : List ℕ) (old new : ColumnValues) (r : Result (Option ℕ) E) → IfOk r (λ taken. IfSome taken (λ heavy. TakesText t heavy old new))
-    → IfOk r (λ taken. IfSome taken (λ heavy. TakesField t heavy old None new None))
+pub plain_text_step : {E : Type 0} (t : List ℕ) (old new : ColumnValues) (r : Result (Option ℕ) E) → IfOk r (λ taken. IfSome taken (λ weight. TakesText t weight old new))
+    → IfOk r (λ taken. IfSome taken (λ weight. TakesField t weight old None new None))
 plain_text_step t old new (Err e) h = tt
 plain_text_step t old new (Ok None) h = tt
-plain_text_step t old new (Ok (Some heavy)) h = plain_text t heavy old new h
+plain_text_step t old new (Ok (Some weight)) h = plain_text t weight old new h
 
 pub coded_text_step : {E : Type 0} (t : List ℕ) (old new : Coding) (values values2 : ColumnValues) (r : Result (Option ℕ) E)
-    → IfOk r (λ taken. IfSome taken (λ heavy. TakesCodedText t heavy old values new values2)) → IfOk r (λ taken. IfSome taken (λ heavy. TakesField t heavy values (Some old) values2 (Some new)))
+    → IfOk r (λ taken. IfSome taken (λ weight. TakesCodedText t weight old values new values2)) → IfOk r (λ taken. IfSome taken (λ weight. TakesField t weight values (Some old) values2 (Some new)))
 coded_text_step t old new values values2 (Err e) h = tt
 coded_text_step t old new values values2 (Ok None) h = tt
-coded_text_step t old new values values2 (Ok (Some heavy)) h = coded_text t heavy old new values values2 h
+coded_text_step t old new values values2 (Ok (Some weight)) h = coded_text t weight old new values values2 h
 
 -- ---- keys as the code has them
 
@@ -596,3 +597,7 @@ mapped_from f p (x ∷ xs) i = ap (λ (r : Option ℕ). if p (f x) then Some i e
 pub key_place : (key : List ℕ) (keys : List (Vec ℕ)) → position (λ k. bytes_eq key k.items) keys ≡ position (bytes_eq key) (key_list keys)
 key_place key keys =
     position_from-zero (λ k. bytes_eq key k.items) keys ∙ mapped_from (λ (k : Vec ℕ). k.items) (bytes_eq key) keys 0 ∙ sym (position_from-zero (bytes_eq key) (key_list keys))
+
+pub key_named : (key : List ℕ) (keys : List (Vec ℕ)) → list_any (λ k. bytes_eq key k.items) keys ≡ has_name (key_list keys) key
+key_named key [] = refl
+key_named key (k ∷ keys) = ap (λ b. bytes_eq key k.items || b) (key_named key keys)

@@ -49,7 +49,7 @@ pub signed_appended : (width : Width) (z value : ℤ) (old new : List ℕ) → S
 signed_appended width z value old new fits is e =
     (fits_range width z fits, rw is at e ∙ ap (λ (n : ℕ). old ++ little_bytes (bytes width) n) (stored width z))
 
--- an integer that a text spells is the cell of the text, where the type holds it
+-- an integer that a text spells is the cell of the text, if the type holds it
 few_bits : (width : BitWidth) → bits_of width ≤ 64
 few_bits Eight = omega arith
 few_bits Sixteen = omega arith

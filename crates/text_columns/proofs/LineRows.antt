@@ -103,7 +103,7 @@ member_held : (cs : List Column) (rows : List (List Cell)) (found : Members) (k 
     → HoldMembers cs rows found ws bs → HoldMembers cs rows (put k d found) ws2 bs2
 member_held cs rows found k d depth place old new ws ws2 bs bs2 distinct named p same_data h = rw (p.kept, p.pushed) (record {
   count = length-set bs place p.behind ∙ h.count;
-  counted = length-set ws place (Some p.heavy) ∙ h.counted;
+  counted = length-set ws place (Some p.weight) ∙ h.counted;
   each = λ j c b w dc db dw. elim (cases_lt j place) [
     | inl before ↦ other j c b w dc db dw (λ e. omega arith)
     | inr from ↦ elim (cases_lt place j) [
@@ -113,24 +113,24 @@ member_held cs rows found k d depth place old new ws ws2 bs bs2 distinct named p
   ];
 })
   where
-    other : (j : ℕ) (c : Column) (b : ColumnBuilder) (w : Option ℕ) → slice_get cs j ≡ Some c → slice_get (set bs place p.behind) j ≡ Some b → slice_get (set ws place (Some p.heavy)) j ≡ Some w
+    other : (j : ℕ) (c : Column) (b : ColumnBuilder) (w : Option ℕ) → slice_get cs j ≡ Some c → slice_get (set bs place p.behind) j ≡ Some b → slice_get (set ws place (Some p.weight)) j ≡ Some w
         → (place ≡ j → ⊥) → HoldsMember c (column_at j rows) (get_member (name_of_column c) (put k d found)) w b
     other j c b w dc db dw ne =
         let names_differ : name_of_column c ≡ k → ⊥ = apart (names_of (columns_of cs)) j place (name_of_column c) k distinct (name_at cs j c dc) named (λ e. ne (sym e)) in
         let same = get_member-put_other (name_of_column c) k d found names_differ in
         let builder = sym (at_other bs place j p.behind ne) ∙ db in
-        let kept = sym (at_other ws place j (Some p.heavy) ne) ∙ dw in
+        let kept = sym (at_other ws place j (Some p.weight) ne) ∙ dw in
         subst (λ (o : Option Data). HoldsMember c (column_at j rows) o w b) (sym same) (h.each j c b w dc builder kept)
 
-    own : (j : ℕ) (c : Column) (b : ColumnBuilder) (w : Option ℕ) → slice_get cs j ≡ Some c → slice_get (set bs place p.behind) j ≡ Some b → slice_get (set ws place (Some p.heavy)) j ≡ Some w
+    own : (j : ℕ) (c : Column) (b : ColumnBuilder) (w : Option ℕ) → slice_get cs j ≡ Some c → slice_get (set bs place p.behind) j ≡ Some b → slice_get (set ws place (Some p.weight)) j ≡ Some w
         → j ≡ place → HoldsMember c (column_at j rows) (get_member (name_of_column c) (put k d found)) w b
     own j c b w dc db dw is =
         let here : slice_get cs place ≡ Some c = subst (λ (n : ℕ). slice_get cs n ≡ Some c) is dc in
         let name : name_of_column c ≡ k = same_Some _ _ (sym (name_at cs place c here) ∙ named) in
         let builder : p.behind ≡ b = same_Some _ _ (sym (at_set bs place p.behind (slice_get_within bs place p.before p.here)) ∙ subst (λ (n : ℕ). slice_get (set bs place p.behind) n ≡ Some b) is db) in
-        let kept : Some p.heavy ≡ w = same_Some _ _ (sym (at_set ws place (Some p.heavy) (slice_get_within ws place None p.free)) ∙ subst (λ (n : ℕ). slice_get (set ws place (Some p.heavy)) n ≡ Some w) is dw) in
+        let kept : Some p.weight ≡ w = same_Some _ _ (sym (at_set ws place (Some p.weight) (slice_get_within ws place None p.free)) ∙ subst (λ (n : ℕ). slice_get (set ws place (Some p.weight)) n ≡ Some w) is dw) in
         let before = free_found c (column_at place rows) (get_member (name_of_column c) found) p.before (h.each place c p.before None here p.here p.free) in
-        let value : HasKeptValue c d p.heavy (column_at place rows) p.behind = subst (λ (x : Data). HasKeptValue c x p.heavy (column_at place rows) p.behind) same_data (p.keeps.keeps c (column_at place rows) before) in
+        let value : HasKeptValue c d p.weight (column_at place rows) p.behind = subst (λ (x : Data). HasKeptValue c x p.weight (column_at place rows) p.behind) same_data (p.keeps.keeps c (column_at place rows) before) in
         rw (is, name, get_member-put k d found, ← builder, ← kept) value
 
 -- ---- the members of an object, one after another
@@ -188,12 +188,12 @@ members_all depth names all left new ws0 ws bs0 bs key m = record {
 
 -- ---- a row of members
 
--- the first columns have a cell of this row, and the others that of their member, where there is one
-pub record NamedHalf (cs : List Column) (found : Members) (rows : List (List Cell)) (i heavy : ℕ) (ws : List (Option ℕ)) (bs : List ColumnBuilder) : Type 0 where
+-- the first columns have a cell of this row, and the others that of their member, if there is one
+pub record NamedHalf (cs : List Column) (found : Members) (rows : List (List Cell)) (i weight : ℕ) (ws : List (Option ℕ)) (bs : List ColumnBuilder) : Type 0 where
   pub row : List Cell
   pub len : length row ≡ i
   pub read : cells_behind row (cells_by_name (columns_of (drop i cs)) found) ≡ cells_by_name (columns_of cs) found
-  pub weighs : 1 + parts_weight (columns_of (take i cs)) (cells_of row) ≡ heavy
+  pub weighs : 1 + parts_weight (columns_of (take i cs)) (cells_of row) ≡ weight
   pub count : length bs ≡ length cs
   pub counted : length ws ≡ length cs
   pub done : (j : ℕ) (c : Column) (b : ColumnBuilder) → j < i → slice_get cs j ≡ Some c → slice_get bs j ≡ Some b → Keeps c (column_at j rows ++ get_or row j null ∷ []) b
@@ -216,21 +216,21 @@ named_none cs found rows ws bs h = record {
   rest = λ j c b w le. h.each j c b w;
 }
 
-pub named_more : (cs : List Column) (found : Members) (rows : List (List Cell)) (i heavy more : ℕ) (w : Option ℕ) (ws : List (Option ℕ)) (bs : List ColumnBuilder) (old new : ColumnBuilder)
-    → slice_get bs i ≡ Some old → slice_get ws i ≡ Some w → Completes w more old new → NamedHalf cs found rows i heavy ws bs → NamedHalf cs found rows (i + 1) (heavy + more) ws (set bs i new)
-named_more cs found rows i heavy more w ws bs old new here weighed completes h =
+pub named_more : (cs : List Column) (found : Members) (rows : List (List Cell)) (i weight more : ℕ) (w : Option ℕ) (ws : List (Option ℕ)) (bs : List ColumnBuilder) (old new : ColumnBuilder)
+    → slice_get bs i ≡ Some old → slice_get ws i ≡ Some w → Completes w more old new → NamedHalf cs found rows i weight ws bs → NamedHalf cs found rows (i + 1) (weight + more) ws (set bs i new)
+named_more cs found rows i weight more w ws bs old new here weighed completes h =
     let within : i < length bs = slice_get_within bs i old here in
     let (c, col) = there_within cs i (omega (arith, within, h.count)) in
     let k = completes c (column_at i rows) (get_member (name_of_column c) found) (h.rest i c old w (omega arith) col here weighed) in
     let one : i + 1 ≡ suc i = omega arith in
     let fields : drop i cs ≡ c ∷ drop (suc i) cs = dropped_here cs i c col in
     let short : length h.row ≡ length (take i cs) = h.len ∙ sym (length-take-le i cs (omega (arith, within, h.count))) in
-    let heavier = parts_weigh (take i cs) h.row c k.kept short in
+    let sum = parts_weigh (take i cs) h.row c k.kept short in
     record {
       row = h.row ++ k.kept ∷ [];
       len = length-append h.row (k.kept ∷ []) ∙ ap (λ (n : ℕ). n + 1) h.len;
       read = rw one (sym (name_more h.row c (columns_of (drop (suc i) cs)) found k.kept k.read) ∙ rw fields at h.read);
-      weighs = rw (one, taken_here cs i c col) (omega (arith, heavier, h.weighs, k.weighs));
+      weighs = rw (one, taken_here cs i c col) (omega (arith, sum, h.weighs, k.weighs));
       count = length-set bs i new ∙ h.count;
       counted = h.counted;
       done = λ j d b lt dc db. elim (cases_lt j i) [
@@ -251,9 +251,9 @@ named_more cs found rows i heavy more w ws bs old new here weighed completes h =
           h.rest j d b v (omega (arith, le)) dc (sym same ∙ db) dv;
     }
 
-pub named_all : (cs : List Column) (found : Members) (rows : List (List Cell)) (i heavy : ℕ) (ws : List (Option ℕ)) (bs : List ColumnBuilder) → length bs ≤ i
-    → NamedHalf cs found rows i heavy ws bs → HasNamedRow cs found heavy rows bs
-named_all cs found rows i heavy ws bs le h =
+pub named_all : (cs : List Column) (found : Members) (rows : List (List Cell)) (i weight : ℕ) (ws : List (Option ℕ)) (bs : List ColumnBuilder) → length bs ≤ i
+    → NamedHalf cs found rows i weight ws bs → HasNamedRow cs found weight rows bs
+named_all cs found rows i weight ws bs le h =
     let none : drop i cs ≡ [] = drop_all i cs (omega (arith, le, h.count)) in
     let all : take i cs ≡ cs = take_all i cs (omega (arith, le, h.count)) in
     record {
@@ -288,9 +288,9 @@ none_more ws i j w within none lt e = elim (cases_lt j i) [
 ]
 
 -- and then all
-fields_kept : (depth : ℕ) (names : List (List ℕ)) (inside rest : List Token) (heavy : ℕ) (ws ws2 : List (Option ℕ)) (bs bs2 bs3 : List ColumnBuilder) → length ws ≡ length bs
-    → ((j : ℕ) (w : Option ℕ) → slice_get ws j ≡ Some w → w ≡ None) → PushesMembers depth names inside rest ws ws2 bs bs2 → CompletesRow ws2 heavy bs2 bs3 → KeepsFields depth names inside rest heavy bs bs3
-fields_kept depth names inside rest heavy ws ws2 bs bs2 bs3 size none m completes = record {
+fields_kept : (depth : ℕ) (names : List (List ℕ)) (inside rest : List Token) (weight : ℕ) (ws ws2 : List (Option ℕ)) (bs bs2 bs3 : List ColumnBuilder) → length ws ≡ length bs
+    → ((j : ℕ) (w : Option ℕ) → slice_get ws j ≡ Some w → w ≡ None) → PushesMembers depth names inside rest ws ws2 bs bs2 → CompletesRow ws2 weight bs2 bs3 → KeepsFields depth names inside rest weight bs bs3
+fields_kept depth names inside rest weight ws ws2 bs bs2 bs3 size none m completes = record {
   found = m.found;
   read = m.read;
   keeps = λ cs rows e distinct k.
@@ -302,14 +302,14 @@ fields_kept depth names inside rest heavy ws ws2 bs bs2 bs3 size none m complete
 
 pub fields_step : {E : Type 0} (depth : ℕ) (names : List (List ℕ)) (inside rest : List Token) (ws ws2 : List (Option ℕ)) (bs bs2 bs3 : List ColumnBuilder) (r : Result (Option ℕ) E) → length ws ≡ length bs
     → ((j : ℕ) (w : Option ℕ) → slice_get ws j ≡ Some w → w ≡ None) → PushesMembers depth names inside rest ws ws2 bs bs2
-    → IfOk r (λ taken. IfSome taken (λ heavy. CompletesRow ws2 heavy bs2 bs3)) → IfOk r (λ taken. IfSome taken (λ heavy. KeepsFields depth names inside rest heavy bs bs3))
+    → IfOk r (λ taken. IfSome taken (λ weight. CompletesRow ws2 weight bs2 bs3)) → IfOk r (λ taken. IfSome taken (λ weight. KeepsFields depth names inside rest weight bs bs3))
 fields_step depth names inside rest ws ws2 bs bs2 bs3 (Err e) size none m h = tt
 fields_step depth names inside rest ws ws2 bs bs2 bs3 (Ok None) size none m h = tt
-fields_step depth names inside rest ws ws2 bs bs2 bs3 (Ok (Some heavy)) size none m h = fields_kept depth names inside rest heavy ws ws2 bs bs2 bs3 size none m h
+fields_step depth names inside rest ws ws2 bs bs2 bs3 (Ok (Some weight)) size none m h = fields_kept depth names inside rest weight ws ws2 bs bs2 bs3 size none m h
 
-pub object_kept : (names : List (List ℕ)) (inside rest : List Token) (heavy : ℕ) (bs bs2 : List ColumnBuilder) → rest ≡ [] → KeepsFields 126 names inside rest heavy bs bs2
-    → KeepsTokens names (tokens.begin_object ∷ inside) heavy bs bs2
-object_kept names inside rest heavy bs bs2 ends k =
+pub object_kept : (names : List (List ℕ)) (inside rest : List Token) (weight : ℕ) (bs bs2 : List ColumnBuilder) → rest ≡ [] → KeepsFields 126 names inside rest weight bs bs2
+    → KeepsTokens names (tokens.begin_object ∷ inside) weight bs bs2
+object_kept names inside rest weight bs bs2 ends k =
     let one = value-begin_object 127 inside (omega arith) in
     record {
       data_is = object k.found;
@@ -337,19 +337,19 @@ abbrev pub filled : List (List ℕ) → List (List ℕ)
 filled lines = filter (λ line. not (is_blank line)) lines
 
 -- some lines have come as rows, and the others are left
-pub record LinesRead (s : PlainSchema) (lines left : List (List ℕ)) (heavy : ℕ) (b : Batches) : Type 0 where
+pub record LinesRead (s : PlainSchema) (lines left : List (List ℕ)) (weight : ℕ) (b : Batches) : Type 0 where
   pub number : ℕ
   pub rows : List (List Cell)
   pub read : behind rows (rows_from (line_row s) (number + 1) (filled left)) ≡ rows_from (line_row s) 1 (filled lines)
-  pub weighs : table_weight s rows ≡ heavy
+  pub weighs : table_weight s rows ≡ weight
   pub holds : HoldRows s rows b
 
 pub lines_none : (s : PlainSchema) (lines : List (List ℕ)) (b : Batches) → HoldRows s [] b → LinesRead s lines lines 0 b
 lines_none s lines b k = record { number = 0; rows = []; read = behind_none _; weighs = refl; holds = k }
 
 -- the same rows in other batches
-pub lines_same : (s : PlainSchema) (lines left : List (List ℕ)) (heavy : ℕ) (old new : Batches) → HoldsSame s old new → LinesRead s lines left heavy old → LinesRead s lines left heavy new
-lines_same s lines left heavy old new same h = record { number = h.number; rows = h.rows; read = h.read; weighs = h.weighs; holds = same h.rows h.holds }
+pub lines_same : (s : PlainSchema) (lines left : List (List ℕ)) (weight : ℕ) (old new : Batches) → HoldsSame s old new → LinesRead s lines left weight old → LinesRead s lines left weight new
+lines_same s lines left weight old new same h = record { number = h.number; rows = h.rows; read = h.read; weighs = h.weighs; holds = same h.rows h.holds }
 
 filled_at : (line : List ℕ) (lines : List (List ℕ)) → is_blank line ≡ false → filled (line ∷ lines) ≡ line ∷ filled lines
 filled_at line lines e = rw e refl
@@ -357,9 +357,9 @@ filled_at line lines e = rw e refl
 skipped_at : (line : List ℕ) (lines : List (List ℕ)) → is_blank line ≡ true → filled (line ∷ lines) ≡ filled lines
 skipped_at line lines e = rw e refl
 
-pub lines_skipped : (s : PlainSchema) (lines left others : List (List ℕ)) (heavy : ℕ) (line : List ℕ) (b : Batches) → left ≡ line ∷ others → is_blank line ≡ true
-    → LinesRead s lines left heavy b → LinesRead s lines others heavy b
-lines_skipped s lines left others heavy line b here blank h = record {
+pub lines_skipped : (s : PlainSchema) (lines left others : List (List ℕ)) (weight : ℕ) (line : List ℕ) (b : Batches) → left ≡ line ∷ others → is_blank line ≡ true
+    → LinesRead s lines left weight b → LinesRead s lines others weight b
+lines_skipped s lines left others weight line b here blank h = record {
   number = h.number;
   rows = h.rows;
   read = ap (λ (xs : List (List ℕ)). behind h.rows (rows_from (line_row s) (h.number + 1) xs)) (sym (ap filled here ∙ skipped_at line others blank)) ∙ h.read;
@@ -368,16 +368,16 @@ lines_skipped s lines left others heavy line b here blank h = record {
 }
 
 -- a row that is not too heavy is accepted
-line_accepted : (s : PlainSchema) (line : List ℕ) (d : Data) (row : List Cell) (heavy : ℕ) → line_value line ≡ Ok d → cells_in (columns_of s.columns) d ≡ Ok (cells_of row)
-    → 1 + parts_weight (columns_of s.columns) (cells_of row) ≡ heavy → heavy ≤ 16777216 → dictionaries_fit s (row ∷ []) ≡ true → line_row s line ≡ Ok row
-line_accepted s line d row heavy value cells weighs few full =
+line_accepted : (s : PlainSchema) (line : List ℕ) (d : Data) (row : List Cell) (weight : ℕ) → line_value line ≡ Ok d → cells_in (columns_of s.columns) d ≡ Ok (cells_of row)
+    → 1 + parts_weight (columns_of s.columns) (cells_of row) ≡ weight → weight ≤ 16777216 → dictionaries_fit s (row ∷ []) ≡ true → line_row s line ≡ Ok row
+line_accepted s line d row weight value cells weighs few full =
     let light : nat_lt 16777216 (row_weight s row) ≡ false = le-ltb _ _ (omega (arith, weighs, few)) in
     rw (value, cells, cells_listed row, light, full) refl
 
-pub lines_more : (s : PlainSchema) (names : List (List ℕ)) (lines left others : List (List ℕ)) (heavy more : ℕ) (line : List ℕ) (b b2 : Batches) → left ≡ line ∷ others
+pub lines_more : (s : PlainSchema) (names : List (List ℕ)) (lines left others : List (List ℕ)) (weight more : ℕ) (line : List ℕ) (b b2 : Batches) → left ≡ line ∷ others
     → is_blank line ≡ false → names_of (columns_of s.columns) ≡ names → repeats names ≡ false → more ≤ 16777216 → KeepsLine names line more b.builders.items b2.builders.items → AddsRow b b2
-    → LinesRead s lines left heavy b → LinesRead s lines others (heavy + more) b2
-lines_more s names lines left others heavy more line b b2 here blank named distinct few keeps adds h =
+    → LinesRead s lines left weight b → LinesRead s lines others (weight + more) b2
+lines_more s names lines left others weight more line b b2 here blank named distinct few keeps adds h =
     let held = h.holds in
     let v = keeps.keeps s.columns held.last named distinct held.keeps in
     let full = row_fits s held.last b.builders.items v.row held.keeps in
@@ -395,9 +395,9 @@ lines_more s names lines left others heavy more line b b2 here blank named disti
       holds = held_more s h.rows v.row b b2 held adds v.keeps;
     }
 
-pub lines_all : (s : PlainSchema) (lines left : List (List ℕ)) (heavy : ℕ) (b : Batches) → left ≡ [] → heavy ≤ 268435456
-    → LinesRead s lines left heavy b → HasRows s (rows_from (line_row s) 1 (filled lines)) heavy b
-lines_all s lines left heavy b none few h = record {
+pub lines_all : (s : PlainSchema) (lines left : List (List ℕ)) (weight : ℕ) (b : Batches) → left ≡ [] → weight ≤ 268435456
+    → LinesRead s lines left weight b → HasRows s (rows_from (line_row s) 1 (filled lines)) weight b
+lines_all s lines left weight b none few h = record {
   rows = h.rows;
   are_read = sym (rw none at h.read) ∙ rows_end (line_row s) (h.number + 1) h.rows;
   weighs = h.weighs;
@@ -415,7 +415,7 @@ name_bytes_at (x ∷ keys) (suc i) k e = name_bytes_at keys i k e
 pub stands : (keys : List (Vec ℕ)) (i : ℕ) (k : Vec ℕ) (name : List ℕ) → slice_get keys i ≡ Some k → bytes_eq k.items name ≡ true → slice_get (key_list keys) i ≡ Some name
 stands keys i k name e same = name_bytes_at keys i k e ∙ ap Some ((bytes_eq-Decides k.items name).0 same)
 
--- ---- what a call tells, where it appended the row
+-- ---- what a call tells, if it appended the row
 
 utf8_text : (t line : List ℕ) → Some t ≡ text_where_utf8 line → (is_utf8 line ≡ true) × (t ≡ line)
 utf8_text t line e = by (is_utf8 line) refl e
@@ -424,18 +424,18 @@ utf8_text t line e = by (is_utf8 line) refl e
     by true is h = (is, same_Some _ _ h)
     by false is h = absurd cc
 
-line_kept : (names : List (List ℕ)) (t line : List ℕ) (heavy : ℕ) (bs bs2 : List ColumnBuilder) → Some t ≡ text_where_utf8 line → KeepsTokens names (tokens_of t) heavy bs bs2 → KeepsLine names line heavy bs bs2
-line_kept names t line heavy bs bs2 text k =
+line_kept : (names : List (List ℕ)) (t line : List ℕ) (weight : ℕ) (bs bs2 : List ColumnBuilder) → Some t ≡ text_where_utf8 line → KeepsTokens names (tokens_of t) weight bs bs2 → KeepsLine names line weight bs bs2
+line_kept names t line weight bs bs2 text k =
     let (utf8, same) = utf8_text t line text in
     let one = text_read t k.data_is k.read in
     let own : read line ≡ Some k.data_is = subst (λ (x : List ℕ). read x ≡ Some k.data_is) same one in
     record { data_is = k.data_is; read = rw (utf8, own) refl; keeps = k.keeps }
 
 pub line_step : {E : Type 0} (names : List (List ℕ)) (t line : List ℕ) (bs bs2 : List ColumnBuilder) (r : Result (Option ℕ) E) → Some t ≡ text_where_utf8 line
-    → IfOk r (λ taken. IfSome taken (λ heavy. KeepsTokens names (tokens_of t) heavy bs bs2)) → IfOk r (λ taken. IfSome taken (λ heavy. KeepsLine names line heavy bs bs2))
+    → IfOk r (λ taken. IfSome taken (λ weight. KeepsTokens names (tokens_of t) weight bs bs2)) → IfOk r (λ taken. IfSome taken (λ weight. KeepsLine names line weight bs bs2))
 line_step names t line bs bs2 (Err e) text h = tt
 line_step names t line bs bs2 (Ok None) text h = tt
-line_step names t line bs bs2 (Ok (Some heavy)) text h = line_kept names t line heavy bs bs2 text h
+line_step names t line bs bs2 (Ok (Some weight)) text h = line_kept names t line weight bs bs2 text h
 
 pub free_at : (ws : List (Option ℕ)) (i : ℕ) (d : Option ℕ) → i < length ws → is_some (get_or ws i d) ≡ false → slice_get ws i ≡ Some None
 free_at [] i d lt e = absurd (omega arith)

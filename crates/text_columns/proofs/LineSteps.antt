@@ -6,14 +6,14 @@ use Rattle.json.specs.Json.{after_end_array}
 use Rattle.json.specs.Token.{Token}
 use Rattle.json.specs.Token as tokens
 use Rattle.json.specs.Lex as lexer
-use Rattle.json.specs.Lex.{Lexeme, after_value, begins_colon, between, colon, comma, fresh, lex, may_begin, may_close, punctuate, token}
+use Rattle.json.specs.Lex.{Lexeme, after_value, begins_colon, between, colon, comma, fresh, lex, may_close, punctuate, token}
 use Rattle.text_columns.specs.declared.plain_reader.Place.TheVariants.{AfterComma, AfterValue}
 use Rattle.text_columns.specs.declared.plain_reader.Stand.{Stand}
 use Rattle.text_columns.specs.inner.Lexemes.{IsLexeme, IsScalar}
 use Rattle.text_columns.specs.inner.Stands.{Begins, Closes, FollowsValue, tokens_at}
 use Rattle.text_columns.proofs.LexemeGrammar.{array_first, end_array_first, end_object_first, first_byte, key_first, object_first, scalar_first}
 
--- ---- behind a value
+-- ---- after a value
 
 module _ (d : List ℕ) (end at : ℕ) (same : lex between (drop at d) ≡ lex between (drop end d)) where
   pub follows_end : length d ≤ at → at ≤ length d → FollowsValue d end (record { at = at; place = AfterValue })

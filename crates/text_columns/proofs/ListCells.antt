@@ -1,4 +1,4 @@
--- Lists that come behind the cells of a column, by the items that a reader stands at.
+-- Lists that come after the cells of a column, by the items that a reader is at.
 use Rattle.text_columns.specs.declared.builder.Names.{Names}
 use Rattle.std.specs.Prelude.{Option, Some, None, Ok, Err, Result, IfOk, IfSome}
 use Rattle.std.specs.Global.{Vec}
@@ -18,7 +18,7 @@ use Rattle.arrow_schema.specs.Column.{Column, Columns, columns_of, Index, Kind, 
 use Rattle.cells.specs.Cell.{Cell, items, cells_of, parts}
 use Rattle.cells.specs.Dictionary.{item_list, part_list}
 use Rattle.cells.specs.Nulls.{is_there}
-use Rattle.cells.specs.Weight.{kind_weight, parts_weight, sum_of, weight}
+use Rattle.cells.specs.Weight.{kind_weight, parts_weight, sum_of, weight as cell_weight}
 use Rattle.cells.specs.laws.Cells.{cells_listed}
 use Rattle.columns.specs.Built.{fixed_items}
 use Rattle.columns.specs.declared.numbers.OffsetWidth.{OffsetWidth}
@@ -42,12 +42,12 @@ use Rattle.text_columns.proofs.TokenCells.{null_token}
 
 -- ---- the items of an array, one after another
 
--- some items have come behind the cells of a column, and weigh so much with their list
-pub record ItemsHalf (c : Column) (found : List Data) (so : List Cell) (heavy : ℕ) (b : ColumnBuilder) : Type 0 where
+-- some items have come after the cells of a column; the weight is that of their list
+pub record ItemsHalf (c : Column) (found : List Data) (so : List Cell) (weight : ℕ) (b : ColumnBuilder) : Type 0 where
   pub kept : List Cell
   pub len : length kept ≡ length found
   pub read : (more : Items) → cells_behind kept (each_item (cell_in c) more) ≡ each_item (cell_in c) (prepend found more)
-  pub weighs : 1 + sum_of (weight c) (cells_of kept) ≡ heavy
+  pub weighs : 1 + sum_of (cell_weight c) (cells_of kept) ≡ weight
   pub keeps : Keeps c (so ++ kept) b
 
 sum_more : (f : Cell → ℕ) (cells : List Cell) (x : Cell) → sum_of f (cells_of (cells ++ x ∷ [])) ≡ sum_of f (cells_of cells) + f x
@@ -60,27 +60,27 @@ item_behind f so d ds x e = rw e (cells_behind_more so x (each_item f ds))
 items_half_none : (c : Column) (so : List Cell) (b : ColumnBuilder) → Keeps c so b → ItemsHalf c [] so 1 b
 items_half_none c so b k = record { kept = []; len = refl; read = λ more. none_behind (each_item (cell_in c) more); weighs = refl; keeps = subst (λ (xs : List Cell). Keeps c xs b) (sym (append-nil so)) k }
 
-items_half_more : (c : Column) (found : List Data) (so : List Cell) (heavy more : ℕ) (d : Data) (b b2 : ColumnBuilder) → KeepsValue d more b b2 → ItemsHalf c found so heavy b
-    → ItemsHalf c (found ++ d ∷ []) so (heavy + more) b2
-items_half_more c found so heavy more d b b2 keeps h =
+items_half_more : (c : Column) (found : List Data) (so : List Cell) (weight more : ℕ) (d : Data) (b b2 : ColumnBuilder) → KeepsValue d more b b2 → ItemsHalf c found so weight b
+    → ItemsHalf c (found ++ d ∷ []) so (weight + more) b2
+items_half_more c found so weight more d b b2 keeps h =
     let v = keeps c (so ++ h.kept) h.keeps in
-    let heavier = sum_more (weight c) h.kept v.kept in
+    let weighed = sum_more (cell_weight c) h.kept v.kept in
     record {
       kept = h.kept ++ v.kept ∷ [];
       len = length-append h.kept (v.kept ∷ []) ∙ ap (λ (n : ℕ). n + 1) h.len ∙ sym (length-append found (d ∷ []));
       read = λ ds. sym (item_behind (cell_in c) h.kept d ds v.kept v.read) ∙ h.read (json.item d ds) ∙ ap (each_item (cell_in c)) (prepend_more found d ds);
-      weighs = omega (arith, heavier, h.weighs, v.weighs);
+      weighs = omega (arith, weighed, h.weighs, v.weighs);
       keeps = subst (λ (xs : List Cell). Keeps c xs b2) (append_assoc so h.kept (v.kept ∷ [])) v.keeps;
     }
 
 -- some items were read, and the others follow
-pub record ListRead (depth : ℕ) (all left : List Token) (count heavy : ℕ) (b0 b : ColumnBuilder) : Type 0 where
+pub record ListRead (depth : ℕ) (all left : List Token) (count weight : ℕ) (b0 b : ColumnBuilder) : Type 0 where
   pub found : List Data
   pub turns : ℕ
   pub enough : length left ≤ turns
   pub many : length found ≡ count
   pub read : converted of_items (token_items (value depth) (length all) all) ≡ parse_map (prepend found) (converted of_items (token_items (value depth) turns left))
-  pub each : (c : Column) (so : List Cell) → Keeps c so b0 → ItemsHalf c found so heavy b
+  pub each : (c : Column) (so : List Cell) → Keeps c so b0 → ItemsHalf c found so weight b
 
 pub list_none : (depth : ℕ) (all : List Token) (b : ColumnBuilder) → ListRead depth all all 0 1 b b
 list_none depth all b = record {
@@ -92,9 +92,9 @@ list_none depth all b = record {
   each = λ c so k. items_half_none c so b k;
 }
 
-pub list_pushed : (depth : ℕ) (all left new : List Token) (count heavy more : ℕ) (b0 b b2 : ColumnBuilder) → KeepsNext depth left new more b b2 → ListRead depth all left count heavy b0 b
-    → ListRead depth all new (count + 1) (heavy + more) b0 b2
-list_pushed depth all left new count heavy more b0 b b2 keeps m =
+pub list_pushed : (depth : ℕ) (all left new : List Token) (count weight more : ℕ) (b0 b b2 : ColumnBuilder) → KeepsNext depth left new more b b2 → ListRead depth all left count weight b0 b
+    → ListRead depth all new (count + 1) (weight + more) b0 b2
+list_pushed depth all left new count weight more b0 b b2 keeps m =
     let d = keeps.data_is in
     let longer = value_shorter depth left new d keeps.read in
     let some : 0 < m.turns = omega (arith, longer, m.enough) in
@@ -105,11 +105,11 @@ list_pushed depth all left new count heavy more b0 b b2 keeps m =
       enough = omega (arith, longer, m.enough);
       many = length-append m.found (d ∷ []) ∙ ap (λ (n : ℕ). n + 1) m.many;
       read = m.read ∙ ap (parse_map (prepend m.found)) (item_read (value depth) m.turns left new d some none keeps.read) ∙ prepended_more m.found d (converted of_items (token_items (value depth) (m.turns - 1) new));
-      each = λ c so k. items_half_more c m.found so heavy more d b b2 keeps.keeps (m.each c so k);
+      each = λ c so k. items_half_more c m.found so weight more d b b2 keeps.keeps (m.each c so k);
     }
 
-items_half_all : (c : Column) (found : List Data) (so : List Cell) (heavy : ℕ) (b : ColumnBuilder) → ItemsHalf c found so heavy b → HasItems c (prepend found no_items) heavy so b
-items_half_all c found so heavy b h = record {
+items_half_all : (c : Column) (found : List Data) (so : List Cell) (weight : ℕ) (b : ColumnBuilder) → ItemsHalf c found so weight b → HasItems c (prepend found no_items) weight so b
+items_half_all c found so weight b h = record {
   kept = h.kept;
   many = h.len ∙ sym (prepend_count found);
   read = sym (h.read no_items) ∙ cells_behind_end h.kept;
@@ -140,10 +140,10 @@ slots_behind nullable dictionary kind so x old new there slot k = record {
 }
 
 -- the list of a type that such an array is, and the buffers below it
-record HasList (kind : Kind) (found : Items) (heavy : ℕ) (so : List Cell) (new : ColumnBuilder) : Type 0 where
+record HasList (kind : Kind) (found : Items) (weight : ℕ) (so : List Cell) (new : ColumnBuilder) : Type 0 where
   pub kept : List Cell
   pub read : kind_in kind (array found) ≡ Ok (items (cells_of kept))
-  pub weighs : kind_weight kind (items (cells_of kept)) ≡ heavy
+  pub weighs : kind_weight kind (items (cells_of kept)) ≡ weight
   pub parts : KeepsBelow kind (so ++ items (cells_of kept) ∷ []) new
 
 listed_more : (so kept : List Cell) → flat_map item_list so ++ kept ≡ flat_map item_list (so ++ items (cells_of kept) ∷ [])
@@ -152,10 +152,10 @@ listed_more so kept = ap (λ (xs : List Cell). flat_map item_list so ++ xs) (sym
 fixed_listed_more : (size : ℕ) (so kept : List Cell) → flat_map (fixed_items size) so ++ kept ≡ flat_map (fixed_items size) (so ++ items (cells_of kept) ∷ [])
 fixed_listed_more size so kept = ap (λ (xs : List Cell). flat_map (fixed_items size) so ++ xs) (sym (cells_listed kept)) ∙ sym (flat_map-push (fixed_items size) so (items (cells_of kept)))
 
-lists_more : (width : OffsetWidth) (item : Column) (so : List Cell) (offsets offsets2 : ListOffsets) (old new : ColumnBuilder) (found : Items) (n heavy : ℕ) (h : HasItems item found heavy (flat_map item_list so) new)
+lists_more : (width : OffsetWidth) (item : Column) (so : List Cell) (offsets offsets2 : ListOffsets) (old new : ColumnBuilder) (found : Items) (n weight : ℕ) (h : HasItems item found weight (flat_map item_list so) new)
     → item_count found ≡ n → PushesEnd n offsets offsets2 → HoldsLists width item (Keeps item) so offsets old
     → HoldsLists width item (Keeps item) (so ++ items (cells_of h.kept) ∷ []) offsets2 new
-lists_more width item so offsets offsets2 old new found n heavy h count p k = record {
+lists_more width item so offsets offsets2 old new found n weight h count p k = record {
   ends = offsets_pushed width so (items (cells_of h.kept)) n offsets offsets2 (ap length (cells_listed h.kept) ∙ h.many ∙ count) p k.ends;
   unlimited = k.unlimited;
   below = subst (λ (xs : List Cell). Keeps item xs new) (listed_more so h.kept) h.keeps;
@@ -195,7 +195,7 @@ fixed_list_kept _ depth inside rest taken so slots slots2 size p p2 old new list
 
 list_pushed_behind : (depth : ℕ) (inside rest : List Token) (taken : ItemsTaken) (slots slots2 : Slots) (offsets offsets2 : ListOffsets) (p p2 : _) (old new : ColumnBuilder)
     → KeepsListItems depth inside rest taken old new → PushesEnd taken.count offsets offsets2 → PushesThere slots slots2 → KeepsArray depth inside rest taken.weight (List' slots offsets p old) (List' slots2 offsets2 p2 new)
-unfolding cell_in weight
+unfolding cell_in cell_weight
 list_pushed_behind depth inside rest taken slots slots2 offsets offsets2 p p2 old new list pushed slot = record {
   found = list.found;
   read = list.read;
@@ -214,7 +214,7 @@ list_pushed_behind depth inside rest taken slots slots2 offsets offsets2 p p2 ol
 
 fixed_list_pushed_behind : (depth : ℕ) (inside rest : List Token) (taken : ItemsTaken) (slots slots2 : Slots) (size : ℕ) (p p2 : _) (old new : ColumnBuilder)
     → KeepsListItems depth inside rest taken old new → taken.count ≡ size → PushesThere slots slots2 → KeepsArray depth inside rest taken.weight (FixedList' slots size p old) (FixedList' slots2 size p2 new)
-unfolding cell_in weight
+unfolding cell_in cell_weight
 fixed_list_pushed_behind depth inside rest taken slots slots2 size p p2 old new list many slot = record {
   found = list.found;
   read = list.read;
@@ -231,51 +231,51 @@ fixed_list_pushed_behind depth inside rest taken slots slots2 size p p2 old new 
           keeps = record { slots = slots_behind nullable dictionary kind so (items (cells_of h.kept)) slots slots2 refl slot k.slots; parts = h.parts };
         }
 
-list_ended : (depth : ℕ) (inside rest : List Token) (taken : Option ItemsTaken) (heavy : ℕ) (slots slots2 : Slots) (offsets offsets2 : ListOffsets) (p p2 : _) (old new : ColumnBuilder)
-    → IfSome taken (λ t. KeepsListItems depth inside rest t old new) → EndsList taken heavy slots slots2 offsets offsets2
-    → KeepsArray depth inside rest heavy (List' slots offsets p old) (List' slots2 offsets2 p2 new)
-list_ended depth inside rest taken heavy slots slots2 offsets offsets2 p p2 old new h e =
+list_ended : (depth : ℕ) (inside rest : List Token) (taken : Option ItemsTaken) (weight : ℕ) (slots slots2 : Slots) (offsets offsets2 : ListOffsets) (p p2 : _) (old new : ColumnBuilder)
+    → IfSome taken (λ t. KeepsListItems depth inside rest t old new) → EndsList taken weight slots slots2 offsets offsets2
+    → KeepsArray depth inside rest weight (List' slots offsets p old) (List' slots2 offsets2 p2 new)
+list_ended depth inside rest taken weight slots slots2 offsets offsets2 p p2 old new h e =
     let list : KeepsListItems depth inside rest e.own old new = rw e.is at h in
     rw (← e.weighs) (list_pushed_behind depth inside rest e.own slots slots2 offsets offsets2 p p2 old new list e.ends e.slot)
 
 pub list_step : {E : Type 0} (depth : ℕ) (inside rest : List Token) (taken : Option ItemsTaken) (slots slots2 : Slots) (offsets offsets2 : ListOffsets) (p p2 : _) (old new : ColumnBuilder) (r : Result (Option ℕ) E)
-    → IfSome taken (λ t. KeepsListItems depth inside rest t old new) → IfOk r (λ ended. IfSome ended (λ heavy. EndsList taken heavy slots slots2 offsets offsets2))
-    → IfOk r (λ ended. IfSome ended (λ heavy. KeepsArray depth inside rest heavy (List' slots offsets p old) (List' slots2 offsets2 p2 new)))
+    → IfSome taken (λ t. KeepsListItems depth inside rest t old new) → IfOk r (λ ended. IfSome ended (λ weight. EndsList taken weight slots slots2 offsets offsets2))
+    → IfOk r (λ ended. IfSome ended (λ weight. KeepsArray depth inside rest weight (List' slots offsets p old) (List' slots2 offsets2 p2 new)))
 list_step depth inside rest taken slots slots2 offsets offsets2 p p2 old new (Err e) h ends = tt
 list_step depth inside rest taken slots slots2 offsets offsets2 p p2 old new (Ok None) h ends = tt
-list_step depth inside rest taken slots slots2 offsets offsets2 p p2 old new (Ok (Some heavy)) h ends = list_ended depth inside rest taken heavy slots slots2 offsets offsets2 p p2 old new h ends
+list_step depth inside rest taken slots slots2 offsets offsets2 p p2 old new (Ok (Some weight)) h ends = list_ended depth inside rest taken weight slots slots2 offsets offsets2 p p2 old new h ends
 
-fixed_list_ended : (depth : ℕ) (inside rest : List Token) (taken : Option ItemsTaken) (heavy : ℕ) (slots slots2 : Slots) (size : ℕ) (p p2 : _) (old new : ColumnBuilder)
-    → IfSome taken (λ t. KeepsListItems depth inside rest t old new) → EndsFixedList taken size heavy slots slots2
-    → KeepsArray depth inside rest heavy (FixedList' slots size p old) (FixedList' slots2 size p2 new)
-fixed_list_ended depth inside rest taken heavy slots slots2 size p p2 old new h e =
+fixed_list_ended : (depth : ℕ) (inside rest : List Token) (taken : Option ItemsTaken) (weight : ℕ) (slots slots2 : Slots) (size : ℕ) (p p2 : _) (old new : ColumnBuilder)
+    → IfSome taken (λ t. KeepsListItems depth inside rest t old new) → EndsFixedList taken size weight slots slots2
+    → KeepsArray depth inside rest weight (FixedList' slots size p old) (FixedList' slots2 size p2 new)
+fixed_list_ended depth inside rest taken weight slots slots2 size p p2 old new h e =
     let list : KeepsListItems depth inside rest e.own old new = rw e.is at h in
     rw (← e.weighs) (fixed_list_pushed_behind depth inside rest e.own slots slots2 size p p2 old new list e.many e.slot)
 
 pub fixed_list_step : {E : Type 0} (depth : ℕ) (inside rest : List Token) (taken : Option ItemsTaken) (slots slots2 : Slots) (size : ℕ) (p p2 : _) (old new : ColumnBuilder) (r : Result (Option ℕ) E)
-    → IfSome taken (λ t. KeepsListItems depth inside rest t old new) → IfOk r (λ ended. IfSome ended (λ heavy. EndsFixedList taken size heavy slots slots2))
-    → IfOk r (λ ended. IfSome ended (λ heavy. KeepsArray depth inside rest heavy (FixedList' slots size p old) (FixedList' slots2 size p2 new)))
+    → IfSome taken (λ t. KeepsListItems depth inside rest t old new) → IfOk r (λ ended. IfSome ended (λ weight. EndsFixedList taken size weight slots slots2))
+    → IfOk r (λ ended. IfSome ended (λ weight. KeepsArray depth inside rest weight (FixedList' slots size p old) (FixedList' slots2 size p2 new)))
 fixed_list_step depth inside rest taken slots slots2 size p p2 old new (Err e) h ends = tt
 fixed_list_step depth inside rest taken slots slots2 size p p2 old new (Ok None) h ends = tt
-fixed_list_step depth inside rest taken slots slots2 size p p2 old new (Ok (Some heavy)) h ends = fixed_list_ended depth inside rest taken heavy slots slots2 size p p2 old new h ends
+fixed_list_step depth inside rest taken slots slots2 size p p2 old new (Ok (Some weight)) h ends = fixed_list_ended depth inside rest taken weight slots slots2 size p p2 old new h ends
 
 -- ---- the struct of such cells
 
 -- the struct of a type that a value is, and the buffers below it
-record HasStruct (kind : Kind) (d : Data) (heavy : ℕ) (so : List Cell) (new : ColumnBuilder) : Type 0 where
+record HasStruct (kind : Kind) (d : Data) (weight : ℕ) (so : List Cell) (new : ColumnBuilder) : Type 0 where
   pub kept : List Cell
   pub read : kind_in kind d ≡ Ok (parts (cells_of kept))
-  pub weighs : kind_weight kind (parts (cells_of kept)) ≡ heavy
+  pub weighs : kind_weight kind (parts (cells_of kept)) ≡ weight
   pub below : KeepsBelow kind (so ++ parts (cells_of kept) ∷ []) new
 
 -- an object or an array
 record IsOpened (d : Data) : Type 0 where
   pub none : (nullable : Bool) (f : Data → Result Cell Refusal) → null_or_in nullable f d ≡ f d
 
-struct_kept : (kind : Kind) (d : Data) (heavy : ℕ) (so : List Cell) (slots slots2 : Slots) (names names2 : Names) (old new : Vec ColumnBuilder) → names2.names ≡ names.names
-    → KeepsRow (key_list names.names.keys) d heavy old.items new.items → KeepsBelow kind so (Struct slots names old) → HasStruct kind d heavy so (Struct slots2 names2 new)
+struct_kept : (kind : Kind) (d : Data) (weight : ℕ) (so : List Cell) (slots slots2 : Slots) (names names2 : Names) (old new : Vec ColumnBuilder) → names2.names ≡ names.names
+    → KeepsRow (key_list names.names.keys) d weight old.items new.items → KeepsBelow kind so (Struct slots names old) → HasStruct kind d weight so (Struct slots2 names2 new)
 unfolding kind_in kind_weight
-struct_kept (structs columns) d heavy so slots slots2 names names2 old new same row below =
+struct_kept (structs columns) d weight so slots slots2 names names2 old new same row below =
     let k = held_by columns so slots names old below in
     let all : columns_of (list_of columns) ≡ columns = columns_list columns in
     let named : names_of (columns_of (list_of columns)) ≡ key_list names.names.keys = ap names_of all ∙ sym k.names_are in
@@ -283,18 +283,18 @@ struct_kept (structs columns) d heavy so slots slots2 names names2 old new same 
     record {
       kept = h.row;
       read = ap (given parts) (subst (λ (cs : Columns). cells_in cs d ≡ Ok (cells_of h.row)) all h.read);
-      weighs = subst (λ (cs : Columns). 1 + parts_weight cs (cells_of h.row) ≡ heavy) all h.weighs;
+      weighs = subst (λ (cs : Columns). 1 + parts_weight cs (cells_of h.row) ≡ weight) all h.weighs;
       below = holds_so columns (so ++ parts (cells_of h.row) ∷ []) slots2 names2 new
           (fields_hold columns (so ++ parts (cells_of h.row) ∷ []) (key_list names2.names.keys) new.items (ap (λ s. key_list s.keys) same ∙ k.names_are) k.distinct k.unlimited
           (subst (λ (rows : List (List Cell)). KeepAll (list_of columns) rows new.items) (parts_more so h.row) h.keeps));
     }
-struct_kept _ d heavy so slots slots2 names names2 old new same row below = absurd below
+struct_kept _ d weight so slots slots2 names names2 old new same row below = absurd below
 
-struct_value : (d : Data) (heavy : ℕ) (slots slots2 : Slots) (names names2 : Names) (old new : Vec ColumnBuilder) → IsOpened d → names2.names ≡ names.names → PushesThere slots slots2
-    → KeepsRow (key_list names.names.keys) d heavy old.items new.items → KeepsValue d heavy (Struct slots names old) (Struct slots2 names2 new)
-unfolding cell_in weight
-struct_value d heavy slots slots2 names names2 old new opened same slot row (column name nullable kind dictionary pairs) so k =
-    let h = struct_kept kind d heavy so slots slots2 names names2 old new same row k.parts in
+struct_value : (d : Data) (weight : ℕ) (slots slots2 : Slots) (names names2 : Names) (old new : Vec ColumnBuilder) → IsOpened d → names2.names ≡ names.names → PushesThere slots slots2
+    → KeepsRow (key_list names.names.keys) d weight old.items new.items → KeepsValue d weight (Struct slots names old) (Struct slots2 names2 new)
+unfolding cell_in cell_weight
+struct_value d weight slots slots2 names names2 old new opened same slot row (column name nullable kind dictionary pairs) so k =
+    let h = struct_kept kind d weight so slots slots2 names names2 old new same row k.parts in
     record {
       kept = parts (cells_of h.kept);
       read = opened.none nullable (kind_in kind) ∙ h.read;
@@ -302,70 +302,70 @@ struct_value d heavy slots slots2 names names2 old new opened same slot row (col
       keeps = record { slots = slots_behind nullable dictionary kind so (parts (cells_of h.kept)) slots slots2 refl slot k.slots; parts = h.below };
     }
 
-struct_items : (depth : ℕ) (inside rest : List Token) (taken : Option ℕ) (heavy : ℕ) (slots slots2 : Slots) (names names2 : Names) (old new : Vec ColumnBuilder) → names2.names ≡ names.names
-    → IfSome taken (λ w. KeepsItems depth inside rest w old.items new.items) → EndsStruct taken heavy slots slots2
-    → KeepsArray depth inside rest heavy (Struct slots names old) (Struct slots2 names2 new)
-struct_items depth inside rest taken heavy slots slots2 names names2 old new same h e =
-    let k : KeepsItems depth inside rest heavy old.items new.items = rw e.is at h in
+struct_items : (depth : ℕ) (inside rest : List Token) (taken : Option ℕ) (weight : ℕ) (slots slots2 : Slots) (names names2 : Names) (old new : Vec ColumnBuilder) → names2.names ≡ names.names
+    → IfSome taken (λ w. KeepsItems depth inside rest w old.items new.items) → EndsStruct taken weight slots slots2
+    → KeepsArray depth inside rest weight (Struct slots names old) (Struct slots2 names2 new)
+struct_items depth inside rest taken weight slots slots2 names names2 old new same h e =
+    let k : KeepsItems depth inside rest weight old.items new.items = rw e.is at h in
     record {
       found = k.found;
       read = k.read;
-      keeps = struct_value (array k.found) heavy slots slots2 names names2 old new (record { none = λ nullable f. refl }) same e.slot
-          (items_row depth (key_list names.names.keys) inside rest heavy old.items new.items k);
+      keeps = struct_value (array k.found) weight slots slots2 names names2 old new (record { none = λ nullable f. refl }) same e.slot
+          (items_row depth (key_list names.names.keys) inside rest weight old.items new.items k);
     }
 
 pub struct_items_step : {E : Type 0} (depth : ℕ) (inside rest : List Token) (taken : Option ℕ) (slots slots2 : Slots) (names names2 : Names) (old new : Vec ColumnBuilder) (bs : List ColumnBuilder) (r : Result (Option ℕ) E)
-    → names2.names ≡ names.names → new.items ≡ bs → IfSome taken (λ w. KeepsItems depth inside rest w old.items bs) → IfOk r (λ ended. IfSome ended (λ heavy. EndsStruct taken heavy slots slots2))
-    → IfOk r (λ ended. IfSome ended (λ heavy. KeepsArray depth inside rest heavy (Struct slots names old) (Struct slots2 names2 new)))
+    → names2.names ≡ names.names → new.items ≡ bs → IfSome taken (λ w. KeepsItems depth inside rest w old.items bs) → IfOk r (λ ended. IfSome ended (λ weight. EndsStruct taken weight slots slots2))
+    → IfOk r (λ ended. IfSome ended (λ weight. KeepsArray depth inside rest weight (Struct slots names old) (Struct slots2 names2 new)))
 struct_items_step depth inside rest taken slots slots2 names names2 old new bs (Err e) same written h ends = tt
 struct_items_step depth inside rest taken slots slots2 names names2 old new bs (Ok None) same written h ends = tt
-struct_items_step depth inside rest taken slots slots2 names names2 old new bs (Ok (Some heavy)) same written h ends =
-    struct_items depth inside rest taken heavy slots slots2 names names2 old new same (rw written h) ends
+struct_items_step depth inside rest taken slots slots2 names names2 old new bs (Ok (Some weight)) same written h ends =
+    struct_items depth inside rest taken weight slots slots2 names names2 old new same (rw written h) ends
 
-struct_fields : (depth : ℕ) (inside rest : List Token) (taken : Option ℕ) (heavy : ℕ) (slots slots2 : Slots) (names names2 : Names) (old new : Vec ColumnBuilder) → names2.names ≡ names.names
-    → IfSome taken (λ w. KeepsFields depth (key_list names.names.keys) inside rest w old.items new.items) → EndsStruct taken heavy slots slots2
-    → KeepsObject depth inside rest heavy (Struct slots names old) (Struct slots2 names2 new)
-struct_fields depth inside rest taken heavy slots slots2 names names2 old new same h e =
-    let k : KeepsFields depth (key_list names.names.keys) inside rest heavy old.items new.items = rw e.is at h in
+struct_fields : (depth : ℕ) (inside rest : List Token) (taken : Option ℕ) (weight : ℕ) (slots slots2 : Slots) (names names2 : Names) (old new : Vec ColumnBuilder) → names2.names ≡ names.names
+    → IfSome taken (λ w. KeepsFields depth (key_list names.names.keys) inside rest w old.items new.items) → EndsStruct taken weight slots slots2
+    → KeepsObject depth inside rest weight (Struct slots names old) (Struct slots2 names2 new)
+struct_fields depth inside rest taken weight slots slots2 names names2 old new same h e =
+    let k : KeepsFields depth (key_list names.names.keys) inside rest weight old.items new.items = rw e.is at h in
     record {
       found = k.found;
       read = k.read;
-      keeps = struct_value (object k.found) heavy slots slots2 names names2 old new (record { none = λ nullable f. refl }) same e.slot k.keeps;
+      keeps = struct_value (object k.found) weight slots slots2 names names2 old new (record { none = λ nullable f. refl }) same e.slot k.keeps;
     }
 
 pub struct_fields_step : {E : Type 0} (depth : ℕ) (inside rest : List Token) (taken : Option ℕ) (slots slots2 : Slots) (names names2 : Names) (old new : Vec ColumnBuilder) (bs : List ColumnBuilder) (r : Result (Option ℕ) E)
     → names2.names ≡ names.names → new.items ≡ bs → IfSome taken (λ w. KeepsFields depth (key_list names.names.keys) inside rest w old.items bs)
-    → IfOk r (λ ended. IfSome ended (λ heavy. EndsStruct taken heavy slots slots2))
-    → IfOk r (λ ended. IfSome ended (λ heavy. KeepsObject depth inside rest heavy (Struct slots names old) (Struct slots2 names2 new)))
+    → IfOk r (λ ended. IfSome ended (λ weight. EndsStruct taken weight slots slots2))
+    → IfOk r (λ ended. IfSome ended (λ weight. KeepsObject depth inside rest weight (Struct slots names old) (Struct slots2 names2 new)))
 struct_fields_step depth inside rest taken slots slots2 names names2 old new bs (Err e) same written h ends = tt
 struct_fields_step depth inside rest taken slots slots2 names names2 old new bs (Ok None) same written h ends = tt
-struct_fields_step depth inside rest taken slots slots2 names names2 old new bs (Ok (Some heavy)) same written h ends =
-    struct_fields depth inside rest taken heavy slots slots2 names names2 old new same (rw written h) ends
+struct_fields_step depth inside rest taken slots slots2 names names2 old new bs (Ok (Some weight)) same written h ends =
+    struct_fields depth inside rest taken weight slots slots2 names names2 old new same (rw written h) ends
 
 -- ---- the value that a reader stands at
 
-token_next : (depth : ℕ) (t : Token) (old new : List Token) (heavy : ℕ) (b b2 : ColumnBuilder) → old ≡ t ∷ new → KeepsToken t heavy b b2 → KeepsNext depth old new heavy b b2
-token_next depth t old new heavy b b2 is k = record {
+token_next : (depth : ℕ) (t : Token) (old new : List Token) (weight : ℕ) (b b2 : ColumnBuilder) → old ≡ t ∷ new → KeepsToken t weight b b2 → KeepsNext depth old new weight b b2
+token_next depth t old new weight b b2 is k = record {
   data_is = k.data_is;
   read = ap (λ (ts : List Token). converted of_json (value depth ts)) is ∙ token_read depth t new k.data_is k.read;
   keeps = k.keeps;
 }
 
-pub token_next_step : {E : Type 0} (depth : ℕ) (t : Token) (old new : List Token) (b b2 : ColumnBuilder) (r : Result (Option ℕ) E) → old ≡ t ∷ new → IfOk r (λ taken. IfSome taken (λ heavy. KeepsToken t heavy b b2))
-    → IfOk r (λ taken. IfSome taken (λ heavy. KeepsNext depth old new heavy b b2))
+pub token_next_step : {E : Type 0} (depth : ℕ) (t : Token) (old new : List Token) (b b2 : ColumnBuilder) (r : Result (Option ℕ) E) → old ≡ t ∷ new → IfOk r (λ taken. IfSome taken (λ weight. KeepsToken t weight b b2))
+    → IfOk r (λ taken. IfSome taken (λ weight. KeepsNext depth old new weight b b2))
 token_next_step depth t old new b b2 (Err e) is h = tt
 token_next_step depth t old new b b2 (Ok None) is h = tt
-token_next_step depth t old new b b2 (Ok (Some heavy)) is h = token_next depth t old new heavy b b2 is h
+token_next_step depth t old new b b2 (Ok (Some weight)) is h = token_next depth t old new weight b b2 is h
 
-pub null_next_step : {E : Type 0} (depth : ℕ) (old new : List Token) (b b2 : ColumnBuilder) (r : Result (Option ℕ) E) → old ≡ tokens.null ∷ new → IfOk r (λ taken. IfSome taken (λ heavy. KeepsNull heavy b b2))
-    → IfOk r (λ taken. IfSome taken (λ heavy. KeepsNext depth old new heavy b b2))
+pub null_next_step : {E : Type 0} (depth : ℕ) (old new : List Token) (b b2 : ColumnBuilder) (r : Result (Option ℕ) E) → old ≡ tokens.null ∷ new → IfOk r (λ taken. IfSome taken (λ weight. KeepsNull weight b b2))
+    → IfOk r (λ taken. IfSome taken (λ weight. KeepsNext depth old new weight b b2))
 null_next_step depth old new b b2 (Err e) is h = tt
 null_next_step depth old new b b2 (Ok None) is h = tt
-null_next_step depth old new b b2 (Ok (Some heavy)) is h = token_next depth tokens.null old new heavy b b2 is (null_token heavy b b2 h)
+null_next_step depth old new b b2 (Ok (Some weight)) is h = token_next depth tokens.null old new weight b b2 is (null_token weight b b2 h)
 
-array_next : (depth : ℕ) (old inside new : List Token) (heavy : ℕ) (b b2 : ColumnBuilder) → 0 < depth → old ≡ tokens.begin_array ∷ inside → KeepsArray (depth - 1) inside new heavy b b2
-    → KeepsNext depth old new heavy b b2
-array_next depth old inside new heavy b b2 some is k = record {
+array_next : (depth : ℕ) (old inside new : List Token) (weight : ℕ) (b b2 : ColumnBuilder) → 0 < depth → old ≡ tokens.begin_array ∷ inside → KeepsArray (depth - 1) inside new weight b b2
+    → KeepsNext depth old new weight b b2
+array_next depth old inside new weight b b2 some is k = record {
   data_is = array k.found;
   read = ap (λ (ts : List Token). converted of_json (value depth ts)) is
       ∙ ap (converted of_json) (value-begin_array depth inside some)
@@ -375,14 +375,14 @@ array_next depth old inside new heavy b b2 some is k = record {
 }
 
 pub array_next_step : {E : Type 0} (depth below : ℕ) (old inside new : List Token) (b b2 : ColumnBuilder) (r : Result (Option ℕ) E) → 0 < depth → below ≡ depth - 1 → old ≡ tokens.begin_array ∷ inside
-    → IfOk r (λ taken. IfSome taken (λ heavy. KeepsArray below inside new heavy b b2)) → IfOk r (λ taken. IfSome taken (λ heavy. KeepsNext depth old new heavy b b2))
+    → IfOk r (λ taken. IfSome taken (λ weight. KeepsArray below inside new weight b b2)) → IfOk r (λ taken. IfSome taken (λ weight. KeepsNext depth old new weight b b2))
 array_next_step depth below old inside new b b2 (Err e) some less is h = tt
 array_next_step depth below old inside new b b2 (Ok None) some less is h = tt
-array_next_step depth below old inside new b b2 (Ok (Some heavy)) some less is h = array_next depth old inside new heavy b b2 some is (rw less at h)
+array_next_step depth below old inside new b b2 (Ok (Some weight)) some less is h = array_next depth old inside new weight b b2 some is (rw less at h)
 
-object_next : (depth : ℕ) (old inside new : List Token) (heavy : ℕ) (b b2 : ColumnBuilder) → 0 < depth → old ≡ tokens.begin_object ∷ inside → KeepsObject (depth - 1) inside new heavy b b2
-    → KeepsNext depth old new heavy b b2
-object_next depth old inside new heavy b b2 some is k = record {
+object_next : (depth : ℕ) (old inside new : List Token) (weight : ℕ) (b b2 : ColumnBuilder) → 0 < depth → old ≡ tokens.begin_object ∷ inside → KeepsObject (depth - 1) inside new weight b b2
+    → KeepsNext depth old new weight b b2
+object_next depth old inside new weight b b2 some is k = record {
   data_is = object k.found;
   read = ap (λ (ts : List Token). converted of_json (value depth ts)) is
       ∙ ap (converted of_json) (value-begin_object depth inside some)
@@ -392,7 +392,7 @@ object_next depth old inside new heavy b b2 some is k = record {
 }
 
 pub object_next_step : {E : Type 0} (depth below : ℕ) (old inside new : List Token) (b b2 : ColumnBuilder) (r : Result (Option ℕ) E) → 0 < depth → below ≡ depth - 1 → old ≡ tokens.begin_object ∷ inside
-    → IfOk r (λ taken. IfSome taken (λ heavy. KeepsObject below inside new heavy b b2)) → IfOk r (λ taken. IfSome taken (λ heavy. KeepsNext depth old new heavy b b2))
+    → IfOk r (λ taken. IfSome taken (λ weight. KeepsObject below inside new weight b b2)) → IfOk r (λ taken. IfSome taken (λ weight. KeepsNext depth old new weight b b2))
 object_next_step depth below old inside new b b2 (Err e) some less is h = tt
 object_next_step depth below old inside new b b2 (Ok None) some less is h = tt
-object_next_step depth below old inside new b b2 (Ok (Some heavy)) some less is h = object_next depth old inside new heavy b b2 some is (rw less at h)
+object_next_step depth below old inside new b b2 (Ok (Some weight)) some less is h = object_next depth old inside new weight b b2 some is (rw less at h)

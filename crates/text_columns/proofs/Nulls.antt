@@ -1,4 +1,4 @@
--- Nulls that come behind the cells of a column, and what stands below them.
+-- Nulls that come after the cells of a column, and what is below them.
 use Rattle.std.specs.Prelude.{get_or, slice_get, Option, Result, OnOk, replicate, Some}
 use Rattle.std.specs.Global.{Vec}
 use Rattle.std.specs.List.{flat_map}
@@ -20,7 +20,7 @@ use Rattle.text_columns.specs.declared.builder.Names.{Names}
 use Rattle.text_columns.specs.declared.builder.ListOffsets.{ListOffsets}
 use Rattle.text_columns.specs.declared.builder.Slots.{Slots}
 use Rattle.text_columns.specs.declared.flat.FlatBuilder.{FlatBuilder}
-use Rattle.text_columns.specs.inner.Kept.{AllAppendNulls, AppendsNulls, HoldsLists, Keeps, KeepsAt, column_at, key_list, KeepsBelow, KeepsOffsets, KeepsSlots, PushesEmpty, PushesEnd, TakesNullCell, is_nullable, null_heavy_of}
+use Rattle.text_columns.specs.inner.Kept.{AllAppendNulls, AppendsNulls, HoldsLists, Keeps, KeepsAt, column_at, key_list, KeepsBelow, KeepsOffsets, KeepsSlots, PushesEmpty, PushesEnd, TakesNullCell, is_nullable, null_weight_of}
 use Rattle.text_columns.specs.inner.Lines.{KeepsNull}
 use Rattle.text_columns.proofs.Coded.{own_kind}
 use Rattle.std.proofs.lemmas.Bool.{cases_lt}
@@ -33,7 +33,7 @@ use Rattle.text_columns.proofs.TokenCells.{null_behind}
 
 -- ---- lists of nulls
 
--- one more behind some
+-- one more after some
 nulls_more : (so : List Cell) (n : ℕ) → (so ++ replicate n null) ++ null ∷ [] ≡ so ++ replicate (n + 1) null
 nulls_more so n = append_assoc so (replicate n null) (null ∷ []) ∙ ap (λ (xs : List Cell). so ++ xs) (replicate_more n null)
 
@@ -53,7 +53,7 @@ no_items (suc n) = no_items n
 pub items_stay : (so : List Cell) (n : ℕ) → flat_map item_list (so ++ replicate n null) ≡ flat_map item_list so
 items_stay so n = flat_map-append item_list so (replicate n null) ∙ ap (λ (xs : List Cell). flat_map item_list so ++ xs) (no_items n) ∙ append-nil (flat_map item_list so)
 
--- but where lists have a size, so many nulls
+-- but if lists have a size, so many nulls
 null_items : (size n : ℕ) → flat_map (fixed_items size) (replicate n null) ≡ replicate (n * size) null
 null_items size zero = (let e : 0 ≡ 0 * size = omega arith in ap (λ (m : ℕ). replicate m null) e)
 null_items size (suc n) =
@@ -168,7 +168,7 @@ struct_nulls n slots slots2 names names2 fields fields2 same weighs valid named 
   parts = structs_below kind so n slots slots2 names names2 fields fields2 named a k.parts;
 }
 
--- ---- one null, where nulls are allowed
+-- ---- one null, if nulls are allowed
 
 is_nullable_of : (c : Column) (so : List Cell) (b : ColumnBuilder) → Keeps c so b → is_nullable_column c ≡ is_nullable b
 is_nullable_of (column name nullable kind dictionary pairs) so (Flat b) k = sym k.0
@@ -176,17 +176,17 @@ is_nullable_of (column name nullable kind dictionary pairs) so (List' slots offs
 is_nullable_of (column name nullable kind dictionary pairs) so (FixedList' slots size p items) k = sym k.slots.same
 is_nullable_of (column name nullable kind dictionary pairs) so (Struct' slots names v row) k = sym k.slots.same
 
-pub null_is_heavy : (c : Column) (so : List Cell) (b : ColumnBuilder) → Keeps c so b → weight c null ≡ null_heavy_of b
+pub null_weight_is : (c : Column) (so : List Cell) (b : ColumnBuilder) → Keeps c so b → weight c null ≡ null_weight_of b
 unfolding weight
-null_is_heavy (column name nullable kind dictionary pairs) so (Flat b) k = null_weighs kind b.values (own_kind dictionary kind so b.values b.coding k.2)
-null_is_heavy (column name nullable kind dictionary pairs) so (List' slots offsets p items) k = k.slots.null_weighs
-null_is_heavy (column name nullable kind dictionary pairs) so (FixedList' slots size p items) k = k.slots.null_weighs
-null_is_heavy (column name nullable kind dictionary pairs) so (Struct' slots names v row) k = k.slots.null_weighs
+null_weight_is (column name nullable kind dictionary pairs) so (Flat b) k = null_weighs kind b.values (own_kind dictionary kind so b.values b.coding k.2)
+null_weight_is (column name nullable kind dictionary pairs) so (List' slots offsets p items) k = k.slots.null_weighs
+null_weight_is (column name nullable kind dictionary pairs) so (FixedList' slots size p items) k = k.slots.null_weighs
+null_weight_is (column name nullable kind dictionary pairs) so (Struct' slots names v row) k = k.slots.null_weighs
 
-pub null_pushed : (old new : ColumnBuilder) → is_nullable old ≡ true → AppendsNulls 1 old new → KeepsNull (null_heavy_of old) old new
-null_pushed old new is a c so k = (is_nullable_of c so old k ∙ is, null_is_heavy c so old k, a c so k)
+pub null_pushed : (old new : ColumnBuilder) → is_nullable old ≡ true → AppendsNulls 1 old new → KeepsNull (null_weight_of old) old new
+null_pushed old new is a c so k = (is_nullable_of c so old k ∙ is, null_weight_is c so old k, a c so k)
 
--- ---- what a call tells, where it appended them
+-- ---- what a call tells, if it appended them
 
 pub list_nulls_step : {A E : Type 0} (r : Result A E) (n : ℕ) (slots slots2 : Slots) (offsets offsets2 : ListOffsets) (p p2 : _) (items : ColumnBuilder) → slots2.nullable ≡ slots.nullable
     → slots2.null_weight ≡ slots.null_weight → slots2.valid.items ≡ slots.valid.items ++ replicate n false → OnOk r (PushesEmpty n offsets offsets2)

@@ -36,7 +36,7 @@ use Rattle.text_columns.specs.inner.Placed.{AreBuilt, AreEntriesPlaced, ArePlace
 
 -- ---- buffers
 
--- where nothing comes after it
+-- if nothing comes after it
 stands_last : (old buffer new : List ℕ) (span : Span) → IsAppended old buffer new span → within new span ≡ buffer
 stands_last old buffer new span a = ap (λ (xs : List ℕ). within xs span) (sym (append-nil new)) ∙ a.stands []
 
@@ -213,7 +213,7 @@ pub plain_step : {E : Type 0} (values : ColumnValues) (old new : List ℕ) (befo
 plain_step values old new before (Err e) h = tt
 plain_step values old new before (Ok layout) h = plain_laid values old new before layout h
 
--- an array behind its validity bitmap
+-- an array after its validity bitmap
 array_placed : (valid : List ℕ) (stated : Layout) (slots count : ℕ) (old mid new : List ℕ) (before behind : List Dictionary) (span : Span) (layout : PlacedLayout) → slots ≡ count
     → IsAppended old valid mid span → IsPlacedAs stated mid new before behind layout → (b : ColumnBuilder) → IsBuilt b (array count valid stated)
     → IsPlaced b old new before behind (roll-PlacedArray (record { slots = slots; validity = span; layout = layout }))
@@ -242,7 +242,7 @@ flat_placed b slots old mid new before behind span layout count a l =
 
 -- ---- columns with parts
 
--- offsets, and the array of items behind them
+-- offsets, and the array of items after them
 lists_are : (bytes : List ℕ) (known : DictionaryPart → List Array) (span : Span) (below : Box PlacedArray) → layout_by bytes known (layouts.List span below)
     ≡ list_layout (within bytes span) (array_in bytes known below.value)
 lists_are bytes known span below =

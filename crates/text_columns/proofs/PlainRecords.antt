@@ -26,7 +26,7 @@ module _ (fs : List (List ℕ)) where
       let parts = and_parts (not (ends_field c)) (list_all (λ b. not (ends_field b)) f) h in
       joins c field (f ++ rest) (not-true _ parts.0) ∙ run_in f (field ++ c ∷ []) rest parts.1 ∙ ap (λ (xs : List ℕ). next_record default_config st.InField fs xs rest) (append_assoc field (c ∷ []) f)
 
-  -- its first byte, where that is no quote
+  -- its first byte, if that is no quote
   begins : (c : ℕ) (rest : List ℕ) → ends_field c ≡ false → (c == 34) ≡ false → next_record default_config st.StartField fs [] (c ∷ rest) ≡ next_record default_config st.InField fs (c ∷ []) rest
   unfolding next_record
   begins c rest h q = let parts = or_parts (c == 44) (ends_line c) h in rw (q, parts.0, parts.1) refl

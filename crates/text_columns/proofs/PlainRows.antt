@@ -16,7 +16,7 @@ use Rattle.text_import.specs.laws.Left.{left_first, left_none, left_some}
 use Rattle.text_columns.specs.declared.builder.ColumnBuilder.{ColumnBuilder}
 use Rattle.text_columns.specs.declared.plain.PlainRow.{PlainRow}
 use Rattle.text_columns.specs.inner.Kept.{KeepAll, KeepsField, KeepsFields}
-use Rattle.text_columns.specs.inner.Plain.{IsFieldAt, PushesPlain, SkipsEnds, SkipsRecord, begins_quoted, begins_with, ends_field, ends_line}
+use Rattle.text_columns.specs.inner.Plain.{IsFieldAt, PushesPlain, SkipsEnds, SkipsHeader, begins_quoted, begins_with, ends_field, ends_line}
 use Rattle.text_columns.proofs.PlainRecords.{after_line, before_comma, before_end, before_line, begins_line, left_fresh, left_passed, left_skipped, starts_record}
 use Rattle.text_columns.proofs.PlainText.{parted}
 use Rattle.text_columns.proofs.Rows.{Half, half_all, half_more, half_none}
@@ -32,17 +32,17 @@ quoted_front [] rest h = refl
 quoted_front (c ∷ f) rest h = h
 
 -- the first fields of a record were read up to a place, and have come after the rows
-pub record Begun (text null_text : List ℕ) (from at i heavy : ℕ) (old bs : List ColumnBuilder) : Type 0 where
+pub record Begun (text null_text : List ℕ) (from at i weight : ℕ) (old bs : List ColumnBuilder) : Type 0 where
   pub fields : List (List ℕ)
   pub len : length fields ≡ i
   pub within : at ≤ length text
   pub read : next_record default_config st.StartField [] [] (drop from text) ≡ next_record default_config st.StartField fields [] (drop at text)
-  pub half : (cs : List Column) (rows : List (List Cell)) → KeepAll cs rows old → (more : List (List ℕ)) → Half cs null_text (fields ++ more) rows i heavy bs
+  pub half : (cs : List Column) (rows : List (List Cell)) → KeepAll cs rows old → (more : List (List ℕ)) → Half cs null_text (fields ++ more) rows i weight bs
 
 pub begun_none : (text null_text : List ℕ) (from : ℕ) (bs : List ColumnBuilder) → from ≤ length text → Begun text null_text from from 0 1 bs bs
 begun_none text null_text from bs le = record { fields = []; len = refl; within = le; read = refl; half = λ cs rows keeps more. half_none cs null_text more rows bs keeps }
 
-module _ (text null_text : List ℕ) (from at end i heavy more : ℕ) (old bs : List ColumnBuilder) (b new : ColumnBuilder) (h : Begun text null_text from at i heavy old bs) (field : IsFieldAt text at end)
+module _ (text null_text : List ℕ) (from at end i weight more : ℕ) (old bs : List ColumnBuilder) (b new : ColumnBuilder) (h : Begun text null_text from at i weight old bs) (field : IsFieldAt text at end)
     (quoted : begins_quoted (drop at text) ≡ false) (here : slice_get bs i ≡ Some b) (keeps : KeepsField null_text (take (end - at) (drop at text)) more b new) where
   split : drop at text ≡ take (end - at) (drop at text) ++ drop end text
   split = parted text at end field.low
@@ -50,18 +50,18 @@ module _ (text null_text : List ℕ) (from at end i heavy more : ℕ) (old bs : 
   unquoted : begins_quoted (take (end - at) (drop at text)) ≡ false
   unquoted = quoted_front (take (end - at) (drop at text)) (drop end text) (subst (λ (xs : List ℕ). begins_quoted xs ≡ false) split quoted)
 
-  halves : (cs : List Column) (rows : List (List Cell)) → KeepAll cs rows old → (others : List (List ℕ)) → Half cs null_text ((h.fields ++ take (end - at) (drop at text) ∷ []) ++ others) rows (i + 1) (heavy + more) (set bs i new)
+  halves : (cs : List Column) (rows : List (List Cell)) → KeepAll cs rows old → (others : List (List ℕ)) → Half cs null_text ((h.fields ++ take (end - at) (drop at text) ∷ []) ++ others) rows (i + 1) (weight + more) (set bs i new)
   halves cs rows keep others =
       let t : List ℕ = take (end - at) (drop at text) in
       let same : (h.fields ++ t ∷ []) ++ others ≡ h.fields ++ t ∷ others = append_assoc h.fields (t ∷ []) others in
-      subst (λ (ts : List (List ℕ)). Half cs null_text ts rows (i + 1) (heavy + more) (set bs i new)) (sym same)
-      (half_more cs null_text (h.fields ++ t ∷ others) rows i heavy more bs b new t here (at_place h.fields others t i h.len) keeps (h.half cs rows keep (t ∷ others)))
+      subst (λ (ts : List (List ℕ)). Half cs null_text ts rows (i + 1) (weight + more) (set bs i new)) (sym same)
+      (half_more cs null_text (h.fields ++ t ∷ others) rows i weight more bs b new t here (at_place h.fields others t i h.len) keeps (h.half cs rows keep (t ∷ others)))
 
   longer : length (h.fields ++ take (end - at) (drop at text) ∷ []) ≡ i + 1
   longer = length-append h.fields (take (end - at) (drop at text) ∷ []) ∙ ap (λ (n : ℕ). n + 1) h.len
 
   -- a comma, and another field
-  pub begun_more : begins_with 44 (drop end text) ≡ true → Begun text null_text from (end + 1) (i + 1) (heavy + more) old (set bs i new)
+  pub begun_more : begins_with 44 (drop end text) ≡ true → Begun text null_text from (end + 1) (i + 1) (weight + more) old (set bs i new)
   begun_more comma =
       let t : List ℕ = take (end - at) (drop at text) in
       let inside : end < length text = comma_inside text end comma field.high in
@@ -88,7 +88,7 @@ module _ (text null_text : List ℕ) (from at end i heavy more : ℕ) (old bs : 
           let is : slice_index text end ≡ 44 = eqb-true _ _ (rw byte at c) in
           byte ∙ ap (λ (x : ℕ). x ∷ drop (end + 1) text) is
 
-  kept : (w : ℕ) → heavy + more ≡ w → length bs ≤ i + 1 → length bs ≡ length old → (length (h.fields ++ take (end - at) (drop at text) ∷ []) ≡ length old) × KeepsFields null_text (h.fields ++ take (end - at) (drop at text) ∷ []) w old (set bs i new)
+  kept : (w : ℕ) → weight + more ≡ w → length bs ≤ i + 1 → length bs ≡ length old → (length (h.fields ++ take (end - at) (drop at text) ∷ []) ≡ length old) × KeepsFields null_text (h.fields ++ take (end - at) (drop at text) ∷ []) w old (set bs i new)
   kept w weighs last count =
       let inside : i < length bs = slice_get_within bs i b here in (
         omega (arith, longer, inside, last, count),
@@ -96,7 +96,7 @@ module _ (text null_text : List ℕ) (from at end i heavy more : ℕ) (old bs : 
             let ts : List (List ℕ) = h.fields ++ take (end - at) (drop at text) ∷ [] in
             let half = halves cs rows keep [] in
             let whole : Half cs null_text ts rows (i + 1) w (set bs i new) =
-            subst (λ (n : ℕ). Half cs null_text ts rows (i + 1) n (set bs i new)) weighs (subst (λ (xs : List (List ℕ)). Half cs null_text xs rows (i + 1) (heavy + more) (set bs i new)) (append-nil ts) half) in
+            subst (λ (n : ℕ). Half cs null_text ts rows (i + 1) n (set bs i new)) weighs (subst (λ (xs : List (List ℕ)). Half cs null_text xs rows (i + 1) (weight + more) (set bs i new)) (append-nil ts) half) in
             half_all cs null_text ts rows (i + 1) w (set bs i new) (omega (arith, length-set bs i new, last)) whole,
       )
 
@@ -119,7 +119,7 @@ module _ (text null_text : List ℕ) (from at end i heavy more : ℕ) (old bs : 
       there (x ∷ text) (suc end) e rest is = (let less = there text end e rest is in omega arith)
 
   -- the end of a line or of the text
-  pub ended : (row : PlainRow) → begins_with 44 (drop end text) ≡ false → heavy + more ≡ row.weight → length bs ≤ i + 1 → length bs ≡ length old → row.next ≤ length text → drop row.next text ≡ drop 1 (drop end text)
+  pub ended : (row : PlainRow) → begins_with 44 (drop end text) ≡ false → weight + more ≡ row.weight → length bs ≤ i + 1 → length bs ≡ length old → row.next ≤ length text → drop row.next text ≡ drop 1 (drop end text)
       → PushesPlain text null_text from row old (set bs i new)
   ended row other weighs last count within next = by (drop end text) refl
     where
@@ -171,7 +171,7 @@ next_stands text null_text at row old new left p lt quiet stands =
     let (others, whole, more) = left_some left st.StartRecord (drop at text) (p.fields, p.state, drop row.next text) stands (starts ∙ p.read) in
     (others, whole, left_fresh others p.state (drop row.next text) p.fresh more)
 
-pub header_passed : (text : List ℕ) (mark at from : ℕ) (header : List (List ℕ)) (records : List (List (List ℕ))) → drop mark text ≡ strip_bom text → SkipsEnds text mark at → SkipsRecord text at from
+pub header_passed : (text : List ℕ) (mark at from : ℕ) (header : List (List ℕ)) (records : List (List (List ℕ))) → drop mark text ≡ strip_bom text → SkipsEnds text mark at → SkipsHeader text at from
     → records_of text ≡ header ∷ records → InText text from records
 header_passed text mark at from header records marked skips passes is =
     let first : InText text mark (header ∷ records) = subst (λ (xs : List ℕ). Left (header ∷ records) st.StartRecord xs) (sym marked) (subst (λ (rs : List (List (List ℕ))). Left rs st.StartRecord (strip_bom text)) is (left_first text)) in

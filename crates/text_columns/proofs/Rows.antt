@@ -9,7 +9,7 @@ use Rattle.std.proofs.lemmas.Option.{slice_get_within}
 use Rattle.arrow_schema.specs.Column.{Column, columns_of, PlainSchema}
 use Rattle.cells.specs.Cell.{Cell, null, cells_of}
 use Rattle.cells.specs.Dictionary.{dictionaries_fit}
-use Rattle.cells.specs.Weight.{parts_weight, row_weight, table_weight, weight}
+use Rattle.cells.specs.Weight.{parts_weight, row_weight, table_weight, weight as cell_weight}
 use Rattle.csv.specs.declared.reader.Reader.{Reader}
 use Rattle.facts.specs.Outcomes.{Reports}
 use Rattle.text_import.specs.Records.{field_cells, record_row}
@@ -64,7 +64,7 @@ module _ {X : Type 0} where
 -- ---- one more row
 
 pub parts_weigh : (cs : List Column) (xs : List Cell) (c : Column) (x : Cell) → length xs ≡ length cs
-    → parts_weight (columns_of (cs ++ c ∷ [])) (cells_of (xs ++ x ∷ [])) ≡ parts_weight (columns_of cs) (cells_of xs) + weight c x
+    → parts_weight (columns_of (cs ++ c ∷ [])) (cells_of (xs ++ x ∷ [])) ≡ parts_weight (columns_of cs) (cells_of xs) + cell_weight c x
 unfolding parts_weight
 parts_weigh [] [] c x e = omega arith
 parts_weigh [] (y ∷ xs) c x e = absurd (omega arith)
@@ -78,12 +78,12 @@ none_weigh cells = refl
 pub column_more : (j : ℕ) (rows : List (List Cell)) (row : List Cell) → column_at j (rows ++ row ∷ []) ≡ column_at j rows ++ get_or row j null ∷ []
 column_more j rows row = map-append (λ (r : List Cell). get_or r j null) rows (row ∷ [])
 
--- the first fields of a record have come after the rows, and weigh so much with their row
-pub record Half (cs : List Column) (null_text : List ℕ) (ts : List (List ℕ)) (rows : List (List Cell)) (i heavy : ℕ) (bs : List ColumnBuilder) : Type 0 where
+-- the first fields of a record have come after the rows; the weight is that of their row
+pub record Half (cs : List Column) (null_text : List ℕ) (ts : List (List ℕ)) (rows : List (List Cell)) (i weight : ℕ) (bs : List ColumnBuilder) : Type 0 where
   pub row : List Cell
   pub len : length row ≡ i
   pub read : behind row (field_cells null_text (drop i cs) (drop i ts)) ≡ field_cells null_text cs ts
-  pub weighs : 1 + parts_weight (columns_of (take i cs)) (cells_of row) ≡ heavy
+  pub weighs : 1 + parts_weight (columns_of (take i cs)) (cells_of row) ≡ weight
   pub count : length bs ≡ length cs
   pub done : (j : ℕ) (c : Column) (b : ColumnBuilder) → j < i → slice_get cs j ≡ Some c → slice_get bs j ≡ Some b → Keeps c (column_at j rows ++ get_or row j null ∷ []) b
   pub rest : (j : ℕ) (c : Column) (b : ColumnBuilder) → i ≤ j → slice_get cs j ≡ Some c → slice_get bs j ≡ Some b → Keeps c (column_at j rows) b
@@ -99,9 +99,9 @@ half_none cs null_text ts rows bs k = record {
   rest = λ j c b le. k.each j c b;
 }
 
-pub half_more : (cs : List Column) (null_text : List ℕ) (ts : List (List ℕ)) (rows : List (List Cell)) (i heavy more : ℕ) (bs : List ColumnBuilder) (old new : ColumnBuilder) (t : List ℕ)
-    → slice_get bs i ≡ Some old → slice_get ts i ≡ Some t → KeepsField null_text t more old new → Half cs null_text ts rows i heavy bs → Half cs null_text ts rows (i + 1) (heavy + more) (set bs i new)
-half_more cs null_text ts rows i heavy more bs old new t here text keeps h =
+pub half_more : (cs : List Column) (null_text : List ℕ) (ts : List (List ℕ)) (rows : List (List Cell)) (i weight more : ℕ) (bs : List ColumnBuilder) (old new : ColumnBuilder) (t : List ℕ)
+    → slice_get bs i ≡ Some old → slice_get ts i ≡ Some t → KeepsField null_text t more old new → Half cs null_text ts rows i weight bs → Half cs null_text ts rows (i + 1) (weight + more) (set bs i new)
+half_more cs null_text ts rows i weight more bs old new t here text keeps h =
     let within : i < length bs = slice_get_within bs i old here in
     let (c, col) = there_within cs i (omega (arith, within, h.count)) in
     let k = keeps c (column_at i rows) (h.rest i c old (omega arith) col here) in
@@ -109,12 +109,12 @@ half_more cs null_text ts rows i heavy more bs old new t here text keeps h =
     let fields : drop i cs ≡ c ∷ drop (suc i) cs = dropped_here cs i c col in
     let others : drop i ts ≡ t ∷ drop (suc i) ts = dropped_here ts i t text in
     let short : length h.row ≡ length (take i cs) = h.len ∙ sym (length-take-le i cs (omega (arith, within, h.count))) in
-    let heavier = parts_weigh (take i cs) h.row c k.kept short in
+    let weighed = parts_weigh (take i cs) h.row c k.kept short in
     record {
       row = h.row ++ k.kept ∷ [];
       len = length-append h.row (k.kept ∷ []) ∙ ap (λ (n : ℕ). n + 1) h.len;
       read = rw one (sym (field_more null_text h.row c (drop (suc i) cs) t (drop (suc i) ts) k.kept k.read) ∙ rw (fields, others) at h.read);
-      weighs = rw (one, taken_here cs i c col) (omega (arith, heavier, h.weighs, k.weighs));
+      weighs = rw (one, taken_here cs i c col) (omega (arith, weighed, h.weighs, k.weighs));
       count = length-set bs i new ∙ h.count;
       done = λ j d b lt dc db. elim (cases_lt j i) [
         | inl before ↦
@@ -136,9 +136,9 @@ half_more cs null_text ts rows i heavy more bs old new t here text keeps h =
           h.rest j d b (omega (arith, le)) dc (sym same ∙ db);
     }
 
-pub half_all : (cs : List Column) (null_text : List ℕ) (ts : List (List ℕ)) (rows : List (List Cell)) (i heavy : ℕ) (bs : List ColumnBuilder) → length bs ≤ i
-    → Half cs null_text ts rows i heavy bs → HasRow cs null_text ts heavy rows bs
-half_all cs null_text ts rows i heavy bs le h =
+pub half_all : (cs : List Column) (null_text : List ℕ) (ts : List (List ℕ)) (rows : List (List Cell)) (i weight : ℕ) (bs : List ColumnBuilder) → length bs ≤ i
+    → Half cs null_text ts rows i weight bs → HasRow cs null_text ts weight rows bs
+half_all cs null_text ts rows i weight bs le h =
     let none : drop i cs ≡ [] = drop_all i cs (omega (arith, le, h.count)) in
     let all : take i cs ≡ cs = take_all i cs (omega (arith, le, h.count)) in
     record {
@@ -182,13 +182,13 @@ keep_more cs bs c b k kept = record {
 -- ---- the records of a text
 
 -- some records have come as rows, and the others are left, which are read by a reader or stand in the text
-pub record Read (IsLeft : List (List (List ℕ)) → Type 0) (s : PlainSchema) (null_text : List ℕ) (records : List (List (List ℕ))) (i heavy : ℕ) (b : Batches) : Type 0 where
+pub record Read (IsLeft : List (List (List ℕ)) → Type 0) (s : PlainSchema) (null_text : List ℕ) (records : List (List (List ℕ))) (i weight : ℕ) (b : Batches) : Type 0 where
   pub rows : List (List Cell)
   pub left : List (List (List ℕ))
   pub stands : IsLeft left
   pub read : behind rows (rows_from (record_row s null_text) (i + 1) left) ≡ rows_from (record_row s null_text) 1 records
   pub count : length rows ≡ i
-  pub weighs : table_weight s rows ≡ heavy
+  pub weighs : table_weight s rows ≡ weight
   pub holds : HoldRows s rows b
 
 pub read_none : (IsLeft : List (List (List ℕ)) → Type 0) (s : PlainSchema) (null_text : List ℕ) (records : List (List (List ℕ))) (b : Batches) → IsLeft records → HoldRows s [] b
@@ -196,23 +196,23 @@ pub read_none : (IsLeft : List (List (List ℕ)) → Type 0) (s : PlainSchema) (
 read_none IsLeft s null_text records b has k = record { rows = []; left = records; stands = has; read = behind_none _; count = refl; weighs = refl; holds = k }
 
 -- the same rows in other batches
-pub read_same : (IsLeft : List (List (List ℕ)) → Type 0) (s : PlainSchema) (null_text : List ℕ) (records : List (List (List ℕ))) (i heavy : ℕ) (old new : Batches) → HoldsSame s old new
-    → Read IsLeft s null_text records i heavy old → Read IsLeft s null_text records i heavy new
-read_same IsLeft s null_text records i heavy old new same h =
+pub read_same : (IsLeft : List (List (List ℕ)) → Type 0) (s : PlainSchema) (null_text : List ℕ) (records : List (List (List ℕ))) (i weight : ℕ) (old new : Batches) → HoldsSame s old new
+    → Read IsLeft s null_text records i weight old → Read IsLeft s null_text records i weight new
+read_same IsLeft s null_text records i weight old new same h =
     record { rows = h.rows; left = h.left; stands = h.stands; read = h.read; count = h.count; weighs = h.weighs; holds = same h.rows h.holds }
 
 -- a row that is not too heavy is accepted
-accepted_row : (s : PlainSchema) (null_text : List ℕ) (ts : List (List ℕ)) (rows : List (List Cell)) (heavy : ℕ) (old new : List ColumnBuilder) (h : HasRow s.columns null_text ts heavy rows new)
-    → length ts ≡ length s.columns → heavy ≤ 16777216 → dictionaries_fit s (h.row ∷ []) ≡ true → record_row s null_text ts ≡ Ok h.row
-accepted_row s null_text ts rows heavy old new h count few full =
+accepted_row : (s : PlainSchema) (null_text : List ℕ) (ts : List (List ℕ)) (rows : List (List Cell)) (weight : ℕ) (old new : List ColumnBuilder) (h : HasRow s.columns null_text ts weight rows new)
+    → length ts ≡ length s.columns → weight ≤ 16777216 → dictionaries_fit s (h.row ∷ []) ≡ true → record_row s null_text ts ≡ Ok h.row
+accepted_row s null_text ts rows weight old new h count few full =
     let width : (length ts == length s.columns) ≡ true = eq-eqb _ _ count in
     let light : nat_lt 16777216 (row_weight s h.row) ≡ false = le-ltb _ _ (omega (arith, h.weighs, few)) in
     rw (width, h.read, light, full) refl
 
-pub read_more : (IsLeft WillBeLeft : List (List (List ℕ)) → Type 0) (s : PlainSchema) (null_text : List ℕ) (records others : List (List (List ℕ))) (i heavy more : ℕ) (old new : Batches)
-    (fields : List (List ℕ)) → (h : Read IsLeft s null_text records i heavy old) → h.left ≡ fields ∷ others → WillBeLeft others → more ≤ 16777216 → KeepsRecord null_text fields more old.builders.items new.builders.items → AddsRow old new
-    → Read WillBeLeft s null_text records (i + 1) (heavy + more) new
-read_more IsLeft WillBeLeft s null_text records others i heavy more old new fields h whole has few keeps adds =
+pub read_more : (IsLeft WillBeLeft : List (List (List ℕ)) → Type 0) (s : PlainSchema) (null_text : List ℕ) (records others : List (List (List ℕ))) (i weight more : ℕ) (old new : Batches)
+    (fields : List (List ℕ)) → (h : Read IsLeft s null_text records i weight old) → h.left ≡ fields ∷ others → WillBeLeft others → more ≤ 16777216 → KeepsRecord null_text fields more old.builders.items new.builders.items → AddsRow old new
+    → Read WillBeLeft s null_text records (i + 1) (weight + more) new
+read_more IsLeft WillBeLeft s null_text records others i weight more old new fields h whole has few keeps adds =
     let held = h.holds in
     let row = keeps.1 s.columns held.last held.keeps in
     let full = row_fits s held.last old.builders.items row.row held.keeps in
@@ -229,9 +229,9 @@ read_more IsLeft WillBeLeft s null_text records others i heavy more old new fiel
       holds = held_more s h.rows row.row old new held adds row.keeps;
     }
 
-pub read_rows : (IsLeft : List (List (List ℕ)) → Type 0) (s : PlainSchema) (null_text : List ℕ) (records : List (List (List ℕ))) (i heavy : ℕ) (b : Batches)
-    → (h : Read IsLeft s null_text records i heavy b) → h.left ≡ [] → heavy ≤ 268435456 → HasRows s (rows_from (record_row s null_text) 1 records) heavy b
-read_rows IsLeft s null_text records i heavy b h none few = record {
+pub read_rows : (IsLeft : List (List (List ℕ)) → Type 0) (s : PlainSchema) (null_text : List ℕ) (records : List (List (List ℕ))) (i weight : ℕ) (b : Batches)
+    → (h : Read IsLeft s null_text records i weight b) → h.left ≡ [] → weight ≤ 268435456 → HasRows s (rows_from (record_row s null_text) 1 records) weight b
+read_rows IsLeft s null_text records i weight b h none few = record {
   rows = h.rows;
   are_read = sym (rw none at h.read) ∙ rows_end (record_row s null_text) (i + 1) h.rows;
   weighs = h.weighs;
@@ -250,10 +250,10 @@ none_left (x ∷ xs) h = absurd (omega arith)
 pub left_behind : (left others : List (List (List ℕ))) (fields : List (List ℕ)) (i most : ℕ) → left ≡ fields ∷ others → length left ≤ most - i → length others ≤ most - (i + 1)
 left_behind left others fields i most whole few = let len = ap length whole in omega (arith, len, few)
 
-pub read_refused : (IsLeft : List (List (List ℕ)) → Type 0) (s : PlainSchema) (null_text : List ℕ) (records others : List (List (List ℕ))) (i heavy : ℕ) (b : Batches) (fields : List (List ℕ))
-    (o : Option Refused) → (h : Read IsLeft s null_text records i heavy b) → h.left ≡ fields ∷ others → Reports o (numbered (i + 1) (record_row s null_text fields))
+pub read_refused : (IsLeft : List (List (List ℕ)) → Type 0) (s : PlainSchema) (null_text : List ℕ) (records others : List (List (List ℕ))) (i weight : ℕ) (b : Batches) (fields : List (List ℕ))
+    (o : Option Refused) → (h : Read IsLeft s null_text records i weight b) → h.left ≡ fields ∷ others → Reports o (numbered (i + 1) (record_row s null_text fields))
     → Reports o (rows_from (record_row s null_text) 1 records)
-read_refused IsLeft s null_text records others i heavy b fields o h whole refused =
+read_refused IsLeft s null_text records others i weight b fields o h whole refused =
     told o (numbered (i + 1) (record_row s null_text fields)) (rows_from (record_row s null_text) 1 records) refused
     (λ f e. sym (rw whole at h.read) ∙ row_refused (record_row s null_text) (i + 1) h.rows fields others f e)
 

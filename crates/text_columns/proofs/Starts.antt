@@ -9,13 +9,13 @@ use Rattle.arrow_schema.specs.View.{column_of, index_of, kind_of, pair_of}
 use Rattle.arrow_schema.specs.declared.types.Field.{Field}
 use Rattle.arrow_schema.specs.laws.Parts.{field_parts}
 use Rattle.cells.specs.Cell.{null, no_cell}
-use Rattle.cells.specs.Weight.{kind_weight, parts_weight, weight}
+use Rattle.cells.specs.Weight.{kind_weight, parts_weight, weight as cell_weight}
 use Rattle.columns.specs.declared.numbers.OffsetWidth.TheVariants.{Four, Eight}
 use Rattle.text_columns.specs.declared.builder.ColumnBuilder.{ColumnBuilder}
-use Rattle.text_columns.specs.inner.Kept.{Keeps, StartsFixedLists, StartsLists, StartsStructs, AreUnlimited, IsUnlimited, KeepAll, key_list, null_heavy_of}
+use Rattle.text_columns.specs.inner.Kept.{Keeps, StartsFixedLists, StartsLists, StartsStructs, AreUnlimited, IsUnlimited, KeepAll, key_list, null_weight_of}
 use Rattle.text_columns.proofs.Rows.{last_or_before}
 use Rattle.text_columns.proofs.StructFields.{fields_hold, holds_so}
-use Rattle.text_columns.proofs.Nulls.{null_is_heavy}
+use Rattle.text_columns.proofs.Nulls.{null_weight_is}
 
 -- a column of lists, from its buffers without cells
 lists_start : (name : List ℕ) (nullable : Bool) (item : Column) (pairs : List Pair) (b : ColumnBuilder) → StartsLists nullable Four item b → Keeps (column name nullable (lists item) None pairs) [] b
@@ -42,11 +42,11 @@ fixed_lists_start name nullable size item pairs b s = rw s.is (record {
 })
 
 -- a null of lists of a size weighs as much as its items that are null
-pub fixed_null : (item : Column) (items : ColumnBuilder) (size heavy below total : ℕ) → Keeps item [] items → heavy ≡ null_heavy_of items → below ≡ heavy * size → total ≡ below + 1
-    → total ≡ 1 + size * weight item null
-fixed_null item items size heavy below total k is product sum =
-    let same : heavy ≡ weight item null = is ∙ sym (null_is_heavy item [] items k) in
-    let turned : heavy * size ≡ size * weight item null = ap (λ (n : ℕ). n * size) same ∙ mul_comm (weight item null) size in
+pub fixed_null : (item : Column) (items : ColumnBuilder) (size weight below total : ℕ) → Keeps item [] items → weight ≡ null_weight_of items → below ≡ weight * size → total ≡ below + 1
+    → total ≡ 1 + size * cell_weight item null
+fixed_null item items size weight below total k is product sum =
+    let same : weight ≡ cell_weight item null = is ∙ sym (null_weight_is item [] items k) in
+    let turned : weight * size ≡ size * cell_weight item null = ap (λ (n : ℕ). n * size) same ∙ mul_comm (cell_weight item null) size in
     omega (arith, turned, product, sum)
 
 -- ---- what a call tells of the column of a field
@@ -76,24 +76,24 @@ fixed_lists_step f size item r is plain h =
 
 -- a null weighs one, and what nulls of its fields weigh
 parts_null_weigh : (cs : List Column) (bs : List ColumnBuilder) → length bs ≡ length cs → ((j : ℕ) (c : Column) (b : ColumnBuilder) → slice_get cs j ≡ Some c → slice_get bs j ≡ Some b → Keeps c [] b)
-    → parts_weight (columns_of cs) no_cell ≡ sum_by null_heavy_of bs
+    → parts_weight (columns_of cs) no_cell ≡ sum_by null_weight_of bs
 unfolding parts_weight
 parts_null_weigh [] [] count each = refl
 parts_null_weigh [] (b ∷ bs) count each = absurd (omega arith)
 parts_null_weigh (c ∷ cs) [] count each = absurd (omega arith)
 parts_null_weigh (c ∷ cs) (b ∷ bs) count each =
-    let here = null_is_heavy c [] b (each 0 c b refl refl) in
+    let here = null_weight_is c [] b (each 0 c b refl refl) in
     let others = parts_null_weigh cs bs (omega arith) (λ j d e dc db. each (suc j) d e dc db) in
-    let sum = sum_by-cons null_heavy_of b bs in
+    let sum = sum_by-cons null_weight_of b bs in
     (λ j. here j + others j) ∙ sym sum
 
 structs_start : (name : List ℕ) (nullable : Bool) (cs : List Column) (pairs : List Pair) (b : ColumnBuilder) → StartsStructs nullable cs b → Keeps (column name nullable (structs (columns_of cs)) None pairs) [] b
 unfolding kind_weight
 structs_start name nullable cs pairs b s =
     let listed : list_of (columns_of cs) ≡ cs = columns_listed cs in
-    let heavy = parts_null_weigh cs s.fields.items s.keeps.count (λ j c own dc db. s.keeps.each j c own dc db) in
+    let weight = parts_null_weigh cs s.fields.items s.keeps.count (λ j c own dc db. s.keeps.each j c own dc db) in
     rw s.is (record {
-      slots = record { same = s.same; valid = s.none; null_weighs = omega (arith, heavy, s.null_weighs); plain = refl };
+      slots = record { same = s.same; valid = s.none; null_weighs = omega (arith, weight, s.null_weighs); plain = refl };
       parts = holds_so (columns_of cs) [] s.slots s.names s.fields
           (fields_hold (columns_of cs) [] (key_list s.names.names.keys) s.fields.items s.names_are s.distinct (subst AreUnlimited (sym listed) s.unlimited)
           (subst (λ (xs : List Column). KeepAll xs [] s.fields.items) (sym listed) s.keeps));

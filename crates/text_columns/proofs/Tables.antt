@@ -105,23 +105,23 @@ part_made s rows bs n part batch k count law lists can entries one size placed =
 
 -- ---- the table
 
-rows_are_table : (s : PlainSchema) (stated : Result (List (List Cell)) Refused) (heavy : ℕ) (b : Batches) → IsWithinLimits s
-    → ((rows : List (List Cell)) → stated ≡ Ok rows → AllPass (is_row s) rows) → (h : HasRows s stated heavy b) → IsTable (record { schema = s; rows = h.rows })
-rows_are_table s stated heavy b limits pass h = record { schema = limits; rows = pass h.rows h.are_read; weight = omega (arith, h.weighs, h.few) }
+rows_are_table : (s : PlainSchema) (stated : Result (List (List Cell)) Refused) (weight : ℕ) (b : Batches) → IsWithinLimits s
+    → ((rows : List (List Cell)) → stated ≡ Ok rows → AllPass (is_row s) rows) → (h : HasRows s stated weight b) → IsTable (record { schema = s; rows = h.rows })
+rows_are_table s stated weight b limits pass h = record { schema = limits; rows = pass h.rows h.are_read; weight = omega (arith, h.weighs, h.few) }
 
-pub makes_rows : (s : PlainSchema) (stated : Result (List (List Cell)) Refused) (heavy : ℕ) (b : Batches) → IsWithinLimits s
-    → ((rows : List (List Cell)) → stated ≡ Ok rows → AllPass (is_row s) rows) → HasRows s stated heavy b → MakesRows s b
-makes_rows s stated heavy b limits pass h = record { rows = h.rows; holds = h.holds; table = rows_are_table s stated heavy b limits pass h }
+pub makes_rows : (s : PlainSchema) (stated : Result (List (List Cell)) Refused) (weight : ℕ) (b : Batches) → IsWithinLimits s
+    → ((rows : List (List Cell)) → stated ≡ Ok rows → AllPass (is_row s) rows) → HasRows s stated weight b → MakesRows s b
+makes_rows s stated weight b limits pass h = record { rows = h.rows; holds = h.holds; table = rows_are_table s stated weight b limits pass h }
 
 -- what a call tells of the table that it made
-pub record IsTold (s : PlainSchema) (stated : Result (List (List Cell)) Refused) (heavy : ℕ) (t : PlainTable) : Type 0 where
+pub record IsTold (s : PlainSchema) (stated : Result (List (List Cell)) Refused) (weight : ℕ) (t : PlainTable) : Type 0 where
   pub read : stated ≡ Ok t.rows
   pub schema : t.schema ≡ s
-  pub weight : heavy ≡ table_weight s t.rows
+  pub weighs : weight ≡ table_weight s t.rows
 
-pub table_told : (s : PlainSchema) (stated : Result (List (List Cell)) Refused) (heavy : ℕ) (b : Batches) (t : PlainTable) → IsWithinLimits s
-    → ((rows : List (List Cell)) → stated ≡ Ok rows → AllPass (is_row s) rows) → HasRows s stated heavy b → HasTable s b t → IsTold s stated heavy t
-table_told s stated heavy b t limits pass h has =
-    let same : t ≡ record { schema = s; rows = h.rows } = has h.rows h.holds (rows_are_table s stated heavy b limits pass h) in
+pub table_told : (s : PlainSchema) (stated : Result (List (List Cell)) Refused) (weight : ℕ) (b : Batches) (t : PlainTable) → IsWithinLimits s
+    → ((rows : List (List Cell)) → stated ≡ Ok rows → AllPass (is_row s) rows) → HasRows s stated weight b → HasTable s b t → IsTold s stated weight t
+table_told s stated weight b t limits pass h has =
+    let same : t ≡ record { schema = s; rows = h.rows } = has h.rows h.holds (rows_are_table s stated weight b limits pass h) in
     let rows : t.rows ≡ h.rows = ap (λ (u : PlainTable). u.rows) same in
-    record { read = h.are_read ∙ ap Ok (sym rows); schema = ap (λ (u : PlainTable). u.schema) same; weight = sym h.weighs ∙ ap (table_weight s) (sym rows) }
+    record { read = h.are_read ∙ ap Ok (sym rows); schema = ap (λ (u : PlainTable). u.schema) same; weighs = sym h.weighs ∙ ap (table_weight s) (sym rows) }

@@ -1,4 +1,4 @@
--- Cells that come behind others, by the buffers of their column.
+-- Cells that come after others, by the buffers of their column.
 use Rattle.std.specs.Prelude.{ℤ, if◌then◌else◌, replicate, Option, Some, None, Ok, Err, Result, IfOk, IfSome, bytes_eq, ◌&&◌}
 use Rattle.std.specs.List.{flat_map}
 use Rattle.std.specs.Str.{is_utf8}
@@ -24,7 +24,7 @@ use Rattle.text_columns.specs.declared.column_values.ColumnValues.{ColumnValues}
 use Rattle.text_columns.specs.declared.column_values.ColumnValues.TheVariants.{Nulls, Booleans, Integers, Texts, Binaries, FixedBinaries}
 use Rattle.text_columns.specs.declared.builder.ColumnBuilder.{Flat}
 use Rattle.text_columns.specs.declared.flat.FlatBuilder.{FlatBuilder}
-use Rattle.text_columns.specs.inner.Kept.{AppendsBoolean, AppendsBytes, AppendsFixed, AppendsSpelled, HoldContents, Holds, IsOf, KeepsField, TakesField, TakesNull, TakesText, null_heavy}
+use Rattle.text_columns.specs.inner.Kept.{AppendsBoolean, AppendsBytes, AppendsFixed, AppendsSpelled, HoldContents, Holds, IsOf, KeepsField, TakesField, TakesNull, TakesText, null_weight}
 use Rattle.text_columns.specs.inner.Lines.{KeepsNull}
 use Rattle.text_import.specs.declared.refusal.Refusal.TheVariants.{FixedWidth}
 
@@ -53,7 +53,7 @@ module _ {A : Type 0} (f : Cell → List A) where
       ∙ flat_map-append (little_bytes width) (sums_from 0 (map (λ d. length (f d)) cells)) ((0 + length (flat_map f cells) + length (f c)) ∷ [])
       ∙ ap (λ (xs : List ℕ). offsets_of width (map (λ d. length (f d)) cells) ++ xs) (append-nil (little_bytes width (0 + length (flat_map f cells) + length (f c))) ∙ ap (little_bytes width) zero_plus)
 
--- a text or a binary comes behind others, or a null, which has no bytes
+-- a text or a binary comes after others, or a null, which has no bytes
 pub contents_hold : (width : OffsetWidth) (cells : List Cell) (c : Cell) (offsets contents newer longer : List ℕ) → HoldContents width cells offsets contents → longer ≡ contents ++ contents_of c
     → newer ≡ offsets ++ little_bytes (width_of width) (length contents + length (contents_of c)) → HoldContents width (cells ++ c ∷ []) newer longer
 contents_hold width cells c offsets contents newer longer holds more end =
@@ -98,7 +98,7 @@ fixed_null width old new e = λ kind cells t. record {
   holds = one_joined (fixed_bytes width) cells null old.items new.items t.holds e;
 }
 
-pub null_weighs : (kind : Kind) (values : ColumnValues) → IsOf kind values → kind_weight kind null ≡ null_heavy values
+pub null_weighs : (kind : Kind) (values : ColumnValues) → IsOf kind values → kind_weight kind null ≡ null_weight values
 unfolding kind_weight
 null_weighs nulls Nulls h = refl
 null_weighs (fixed_binaries size) (FixedBinaries width own) h = ap (λ (n : ℕ). 1 + n) (sym h)
@@ -188,62 +188,62 @@ text_taken width t offsets contents newer longer utf8 more end large_texts cells
 }
 text_taken width t offsets contents newer longer utf8 more end _ cells k = absurd k.kind_is
 
-pub bytes_taken : (width : OffsetWidth) (t : List ℕ) (heavy : ℕ) (offsets contents newer longer : Vec ℕ) → AppendsBytes width t heavy offsets.items contents.items newer.items longer.items
-    → TakesText t heavy (Binaries width offsets contents) (Binaries width newer longer)
+pub bytes_taken : (width : OffsetWidth) (t : List ℕ) (weight : ℕ) (offsets contents newer longer : Vec ℕ) → AppendsBytes width t weight offsets.items contents.items newer.items longer.items
+    → TakesText t weight (Binaries width offsets contents) (Binaries width newer longer)
 unfolding cell_of_text kind_weight fits_kind
-bytes_taken width t heavy offsets contents newer longer a binaries cells k = record {
+bytes_taken width t weight offsets contents newer longer a binaries cells k = record {
   taken = bytes a.spelled;
   read = ap (bytes_cell binaries) a.read;
   there = refl;
   weighs = sym a.weighs;
   takes = record { kind_is = k.kind_is; holds = contents_hold width cells (bytes a.spelled) offsets.items contents.items newer.items longer.items k.holds a.more a.end };
 }
-bytes_taken width t heavy offsets contents newer longer a large_binaries cells k = record {
+bytes_taken width t weight offsets contents newer longer a large_binaries cells k = record {
   taken = bytes a.spelled;
   read = ap (bytes_cell large_binaries) a.read;
   there = refl;
   weighs = sym a.weighs;
   takes = record { kind_is = k.kind_is; holds = contents_hold width cells (bytes a.spelled) offsets.items contents.items newer.items longer.items k.holds a.more a.end };
 }
-bytes_taken width t heavy offsets contents newer longer a _ cells k = absurd k.kind_is
+bytes_taken width t weight offsets contents newer longer a _ cells k = absurd k.kind_is
 
 -- bytes of the width that a type has
 pub width_fits : (size : ℕ) (b : List ℕ) → length b ≡ size → bytes_cell (fixed_binaries size) (Ok b) ≡ Ok (bytes b)
 unfolding fits_kind
 width_fits size b e = ap (λ (fits : Bool). if fits then Ok (bytes b) else Err FixedWidth) (eq-eqb _ _ e)
 
-pub fixed_taken : (width : ℕ) (t : List ℕ) (heavy : ℕ) (old new : Vec ℕ) → AppendsFixed width t heavy old.items new.items → TakesText t heavy (FixedBinaries width old) (FixedBinaries width new)
+pub fixed_taken : (width : ℕ) (t : List ℕ) (weight : ℕ) (old new : Vec ℕ) → AppendsFixed width t weight old.items new.items → TakesText t weight (FixedBinaries width old) (FixedBinaries width new)
 unfolding cell_of_text kind_weight
-fixed_taken width t heavy old new a (fixed_binaries size) cells k = record {
+fixed_taken width t weight old new a (fixed_binaries size) cells k = record {
   taken = bytes a.spelled;
   read = ap (bytes_cell (fixed_binaries size)) a.read ∙ width_fits size a.spelled (a.size ∙ k.kind_is);
   there = refl;
   weighs = ap (λ (n : ℕ). 1 + n) (sym k.kind_is) ∙ sym a.weighs;
   takes = record { kind_is = k.kind_is; holds = one_joined (fixed_bytes width) cells (bytes a.spelled) old.items new.items k.holds a.more };
 }
-fixed_taken width t heavy old new a _ cells k = absurd k.kind_is
+fixed_taken width t weight old new a _ cells k = absurd k.kind_is
 
 -- ---- fields
 
 -- a null of a column that has nulls is the cell of the null text
-null_kept : (null_text t : List ℕ) (heavy : ℕ) (old new : FlatBuilder) → (old.nullable && bytes_eq t null_text) ≡ true → KeepsNull heavy (Flat old) (Flat new)
-    → KeepsField null_text t heavy (Flat old) (Flat new)
+null_kept : (null_text t : List ℕ) (weight : ℕ) (old new : FlatBuilder) → (old.nullable && bytes_eq t null_text) ≡ true → KeepsNull weight (Flat old) (Flat new)
+    → KeepsField null_text t weight (Flat old) (Flat new)
 unfolding field_cell
-null_kept null_text t heavy old new is keeps (column name nullable kind dictionary pairs) cells k =
+null_kept null_text t weight old new is keeps (column name nullable kind dictionary pairs) cells k =
     let test : (nullable && bytes_eq t null_text) ≡ true = rw k.0 at is in
     let h = keeps (column name nullable kind dictionary pairs) cells k in
     record { kept = null; read = rw test refl; weighs = h.1; keeps = h.2 }
 
 pub null_field : {E : Type 0} (null_text t : List ℕ) (old new : FlatBuilder) (r : Result (Option ℕ) E) → (old.nullable && bytes_eq t null_text) ≡ true
-    → IfOk r (λ taken. IfSome taken (λ heavy. KeepsNull heavy (Flat old) (Flat new))) → IfOk r (λ taken. IfSome taken (λ heavy. KeepsField null_text t heavy (Flat old) (Flat new)))
+    → IfOk r (λ taken. IfSome taken (λ weight. KeepsNull weight (Flat old) (Flat new))) → IfOk r (λ taken. IfSome taken (λ weight. KeepsField null_text t weight (Flat old) (Flat new)))
 null_field null_text t old new (Err e) is h = tt
 null_field null_text t old new (Ok None) is h = tt
-null_field null_text t old new (Ok (Some heavy)) is h = null_kept null_text t heavy old new is h
+null_field null_text t old new (Ok (Some weight)) is h = null_kept null_text t weight old new is h
 
-pub field_kept : (null_text t : List ℕ) (heavy : ℕ) (old new : FlatBuilder) → (old.nullable && bytes_eq t null_text) ≡ false → new.nullable ≡ old.nullable → new.valid.items ≡ old.valid.items ++ true ∷ []
-    → TakesField t heavy old.values old.coding new.values new.coding → KeepsField null_text t heavy (Flat old) (Flat new)
+pub field_kept : (null_text t : List ℕ) (weight : ℕ) (old new : FlatBuilder) → (old.nullable && bytes_eq t null_text) ≡ false → new.nullable ≡ old.nullable → new.valid.items ≡ old.valid.items ++ true ∷ []
+    → TakesField t weight old.values old.coding new.values new.coding → KeepsField null_text t weight (Flat old) (Flat new)
 unfolding field_cell weight
-field_kept null_text t heavy old new is same valid takes (column name nullable kind dictionary pairs) cells k =
+field_kept null_text t weight old new is same valid takes (column name nullable kind dictionary pairs) cells k =
     let test : (nullable && bytes_eq t null_text) ≡ false = rw k.0 at is in
     let h = takes dictionary kind cells k.2 in
     let there : old.valid.items ++ true ∷ [] ≡ old.valid.items ++ is_there h.taken ∷ [] = ap (λ (b : Bool). old.valid.items ++ b ∷ []) (sym h.there) in
@@ -254,38 +254,38 @@ field_kept null_text t heavy old new is same valid takes (column name nullable k
       keeps = (same ∙ k.0, one_mapped is_there cells h.taken old.valid.items new.valid.items k.1 (valid ∙ there), h.holds);
     }
 
--- ---- what a call tells, where it appended the cell
+-- ---- what a call tells, if it appended the cell
 
-pub boolean_step : {E : Type 0} (t : List ℕ) (old new : Vec Bool) (r : Result (Option ℕ) E) → IfOk r (λ taken. IfSome taken (λ heavy. (heavy ≡ 1) × AppendsBoolean t old.items new.items))
-    → IfOk r (λ taken. IfSome taken (λ heavy. TakesText t heavy (Booleans old) (Booleans new)))
+pub boolean_step : {E : Type 0} (t : List ℕ) (old new : Vec Bool) (r : Result (Option ℕ) E) → IfOk r (λ taken. IfSome taken (λ weight. (weight ≡ 1) × AppendsBoolean t old.items new.items))
+    → IfOk r (λ taken. IfSome taken (λ weight. TakesText t weight (Booleans old) (Booleans new)))
 boolean_step t old new (Err e) h = tt
 boolean_step t old new (Ok None) h = tt
-boolean_step t old new (Ok (Some heavy)) h = rw h.0 (boolean_taken t old new h.1)
+boolean_step t old new (Ok (Some weight)) h = rw h.0 (boolean_taken t old new h.1)
 
 pub integer_step : {E : Type 0} (i : IntegerType) (t : List ℕ) (old new : Vec ℕ) (r : Result (Option ℕ) E)
-    → IfOk r (λ taken. IfSome taken (λ heavy. (heavy ≡ 1) × AppendsSpelled (bits_of i.width) i.signed t old.items new.items))
-    → IfOk r (λ taken. IfSome taken (λ heavy. TakesText t heavy (Integers i old) (Integers i new)))
+    → IfOk r (λ taken. IfSome taken (λ weight. (weight ≡ 1) × AppendsSpelled (bits_of i.width) i.signed t old.items new.items))
+    → IfOk r (λ taken. IfSome taken (λ weight. TakesText t weight (Integers i old) (Integers i new)))
 integer_step i t old new (Err e) h = tt
 integer_step i t old new (Ok None) h = tt
-integer_step i t old new (Ok (Some heavy)) h = rw h.0 (integer_taken i t old new h.1)
+integer_step i t old new (Ok (Some weight)) h = rw h.0 (integer_taken i t old new h.1)
 
 pub text_step : {E : Type 0} (width : OffsetWidth) (t : List ℕ) (offsets contents newer longer : Vec ℕ) (r : Result (Option ℕ) E)
-    → IfOk r (λ taken. IfSome taken (λ heavy. (heavy ≡ 1 + length t) × (is_utf8 t ≡ true) × (longer.items ≡ contents.items ++ t)
+    → IfOk r (λ taken. IfSome taken (λ weight. (weight ≡ 1 + length t) × (is_utf8 t ≡ true) × (longer.items ≡ contents.items ++ t)
     × (newer.items ≡ offsets.items ++ little_bytes (width_of width) (length contents.items + length t))))
-    → IfOk r (λ taken. IfSome taken (λ heavy. TakesText t heavy (Texts width offsets contents) (Texts width newer longer)))
+    → IfOk r (λ taken. IfSome taken (λ weight. TakesText t weight (Texts width offsets contents) (Texts width newer longer)))
 text_step width t offsets contents newer longer (Err e) h = tt
 text_step width t offsets contents newer longer (Ok None) h = tt
-text_step width t offsets contents newer longer (Ok (Some heavy)) h = rw h.0 (text_taken width t offsets contents newer longer h.1 h.2 h.3)
+text_step width t offsets contents newer longer (Ok (Some weight)) h = rw h.0 (text_taken width t offsets contents newer longer h.1 h.2 h.3)
 
 pub bytes_step : {E : Type 0} (width : OffsetWidth) (t : List ℕ) (offsets contents newer longer : Vec ℕ) (r : Result (Option ℕ) E)
-    → IfOk r (λ taken. IfSome taken (λ heavy. AppendsBytes width t heavy offsets.items contents.items newer.items longer.items))
-    → IfOk r (λ taken. IfSome taken (λ heavy. TakesText t heavy (Binaries width offsets contents) (Binaries width newer longer)))
+    → IfOk r (λ taken. IfSome taken (λ weight. AppendsBytes width t weight offsets.items contents.items newer.items longer.items))
+    → IfOk r (λ taken. IfSome taken (λ weight. TakesText t weight (Binaries width offsets contents) (Binaries width newer longer)))
 bytes_step width t offsets contents newer longer (Err e) h = tt
 bytes_step width t offsets contents newer longer (Ok None) h = tt
-bytes_step width t offsets contents newer longer (Ok (Some heavy)) h = bytes_taken width t heavy offsets contents newer longer h
+bytes_step width t offsets contents newer longer (Ok (Some weight)) h = bytes_taken width t weight offsets contents newer longer h
 
-pub fixed_step : {E : Type 0} (width : ℕ) (t : List ℕ) (old new : Vec ℕ) (r : Result (Option ℕ) E) → IfOk r (λ taken. IfSome taken (λ heavy. AppendsFixed width t heavy old.items new.items))
-    → IfOk r (λ taken. IfSome taken (λ heavy. TakesText t heavy (FixedBinaries width old) (FixedBinaries width new)))
+pub fixed_step : {E : Type 0} (width : ℕ) (t : List ℕ) (old new : Vec ℕ) (r : Result (Option ℕ) E) → IfOk r (λ taken. IfSome taken (λ weight. AppendsFixed width t weight old.items new.items))
+    → IfOk r (λ taken. IfSome taken (λ weight. TakesText t weight (FixedBinaries width old) (FixedBinaries width new)))
 fixed_step width t old new (Err e) h = tt
 fixed_step width t old new (Ok None) h = tt
-fixed_step width t old new (Ok (Some heavy)) h = fixed_taken width t heavy old new h
+fixed_step width t old new (Ok (Some weight)) h = fixed_taken width t weight old new h

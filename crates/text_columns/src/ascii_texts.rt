@@ -1,4 +1,4 @@
-// Texts of ASCII, read where they are in a text.
+// Fields of ASCII, read in place.
 ghost use Rattle.std.specs.Prelude.{◌≡◌, ◌+◌, ◌≤◌, ◌<◌, true, length, slice_index, IfOk, IfSome};
 ghost use Rattle.std.specs.Str.{is_utf8};
 ghost use Rattle.text_columns.specs.declared.builder.ColumnBuilder.{Flat};
@@ -11,14 +11,14 @@ use crate::flat::FlatBuilder;
 use crate::plain::ends_field;
 use std::alloc::AllocError;
 
-/// Where a field ends, and each bit that one of its bytes has: all bytes are ASCII where this is below 128.
+/// Where a field ends, and each bit that one of its bytes has: all bytes are ASCII if this is below 128.
 #[derive(Clone, Copy)]
 pub(crate) struct TextField {
     pub(crate) end: usize,
     pub(crate) bits: u8,
 }
 
-// Where the field that begins at a place ends, and the bits of its bytes. Those before another place were scanned.
+// Returns where the field at `from` ends, and the bits of its bytes. Those before `at` have the bits `scanned`.
 fn scan_on(text: &[u8], from: usize, at: usize, scanned: u8) -> TextField
     requires scanned { IsScanned text.now from at scanned }
     requires low { from ≤ at }
@@ -38,7 +38,8 @@ fn scan_on(text: &[u8], from: usize, at: usize, scanned: u8) -> TextField
     }
 }
 
-// The same of at most sixteen bytes. The compiler writes a loop of so many rounds out, without a count or a test for the end.
+// Returns where the field at `from` ends, at the latest after sixteen bytes, and the bits of its bytes. The compiler unrolls a loop of so many rounds,
+// without a count or a test for the end.
 fn scan_sixteen(text: &[u8], from: usize) -> TextField
     requires { from + 16 ≤ length text.now }
     ensures scanned { IsScanned text.now from result.end result.bits }
@@ -63,7 +64,7 @@ fn scan_sixteen(text: &[u8], from: usize) -> TextField
     }
 }
 
-/// Where the field that begins at a place ends, and the bits of its bytes.
+/// Returns where the field at `from` ends, and the bits of its bytes.
 pub(crate) fn text_field(text: &[u8], from: usize) -> TextField
     requires { from ≤ length text.now }
     ensures { IsTextAt text.now from result }
@@ -79,29 +80,29 @@ pub(crate) fn text_field(text: &[u8], from: usize) -> TextField
 }
 
 impl FlatBuilder {
-    // Whether the column has strings, or a dictionary of strings.
+    // Returns whether the column has strings, or a dictionary of strings.
     fn has_texts(&self) -> bool {
         self.values.has_texts()
     }
 
-    // Appends the cell of a field that is UTF-8, where it is one, and answers what it weighs.
+    // Appends the cell of a field of UTF-8, and returns its weight; `None` if the field is no cell of the column.
     fn push_utf8(&mut self, null_text: &[u8], text: &[u8]) -> Result<Option<u64>, AllocError>
         requires { is_utf8 text.now ≡ true }
-        ensures { IfOk result (λ taken. IfSome taken (λ heavy. KeepsField null_text.now text.now heavy (Flat self.old) (Flat self.new))) }
+        ensures { IfOk result (λ taken. IfSome taken (λ weight. KeepsField null_text.now text.now weight (Flat self.old) (Flat self.new))) }
     {
         if self.is_null(null_text, text) {
             return self.push_null();
         }
-        let Some(heavy) = coding::push_utf8(&mut self.values, &mut self.coding, text)? else {
+        let Some(weight) = coding::push_utf8(&mut self.values, &mut self.coding, text)? else {
             return Ok(None);
         };
         self.valid.push(true)?;
-        Ok(Some(heavy))
+        Ok(Some(weight))
     }
 }
 
 impl ColumnBuilder {
-    /// Whether the column has strings, or a dictionary of strings.
+    /// Returns whether the column has strings, or a dictionary of strings.
     pub(crate) fn has_texts(&self) -> bool {
         match self {
             ColumnBuilder::Flat(flat) => flat.has_texts(),
@@ -109,14 +110,14 @@ impl ColumnBuilder {
         }
     }
 
-    /// Appends the cell of a field that is UTF-8, where it is one, and answers what it weighs.
+    /// Appends the cell of a field of UTF-8, and returns its weight; `None` if the field is no cell of the column.
     pub(crate) fn push_utf8(
         &mut self,
         null_text: &[u8],
         text: &[u8],
     ) -> Result<Option<u64>, AllocError>
         requires { is_utf8 text.now ≡ true }
-        ensures { IfOk result (λ taken. IfSome taken (λ heavy. KeepsField null_text.now text.now heavy self.old self.new)) }
+        ensures { IfOk result (λ taken. IfSome taken (λ weight. KeepsField null_text.now text.now weight self.old self.new)) }
     {
         match self {
             ColumnBuilder::Flat(flat) => flat.push_utf8(null_text, text),

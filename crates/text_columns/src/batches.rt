@@ -9,7 +9,7 @@ ghost use Rattle.text_columns.specs.inner.Tables.{IsPartOf};
 
 use crate::builder::ColumnBuilder;
 use crate::placing::{Placed, place_all};
-use crate::starting::no_rows;
+use crate::starting::empty_columns;
 use arrow_schema::Schema;
 use cells::MAX_PIECE_ROWS;
 use columns::{
@@ -88,10 +88,10 @@ pub(crate) fn end_batches(alloc: Global, batches: Batches) -> Result<Vec<TablePa
 }
 
 /// Begins the first record batch; `None` if no columns can be begun for the schema.
-pub(crate) fn no_batches(alloc: Global, schema: &Schema) -> Result<Option<Batches>, AllocError>
+pub(crate) fn begin_batches(alloc: Global, schema: &Schema) -> Result<Option<Batches>, AllocError>
     ensures { IfOk result (λ started. IfSome started (HoldRows (schema_of schema.now) [])) }
 {
-    let Some(builders) = no_rows(alloc, &schema.fields)? else {
+    let Some(builders) = empty_columns(alloc, &schema.fields)? else {
         return Ok(None);
     };
     let most = most_rows(&builders);
@@ -113,7 +113,7 @@ fn next_batch(
 {
     let most = batches.most;
     let parts = end_batches(alloc, batches)?;
-    let Some(builders) = no_rows(alloc, &schema.fields)? else {
+    let Some(builders) = empty_columns(alloc, &schema.fields)? else {
         return Ok(None);
     };
     Ok(Some(Batches {

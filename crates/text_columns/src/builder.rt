@@ -1,8 +1,8 @@
-// The cells of one column.
+// The cells of one column, while a text is read.
 ghost use Rattle.std.specs.Prelude.{◌≡◌, ◌+◌, ◌*◌, ◌++◌, ◌∷◌, [], IfOk, IfSome, OnOk, true, false, replicate};
 ghost use Rattle.byteorder.specs.Endian.{little_bytes};
 ghost use Rattle.columns.specs.Offsets.{width_of};
-ghost use Rattle.text_columns.specs.inner.Kept.{AllAppendNulls, AppendsNulls, KeepsField, PushesEmpty, PushesEnd, PushesThere, is_nullable, null_heavy_of};
+ghost use Rattle.text_columns.specs.inner.Kept.{AllAppendNulls, AppendsNulls, KeepsField, PushesEmpty, PushesEnd, PushesThere, is_nullable, null_weight_of};
 ghost use Rattle.text_columns.specs.inner.Batches.{has_room};
 ghost use Rattle.text_columns.specs.inner.Lines.{KeepsNull};
 
@@ -22,15 +22,15 @@ pub(crate) enum ColumnBuilder {
     Struct(Slots, Names, Vec<ColumnBuilder>),
 }
 
-/// The names of columns or fields; the places of those that the members of the object before went into; and what the cells of this one weigh.
+/// The names of the fields of structs; the places of the fields of the previous object's members; and the weights of the cells of this object.
 #[derive(Drop)]
 pub(crate) struct Names {
     pub(crate) names: IndexSet<Vec<u8>>,
     pub(crate) order: Vec<usize>,
-    pub(crate) heavies: Vec<Option<u64>>,
+    pub(crate) weights: Vec<Option<u64>>,
 }
 
-/// Which cells of a column with parts are there, and what a null of it weighs.
+/// Which cells of a column with parts are not null, and the weight of a null.
 #[derive(Drop)]
 pub(crate) struct Slots {
     pub(crate) nullable: bool,
@@ -38,7 +38,7 @@ pub(crate) struct Slots {
     pub(crate) null_weight: u64,
 }
 
-/// Where lists end among the items of all, of which there are n.
+/// Where lists end among the items of all lists, of which there are `count`.
 #[derive(Drop)]
 pub(crate) struct ListOffsets {
     pub(crate) width: OffsetWidth,
@@ -47,7 +47,7 @@ pub(crate) struct ListOffsets {
 }
 
 impl Slots {
-    /// Appends a cell that is there.
+    /// Appends a cell that is not null.
     pub(crate) fn push_there(&mut self) -> Result<(), AllocError>
         ensures { OnOk result (PushesThere self.old self.new) }
     {
@@ -55,7 +55,7 @@ impl Slots {
         Ok(())
     }
 
-    // Appends n nulls.
+    // Appends `count` nulls.
     fn push_nulls(&mut self, count: usize) -> Result<(), AllocError>
         ensures nullable { OnOk result (self.new.nullable ≡ self.old.nullable) }
         ensures null_weight { OnOk result (self.new.null_weight ≡ self.old.null_weight) }
@@ -69,7 +69,7 @@ impl Slots {
 }
 
 impl ListOffsets {
-    /// Appends the end of a list of n items.
+    /// Appends the end of a list of `items` items.
     pub(crate) fn push(&mut self, items: u64) -> Result<(), AllocError>
         ensures { OnOk result (PushesEnd items self.old self.new) }
     {
@@ -80,7 +80,7 @@ impl ListOffsets {
         push_offset(&mut self.offsets, self.width, count)
     }
 
-    // Appends the ends of n lists without items.
+    // Appends the ends of `lists` lists without items.
     fn push_empty(&mut self, lists: usize) -> Result<(), AllocError>
         ensures { OnOk result (PushesEmpty lists self.old self.new) }
     {
@@ -91,7 +91,7 @@ impl ListOffsets {
     }
 }
 
-// How many items n lists of a size have.
+// Returns how many items `lists` lists of `size` items have.
 fn items_of(lists: usize, size: u32) -> Result<usize, AllocError>
     ensures { IfOk result (λ items. items ≡ lists * size) }
 {
@@ -101,7 +101,7 @@ fn items_of(lists: usize, size: u32) -> Result<usize, AllocError>
     }
 }
 
-// Appends n nulls to each column.
+// Appends `count` nulls to each column.
 #[cycle(nulls)]
 fn push_nulls_each(builders: &mut [ColumnBuilder], count: usize) -> Result<(), AllocError>
     ensures { OnOk result (AllAppendNulls count builders.old builders.new) }
@@ -112,7 +112,7 @@ fn push_nulls_each(builders: &mut [ColumnBuilder], count: usize) -> Result<(), A
     Ok(())
 }
 
-// The same of columns in a vector.
+// Appends `count` nulls to each column of a vector.
 #[cycle(nulls)]
 fn push_nulls_all(builders: &mut Vec<ColumnBuilder>, count: usize) -> Result<(), AllocError>
     ensures { OnOk result (AllAppendNulls count builders.old.items builders.new.items) }
@@ -132,7 +132,7 @@ impl ColumnBuilder {
         }
     }
 
-    /// Whether the dictionary of the column has room for one more entry; true where it has none, or parts.
+    /// Returns whether the dictionary of the column has room for one more entry; true if the column has none, or has parts.
     pub(crate) fn has_room(&self) -> bool
         ensures { result ≡ has_room self.now }
     {
@@ -145,7 +145,7 @@ impl ColumnBuilder {
         }
     }
 
-    /// Whether the column has neither parts nor a dictionary.
+    /// Returns whether the column has neither parts nor a dictionary.
     pub(crate) fn is_plain(&self) -> bool {
         match self {
             ColumnBuilder::Flat(flat) => flat.coding.is_none(),
@@ -153,9 +153,9 @@ impl ColumnBuilder {
         }
     }
 
-    /// What a null of the column weighs.
+    /// Returns the weight of a null.
     pub(crate) fn null_weight(&self) -> u64
-        ensures { result ≡ null_heavy_of self.now }
+        ensures { result ≡ null_weight_of self.now }
     {
         match self {
             ColumnBuilder::Flat(flat) => flat.values.null_weight(),
@@ -165,8 +165,7 @@ impl ColumnBuilder {
         }
     }
 
-    /// Appends n nulls, whether the column is nullable or not: below a null list is nothing, and below
-    /// one of a size or a struct are nulls.
+    /// Appends `count` nulls, even if the column is not nullable: nothing is below a null list, but nulls are below a null struct or list of one size.
     #[cycle(nulls)]
     pub(crate) fn push_nulls(&mut self, count: usize) -> Result<(), AllocError>
         ensures { OnOk result (AppendsNulls count self.old self.new) }
@@ -189,28 +188,28 @@ impl ColumnBuilder {
         }
     }
 
-    /// Appends a null, where the column is nullable and a row may weigh as much, and answers what it weighs.
+    /// Appends a null, and returns its weight; `None` if the column is not nullable, or a null is too heavy for a row.
     pub(crate) fn push_null(&mut self) -> Result<Option<u64>, AllocError>
-        ensures { IfOk result (λ taken. IfSome taken (λ heavy. KeepsNull heavy self.old self.new)) }
+        ensures { IfOk result (λ taken. IfSome taken (λ weight. KeepsNull weight self.old self.new)) }
     {
         if !self.is_nullable() {
             return Ok(None);
         }
-        let heavy = self.null_weight();
-        if heavy > MAX_ROW_WEIGHT {
+        let weight = self.null_weight();
+        if weight > MAX_ROW_WEIGHT {
             return Ok(None);
         }
         self.push_nulls(1)?;
-        Ok(Some(heavy))
+        Ok(Some(weight))
     }
 
-    /// Appends the cell of a field, where its text is one, and answers what it weighs; none where the column has parts.
+    /// Appends the cell of a field, and returns its weight; `None` if its text is no cell of the column, or the column has parts.
     pub(crate) fn push_field(
         &mut self,
         null_text: &[u8],
         text: &[u8],
     ) -> Result<Option<u64>, AllocError>
-        ensures { IfOk result (λ taken. IfSome taken (λ heavy. KeepsField null_text.now text.now heavy self.old self.new)) }
+        ensures { IfOk result (λ taken. IfSome taken (λ weight. KeepsField null_text.now text.now weight self.old self.new)) }
     {
         match self {
             ColumnBuilder::Flat(flat) => flat.push_field(null_text, text),

@@ -6,7 +6,7 @@ ghost use Rattle.text_columns.specs.inner.Kept.{AppendsBytes, AppendsDigits, App
 use columns::{OffsetWidth, push_offset};
 use std::alloc::AllocError;
 
-// Appends the bytes that digits of either case spell, two for each byte, and answers how many; none where they spell none.
+// Appends the bytes that digits of either case spell, two for each byte, and returns how many; `None` if these are not digits in pairs.
 fn push_digits(contents: &mut Vec<u8>, digits: &[u8]) -> Result<Option<usize>, AllocError>
     ensures { IfOk result (λ taken. IfSome taken (λ count. AppendsDigits digits.now count contents.old.items contents.new.items)) }
 {
@@ -22,15 +22,15 @@ fn push_digits(contents: &mut Vec<u8>, digits: &[u8]) -> Result<Option<usize>, A
     }
 }
 
-/// Appends the bytes that digits spell and where they end, and answers what they weigh.
+/// Appends the bytes that digits spell and where they end, and returns their weight; `None` if these are not digits in pairs.
 pub(crate) fn push_bytes(
     offsets: &mut Vec<u8>,
     contents: &mut Vec<u8>,
     width: OffsetWidth,
     digits: &[u8],
 ) -> Result<Option<u64>, AllocError>
-    ensures { IfOk result (λ taken. IfSome taken (λ heavy.
-        AppendsBytes width digits.now heavy offsets.old.items contents.old.items offsets.new.items contents.new.items)) }
+    ensures { IfOk result (λ taken. IfSome taken (λ weight.
+        AppendsBytes width digits.now weight offsets.old.items contents.old.items offsets.new.items contents.new.items)) }
 {
     let Some(count) = push_digits(contents, digits)? else {
         return Ok(None);
@@ -39,13 +39,13 @@ pub(crate) fn push_bytes(
     Ok(Some(1 + count as u64))
 }
 
-/// Appends n bytes, where digits spell them, and answers what they weigh.
+/// Appends the `width` bytes that digits spell, and returns their weight; `None` if these are not so many digits in pairs.
 pub(crate) fn push_fixed(
     values: &mut Vec<u8>,
     width: u32,
     digits: &[u8],
 ) -> Result<Option<u64>, AllocError>
-    ensures { IfOk result (λ taken. IfSome taken (λ heavy. AppendsFixed width digits.now heavy values.old.items values.new.items)) }
+    ensures { IfOk result (λ taken. IfSome taken (λ weight. AppendsFixed width digits.now weight values.old.items values.new.items)) }
 {
     match push_digits(values, digits)? {
         Some(count) => if count as u64 == width as u64 {

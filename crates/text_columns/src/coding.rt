@@ -1,8 +1,9 @@
 // Columns with a dictionary: each value is looked up among the entries that were seen, and its index is written.
-ghost use Rattle.std.specs.Prelude.{◌≡◌, ◌+◌, ◌++◌, ◌/◌, ◌∷◌, [], ℕ, List, Some, true, position, bytes_eq, IfOk, IfSome, OnOk};
+ghost use Rattle.std.specs.Prelude.{◌≡◌, ◌+◌, ◌++◌, ◌/◌, ◌∷◌, [], ℕ, List, Some, true, false, position, bytes_eq, IfOk, IfSome, OnOk};
 ghost use Rattle.std.specs.Str.{is_utf8};
 ghost use Rattle.cells.specs.Dictionary.{entry_limit, is_within};
 ghost use Rattle.cells.specs.Typed.{typed_integer};
+ghost use Rattle.text_import.specs.Objects.{has_name};
 ghost use Rattle.text_columns.specs.inner.Kept.{Codes, Places, PushesPlace, TakesField, TakesNullCell, index_type, key_list};
 
 use crate::column_values::ColumnValues;
@@ -13,7 +14,7 @@ use columns::push_index;
 use indexmap::IndexSet;
 use std::alloc::AllocError;
 
-/// What a column with a dictionary has beside its entries: the indices of its cells, the bytes of each entry, in order, and the buffers of the one
+/// What a column with a dictionary has in addition to its entries: the indices of its cells, the bytes of each entry, in order, and the buffers of the one
 /// value that is looked up.
 #[derive(Drop)]
 pub(crate) struct Coding {
@@ -23,7 +24,7 @@ pub(crate) struct Coding {
     pub(crate) one: ColumnValues,
 }
 
-// Whether indices of a type can name one more entry than these.
+// Returns whether indices of a type can name one more entry than `count`.
 fn has_room(index: IntegerType, count: usize) -> bool
     ensures { result ≡ is_within (entry_limit (index_type index)) (count + 1) }
 {
@@ -33,16 +34,17 @@ fn has_room(index: IntegerType, count: usize) -> bool
     }
 }
 
-/// The place of the entry with these bytes.
+/// Returns the place of the entry with the bytes `key`.
 pub(crate) fn find(keys: &IndexSet<Vec<u8>>, key: &[u8]) -> Option<usize>
     ensures { result ≡ position (bytes_eq key.now) (key_list keys.now.keys) }
 {
     keys.get_index_of(key)
 }
 
-/// Adds the bytes of an entry, and answers whether they were not among the others.
+/// Adds the bytes of an entry, and returns whether they are new.
 pub(crate) fn add_key(keys: &mut IndexSet<Vec<u8>>, key: &[u8]) -> Result<bool, AllocError>
-    ensures { IfOk result (λ added. added ≡ true → key_list keys.new.keys ≡ key_list keys.old.keys ++ key.now ∷ []) }
+    ensures fresh { IfOk result (λ added. added ≡ true → has_name (key_list keys.old.keys) key.now ≡ false) }
+    ensures keys { IfOk result (λ added. added ≡ true → key_list keys.new.keys ≡ key_list keys.old.keys ++ key.now ∷ []) }
 {
     let mut owned = Vec::new(*keys.allocator());
     owned.extend_from_slice(key)?;
@@ -50,7 +52,7 @@ pub(crate) fn add_key(keys: &mut IndexSet<Vec<u8>>, key: &[u8]) -> Result<bool, 
     Ok(added)
 }
 
-// The place of the entry with these bytes, which is an entry after the call; none where no index can name it.
+// Returns the place of the entry with the bytes `key`, which is added if it is new; `None` if no index can name it.
 fn place_of(
     index: IntegerType,
     keys: &mut IndexSet<Vec<u8>>,
@@ -73,7 +75,7 @@ fn place_of(
     Ok(Some(place))
 }
 
-// Appends the index of the entry with these bytes, which is an entry after the call; false where no index can name it.
+// Appends the index of the entry with the bytes `key`, which is added if it is new. Returns false if no index can name it.
 fn push_place(
     index: IntegerType,
     indices: &mut Vec<u8>,
@@ -94,7 +96,7 @@ fn push_place(
 impl Coding {
     ghost use Rattle.std.specs.Prelude.{length};
 
-    /// Whether an index can name one more entry.
+    /// Returns whether an index can name one more entry.
     pub(crate) fn has_room(&self) -> bool
         ensures { result ≡ is_within (entry_limit (index_type self.now.index)) (length self.now.keys.keys + 1) }
     {
@@ -103,7 +105,7 @@ impl Coding {
 
     ghost use Rattle.text_columns.specs.inner.Kept.{TakesCodedText};
 
-    // Appends the index of the one value, which is an entry then; false where no index can name it.
+    /// Appends the index of the value in `one`, which becomes an entry if it is new. Returns false if no index can name it.
     pub(crate) fn code(&mut self, entries: &mut ColumnValues) -> Result<bool, AllocError>
         ensures { IfOk result (λ done. done ≡ true → Codes self.old entries.old self.new entries.new) }
     {
@@ -112,34 +114,35 @@ impl Coding {
         Ok(done)
     }
 
-    // Appends the index of the value that a field is, where it is one of the type, and answers what it weighs.
+    // Appends the index of the value that a field spells, and returns its weight; `None` if it is no value of the type, or no index can name it.
     #[inline(always)]
     fn push_text(
         &mut self,
         entries: &mut ColumnValues,
         text: &[u8],
     ) -> Result<Option<u64>, AllocError>
-        ensures { IfOk result (λ taken. IfSome taken (λ heavy. TakesCodedText text.now heavy self.old entries.old self.new entries.new)) }
+        ensures { IfOk result (λ taken. IfSome taken (λ weight. TakesCodedText text.now weight self.old entries.old self.new entries.new)) }
     {
         self.one.clear()?;
-        let Some(heavy) = self.one.push_text(text)? else {
+        let Some(weight) = self.one.push_text(text)? else {
             return Ok(None);
         };
         if self.code(entries)? {
-            Ok(Some(heavy))
+            Ok(Some(weight))
         } else {
             Ok(None)
         }
     }
 
-    /// Appends the index of a string that is UTF-8, and answers what it weighs; none where the entries are no strings. It is looked up where it is.
+    /// Appends the index of a string of UTF-8, and returns its weight; `None` if the entries are no strings, or no index can name it. The string is looked
+    /// up in place, without a copy.
     pub(crate) fn push_utf8(
         &mut self,
         entries: &mut ColumnValues,
         text: &[u8],
     ) -> Result<Option<u64>, AllocError>
         requires { is_utf8 text.now ≡ true }
-        ensures { IfOk result (λ taken. IfSome taken (λ heavy. TakesCodedText text.now heavy self.old entries.old self.new entries.new)) }
+        ensures { IfOk result (λ taken. IfSome taken (λ weight. TakesCodedText text.now weight self.old entries.old self.new entries.new)) }
     {
         if !entries.has_texts() {
             return Ok(None);
@@ -152,7 +155,7 @@ impl Coding {
     }
 }
 
-/// Appends a null to the values, or to the indices.
+/// Appends a null to the values, or to the indices if the column has a dictionary.
 pub(crate) fn push_null(
     values: &mut ColumnValues,
     coding: &mut Option<Coding>,
@@ -165,14 +168,14 @@ pub(crate) fn push_null(
     }
 }
 
-/// Appends the cell that a field is, or its index, where it is one of the type, and answers what it weighs.
+/// Appends the cell that a field spells, or its index, and returns its weight; `None` if it is no value of the type, or no index can name it.
 #[inline(always)]
 pub(crate) fn push_text(
     values: &mut ColumnValues,
     coding: &mut Option<Coding>,
     text: &[u8],
 ) -> Result<Option<u64>, AllocError>
-    ensures { IfOk result (λ taken. IfSome taken (λ heavy. TakesField text.now heavy values.old coding.old values.new coding.new)) }
+    ensures { IfOk result (λ taken. IfSome taken (λ weight. TakesField text.now weight values.old coding.old values.new coding.new)) }
 {
     match coding {
         None => values.push_text(text),
@@ -180,14 +183,14 @@ pub(crate) fn push_text(
     }
 }
 
-/// Appends a number, where it is one of the type, and answers what it weighs; none where the column has a dictionary.
+/// Appends an integer, and returns its weight; `None` if the type does not hold it, or the column has a dictionary.
 pub(crate) fn push_short(
     values: &mut ColumnValues,
     coding: &mut Option<Coding>,
     short: ShortInteger,
 ) -> Result<Option<u64>, AllocError>
     ensures { (text : List ℕ) → typed_integer text ≡ Some short.number
-        → IfOk result (λ taken. IfSome taken (λ heavy. TakesField text heavy values.old coding.old values.new coding.new)) }
+        → IfOk result (λ taken. IfSome taken (λ weight. TakesField text weight values.old coding.old values.new coding.new)) }
 {
     match coding {
         None => values.push_short(short),
@@ -195,14 +198,14 @@ pub(crate) fn push_short(
     }
 }
 
-/// Appends a text that is UTF-8, or its index, where the type has strings, and answers what it weighs.
+/// Appends a string of UTF-8, or its index, and returns its weight; `None` if the type has no strings, or no index can name it.
 pub(crate) fn push_utf8(
     values: &mut ColumnValues,
     coding: &mut Option<Coding>,
     text: &[u8],
 ) -> Result<Option<u64>, AllocError>
     requires { is_utf8 text.now ≡ true }
-    ensures { IfOk result (λ taken. IfSome taken (λ heavy. TakesField text.now heavy values.old coding.old values.new coding.new)) }
+    ensures { IfOk result (λ taken. IfSome taken (λ weight. TakesField text.now weight values.old coding.old values.new coding.new)) }
 {
     match coding {
         None => values.push_utf8(text),

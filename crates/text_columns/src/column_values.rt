@@ -2,7 +2,7 @@
 ghost use Rattle.std.specs.Prelude.{◌≡◌, ◌++◌, ◌/◌, ◌∷◌, [], IfOk, IfSome, OnOk, true, replicate};
 ghost use Rattle.std.specs.Str.{is_utf8};
 ghost use Rattle.arrow_schema.specs.View.{bits_of};
-ghost use Rattle.text_columns.specs.inner.Kept.{AppendsBoolean, Clears, HoldContents, TakesKey, TakesNull, TakesSpelled, TakesText, first_key, has_texts, null_heavy, value_bytes};
+ghost use Rattle.text_columns.specs.inner.Kept.{AppendsBoolean, Clears, HoldContents, TakesKey, TakesNull, TakesSpelled, TakesText, first_key, has_texts, null_weight, value_bytes};
 
 use crate::bytes::{push_bytes, push_fixed};
 use crate::integers::{push_integer, push_short};
@@ -25,7 +25,7 @@ pub(crate) enum ColumnValues {
     FixedBinaries(u32, Vec<u8>),
 }
 
-// Appends zeros, as many as an integer of this width has bytes.
+// Appends the bytes of the integer 0.
 fn push_zeros(values: &mut Vec<u8>, width: BitWidth) -> Result<(), AllocError>
     ensures { OnOk result (values.new.items ≡ values.old.items ++ replicate (bits_of width / 8) 0) }
 {
@@ -37,7 +37,7 @@ fn push_zeros(values: &mut Vec<u8>, width: BitWidth) -> Result<(), AllocError>
     }
 }
 
-// Appends as many zeros as a binary of this width has bytes.
+// Appends a binary of zeros.
 fn push_empty(values: &mut Vec<u8>, width: u32) -> Result<(), AllocError>
     ensures { OnOk result (values.new.items ≡ values.old.items ++ replicate width 0) }
 {
@@ -47,9 +47,9 @@ fn push_empty(values: &mut Vec<u8>, width: u32) -> Result<(), AllocError>
     }
 }
 
-// Appends the boolean that a field spells, and answers what it weighs.
+// Appends the boolean that a field spells, and returns its weight; `None` if it spells none.
 fn push_boolean(bits: &mut Vec<bool>, text: &[u8]) -> Result<Option<u64>, AllocError>
-    ensures { IfOk result (λ taken. IfSome taken (λ heavy. (heavy ≡ 1) × AppendsBoolean text.now bits.old.items bits.new.items)) }
+    ensures { IfOk result (λ taken. IfSome taken (λ weight. (weight ≡ 1) × AppendsBoolean text.now bits.old.items bits.new.items)) }
 {
     match spelled_boolean(text) {
         None => Ok(None),
@@ -60,7 +60,7 @@ fn push_boolean(bits: &mut Vec<bool>, text: &[u8]) -> Result<Option<u64>, AllocE
     }
 }
 
-// No string or binary: the offset 0 is before the first.
+// Removes all strings or binaries. The offset 0 is before the first one.
 fn clear_contents(
     offsets: &mut Vec<u8>,
     contents: &mut Vec<u8>,
@@ -73,7 +73,7 @@ fn clear_contents(
     push_offset(offsets, width, 0)
 }
 
-// A byte for the first of some booleans.
+// Returns the byte for the first of some booleans: 1 if it is true, otherwise 0.
 fn bit_key(bits: &[bool]) -> &[u8]
     ensures { result.now ≡ first_key bits.now }
 {
@@ -85,9 +85,9 @@ fn bit_key(bits: &[bool]) -> &[u8]
 }
 
 impl ColumnValues {
-    /// What a null weighs: a binary of one width weighs the same where it is null.
+    /// Returns the weight of a null: a binary of one width weighs the same if it is null.
     pub(crate) fn null_weight(&self) -> u64
-        ensures { result ≡ null_heavy self.now }
+        ensures { result ≡ null_weight self.now }
     {
         match self {
             ColumnValues::FixedBinaries(width, _) => 1 + *width as u64,
@@ -95,7 +95,7 @@ impl ColumnValues {
         }
     }
 
-    /// Whether the values are strings.
+    /// Returns whether the values are strings.
     pub(crate) fn has_texts(&self) -> bool
         ensures { result ≡ has_texts self.now }
     {
@@ -124,7 +124,7 @@ impl ColumnValues {
         Ok(())
     }
 
-    /// No cell: the type stays.
+    /// Removes all cells. The type stays.
     pub(crate) fn clear(&mut self) -> Result<(), AllocError>
         ensures { OnOk result (Clears self.old self.new) }
     {
@@ -143,7 +143,7 @@ impl ColumnValues {
         Ok(())
     }
 
-    /// The bytes of the one cell, by which it is looked up.
+    /// Returns the bytes of the only cell, by which it is looked up.
     pub(crate) fn key(&self) -> &[u8]
         ensures { result.now ≡ value_bytes self.now }
     {
@@ -157,7 +157,7 @@ impl ColumnValues {
         }
     }
 
-    /// Appends the cell that has such bytes.
+    /// Appends the cell with the bytes `key`.
     pub(crate) fn push_key(&mut self, key: &[u8]) -> Result<(), AllocError>
         ensures { OnOk result (TakesKey key.now self.old self.new) }
     {
@@ -176,10 +176,10 @@ impl ColumnValues {
         Ok(())
     }
 
-    /// Appends the cell that a field is, where it is one of the type, and answers what it weighs.
+    /// Appends the cell that a field spells, and returns its weight; `None` if it is none of the type.
     #[inline(always)]
     pub(crate) fn push_text(&mut self, text: &[u8]) -> Result<Option<u64>, AllocError>
-        ensures { IfOk result (λ taken. IfSome taken (λ heavy. TakesText text.now heavy self.old self.new)) }
+        ensures { IfOk result (λ taken. IfSome taken (λ weight. TakesText text.now weight self.old self.new)) }
     {
         match self {
             ColumnValues::Nulls => Ok(None),
@@ -195,7 +195,7 @@ impl ColumnValues {
         }
     }
 
-    /// Appends a number, where it is one of the type, and answers what it weighs.
+    /// Appends an integer, and returns its weight; `None` if the type does not hold it.
     pub(crate) fn push_short(&mut self, short: ShortInteger) -> Result<Option<u64>, AllocError>
         ensures { TakesSpelled short.number result self.old self.new }
     {
@@ -205,10 +205,10 @@ impl ColumnValues {
         }
     }
 
-    /// Appends a text that is UTF-8, where the type has strings, and answers what it weighs.
+    /// Appends a string of UTF-8, and returns its weight; `None` if the type has no strings.
     pub(crate) fn push_utf8(&mut self, text: &[u8]) -> Result<Option<u64>, AllocError>
         requires { is_utf8 text.now ≡ true }
-        ensures { IfOk result (λ taken. IfSome taken (λ heavy. TakesText text.now heavy self.old self.new)) }
+        ensures { IfOk result (λ taken. IfSome taken (λ weight. TakesText text.now weight self.old self.new)) }
     {
         match self {
             ColumnValues::Texts(width, offsets, contents) => push_utf8(

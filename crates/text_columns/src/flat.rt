@@ -9,7 +9,7 @@ use crate::column_values::ColumnValues;
 use cells::MAX_ROW_WEIGHT;
 use std::alloc::AllocError;
 
-/// The cells of a column without parts so far: which of them are there, and their values, or the entries of a dictionary and what else it has.
+/// The cells of a column without parts so far: which of them are not null, and their values, or the entries of a dictionary and what else it has.
 #[derive(Drop)]
 pub(crate) struct FlatBuilder {
     pub(crate) nullable: bool,
@@ -21,49 +21,49 @@ pub(crate) struct FlatBuilder {
 impl FlatBuilder {
     ghost use Rattle.std.specs.Prelude.{◌≡◌, ◌&&◌, bytes_eq};
 
-    /// Whether the text of a field is a null of the column.
+    /// Returns whether the text of a field is a null of the column.
     pub(crate) fn is_null(&self, null_text: &[u8], text: &[u8]) -> bool
         ensures { result ≡ (self.now.nullable && bytes_eq text.now null_text.now) }
     {
         self.nullable && text.len() == null_text.len() && text == null_text
     }
 
-    /// Appends a null, where the column is nullable and a row may weigh as much, and answers what it weighs.
+    /// Appends a null, and returns its weight; `None` if the column is not nullable, or a null is too heavy for a row.
     pub(crate) fn push_null(&mut self) -> Result<Option<u64>, AllocError>
-        ensures { IfOk result (λ taken. IfSome taken (λ heavy. KeepsNull heavy (Flat self.old) (Flat self.new))) }
+        ensures { IfOk result (λ taken. IfSome taken (λ weight. KeepsNull weight (Flat self.old) (Flat self.new))) }
     {
         if !self.nullable {
             return Ok(None);
         }
-        let heavy = self.values.null_weight();
-        if heavy > MAX_ROW_WEIGHT {
+        let weight = self.values.null_weight();
+        if weight > MAX_ROW_WEIGHT {
             return Ok(None);
         }
         coding::push_null(&mut self.values, &mut self.coding)?;
         self.valid.push(false)?;
-        Ok(Some(heavy))
+        Ok(Some(weight))
     }
 
-    /// Appends the cell of a field, where its text is one, and answers what it weighs. The null text is a null where the column is nullable.
+    /// Appends the cell of a field, and returns its weight; `None` if its text is no cell of the column. The null text is a null if the column is nullable.
     #[inline(always)]
     pub(crate) fn push_field(
         &mut self,
         null_text: &[u8],
         text: &[u8],
     ) -> Result<Option<u64>, AllocError>
-        ensures { IfOk result (λ taken. IfSome taken (λ heavy. KeepsField null_text.now text.now heavy (Flat self.old) (Flat self.new))) }
+        ensures { IfOk result (λ taken. IfSome taken (λ weight. KeepsField null_text.now text.now weight (Flat self.old) (Flat self.new))) }
     {
         if self.is_null(null_text, text) {
             return self.push_null();
         }
-        let Some(heavy) = coding::push_text(&mut self.values, &mut self.coding, text)? else {
+        let Some(weight) = coding::push_text(&mut self.values, &mut self.coding, text)? else {
             return Ok(None);
         };
         self.valid.push(true)?;
-        Ok(Some(heavy))
+        Ok(Some(weight))
     }
 
-    /// Appends n nulls, whether the column is nullable or not: what is below a null is null.
+    /// Appends `count` nulls, even if the column is not nullable: what is below a null is null.
     pub(crate) fn push_nulls(&mut self, count: usize) -> Result<(), AllocError>
         ensures { OnOk result (AppendsNulls count (Flat self.old) (Flat self.new)) }
     {

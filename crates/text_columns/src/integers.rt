@@ -9,7 +9,7 @@ use arrow_schema::{BitWidth, IntegerType};
 use std::alloc::AllocError;
 use text_import::spelled_integer;
 
-// Appends the bytes of a number, where an integer of this width without a sign holds it.
+// Appends the bytes of a number as an integer without a sign. Returns false if this width does not hold it.
 #[inline(always)]
 #[tactic(auto, using(crate::proofs::IntegerBytes::unsigned_appended))]
 fn push_unsigned(values: &mut Vec<u8>, width: BitWidth, number: i64) -> Result<bool, AllocError>
@@ -36,7 +36,7 @@ fn push_unsigned(values: &mut Vec<u8>, width: BitWidth, number: i64) -> Result<b
     Ok(true)
 }
 
-// The same with a sign.
+// Appends the bytes of a number as an integer with a sign. Returns false if this width does not hold it.
 #[inline(always)]
 #[tactic(auto, using(crate::proofs::IntegerBytes::signed_appended))]
 fn push_signed(values: &mut Vec<u8>, width: BitWidth, number: i64) -> Result<bool, AllocError>
@@ -60,7 +60,7 @@ fn push_signed(values: &mut Vec<u8>, width: BitWidth, number: i64) -> Result<boo
     Ok(true)
 }
 
-/// Appends the bytes of a number of 64 bits, where the type holds it.
+/// Appends the bytes of a number of 64 bits. Returns false if the type does not hold it.
 #[inline(always)]
 pub(crate) fn push_small(
     values: &mut Vec<u8>,
@@ -76,7 +76,7 @@ pub(crate) fn push_small(
     }
 }
 
-// The same of a number that no 64 bits with a sign hold.
+// Appends the bytes of a number that no `i64` holds. Returns false if the type does not hold it.
 #[tactic(auto, using(crate::proofs::IntegerBytes::unsigned_appended))]
 fn push_large(values: &mut Vec<u8>, integer: IntegerType, number: i128) -> Result<bool, AllocError>
     ensures { IfOk result (λ pushed. pushed ≡ true → AppendsInteger (bits_of integer.width) integer.signed number values.old.items values.new.items) }
@@ -94,7 +94,7 @@ fn push_large(values: &mut Vec<u8>, integer: IntegerType, number: i128) -> Resul
     Ok(true)
 }
 
-/// Appends the bytes of a number, where the type holds it.
+/// Appends the bytes of a number of any size. Returns false if the type does not hold it.
 pub(crate) fn push_number(
     values: &mut Vec<u8>,
     integer: IntegerType,
@@ -108,13 +108,13 @@ pub(crate) fn push_number(
     }
 }
 
-/// Appends the bytes of the integer that a field spells, where the type holds it, and answers what that weighs.
+/// Appends the bytes of the integer that a field spells, and returns its weight; `None` if it spells none, or the type does not hold it.
 pub(crate) fn push_integer(
     values: &mut Vec<u8>,
     integer: IntegerType,
     text: &[u8],
 ) -> Result<Option<u64>, AllocError>
-    ensures { IfOk result (λ taken. IfSome taken (λ heavy. (heavy ≡ 1)
+    ensures { IfOk result (λ taken. IfSome taken (λ weight. (weight ≡ 1)
         × AppendsSpelled (bits_of integer.width) integer.signed text.now values.old.items values.new.items)) }
 {
     let Some(number) = spelled_integer(text) else {
@@ -127,13 +127,13 @@ pub(crate) fn push_integer(
     }
 }
 
-/// Appends the bytes of a number, where the type holds it, and answers what it weighs as the integer that a text spells.
+/// Appends the bytes of a short integer, and returns its weight; `None` if the type does not hold it.
 pub(crate) fn push_short(
     values: &mut Vec<u8>,
     integer: IntegerType,
     short: ShortInteger,
 ) -> Result<Option<u64>, AllocError>
-    ensures { (text : List ℕ) → typed_integer text ≡ Some short.number → IfOk result (λ taken. IfSome taken (λ heavy. (heavy ≡ 1)
+    ensures { (text : List ℕ) → typed_integer text ≡ Some short.number → IfOk result (λ taken. IfSome taken (λ weight. (weight ≡ 1)
         × AppendsSpelled (bits_of integer.width) integer.signed text values.old.items values.new.items)) }
 {
     if push_small(values, integer, short.number)? {

@@ -1,4 +1,4 @@
-// The lexemes of a line of JSON in which nothing is escaped, read where they are (RFC 8259, sections 2, 3, 6 and 7).
+// The lexemes of a line of JSON in which nothing is escaped, read in place (RFC 8259, sections 2, 3, 6 and 7).
 ghost use Rattle.std.specs.Prelude.{◌≡◌, ◌+◌, ◌-◌, ◌<◌, ◌≤◌, false, true, length, drop, take, slice_index, IfSome};
 ghost use Rattle.std.specs.Char.{is_ascii_digit};
 ghost use Rattle.std.specs.List.{prefix_len};
@@ -38,7 +38,7 @@ fn is_operator(byte: u8) -> bool
     byte == b'{' || byte == b'}' || byte == b'[' || byte == b']' || byte == b':' || byte == b','
 }
 
-/// Where the spaces from a place on end.
+/// Returns where the spaces from `from` on end.
 #[inline(always)]
 pub(crate) fn skip_spaces(line: &[u8], from: usize) -> usize
     requires { from ≤ length line.now }
@@ -54,7 +54,7 @@ pub(crate) fn skip_spaces(line: &[u8], from: usize) -> usize
     line.len()
 }
 
-// Whether a number or a literal can end at a place.
+// Returns whether a number or a literal can end at `at`.
 #[inline(always)]
 fn ends_word(line: &[u8], at: usize) -> bool
     requires { at ≤ length line.now }
@@ -67,7 +67,7 @@ fn ends_word(line: &[u8], at: usize) -> bool
     is_operator(byte) || is_space(byte)
 }
 
-// Where the digits from a place on end.
+// Returns where the digits from `from` on end.
 #[inline(always)]
 fn digits_end(line: &[u8], from: usize) -> usize
     requires { from ≤ length line.now }
@@ -82,7 +82,7 @@ fn digits_end(line: &[u8], from: usize) -> usize
     line.len()
 }
 
-// Where the digits of a number begin, behind a minus or not.
+// Returns where the digits of the number at `from` begin: after its minus, if it has one.
 #[inline(always)]
 fn first_digit(line: &[u8], from: usize) -> usize
     requires { from < length line.now }
@@ -93,7 +93,7 @@ fn first_digit(line: &[u8], from: usize) -> usize
     if line[from] == b'-' { from + 1 } else { from }
 }
 
-// Whether a zero begins longer digits, which is no number.
+// Returns whether the digits from `first` to `end` are a zero and more digits, which are no number.
 #[inline(always)]
 fn has_leading_zero(line: &[u8], first: usize, end: usize) -> bool
     requires below { first < end }
@@ -103,7 +103,7 @@ fn has_leading_zero(line: &[u8], first: usize, end: usize) -> bool
     line[first] == b'0' && end > first + 1
 }
 
-// Where the integer that begins at a place ends, where one does.
+// Returns where the integer at `from` ends; `None` if there is none.
 #[inline(always)]
 fn integer_end(line: &[u8], from: usize) -> Option<usize>
     requires { from < length line.now }
@@ -123,7 +123,7 @@ fn integer_end(line: &[u8], from: usize) -> Option<usize>
     Some(end)
 }
 
-// Where the plain bytes of a string end: at a quote, a backslash or a control byte, or with the line.
+// Returns where the plain bytes of a string end: at a quote, a backslash or a control byte, or with the line.
 #[inline(always)]
 fn plain_end(line: &[u8], from: usize) -> usize
     requires { from ≤ length line.now }
@@ -138,7 +138,7 @@ fn plain_end(line: &[u8], from: usize) -> usize
     line.len()
 }
 
-/// The string that begins with the quote at a place, where nothing in it is escaped.
+/// Returns the string whose quote is at `from`; `None` if something in it is escaped, or it is no string.
 #[inline(always)]
 pub(crate) fn string_at<'a>(line: &'a str, from: usize) -> Option<Lexeme<'a>>
     requires within { from < length line.now }
@@ -159,7 +159,7 @@ pub(crate) fn string_at<'a>(line: &'a str, from: usize) -> Option<Lexeme<'a>>
     Some(Lexeme { text, end })
 }
 
-// The integer that begins at a place.
+// Returns the integer at `from`; `None` if there is none.
 #[inline(always)]
 fn integer_at<'a>(line: &'a str, from: usize) -> Option<Lexeme<'a>>
     requires { from < length line.now }
@@ -170,7 +170,7 @@ fn integer_at<'a>(line: &'a str, from: usize) -> Option<Lexeme<'a>>
     Some(Lexeme { text, end })
 }
 
-// A literal that begins at a place.
+// Returns the literal at `from`, whose name and token are given; `None` if it is not there.
 #[inline(always)]
 fn literal_at<'a>(line: &[u8], from: usize, name: &[u8], token: Token<'a>) -> Option<Scalar<'a>>
     requires within { from < length line.now }
@@ -191,7 +191,7 @@ fn literal_at<'a>(line: &[u8], from: usize, name: &[u8], token: Token<'a>) -> Op
     Some(Scalar { token, end })
 }
 
-// A string, as a token.
+// Returns the string at `from` as a token.
 #[inline(always)]
 fn string_token<'a>(line: &'a str, from: usize) -> Option<Scalar<'a>>
     requires within { from < length line.now }
@@ -205,7 +205,7 @@ fn string_token<'a>(line: &'a str, from: usize) -> Option<Scalar<'a>>
     Some(Scalar { token, end })
 }
 
-// An integer, as a token.
+// Returns the integer at `from` as a token.
 #[inline(always)]
 fn integer_token<'a>(line: &'a str, from: usize) -> Option<Scalar<'a>>
     requires { from < length line.now }
@@ -218,7 +218,7 @@ fn integer_token<'a>(line: &'a str, from: usize) -> Option<Scalar<'a>>
     Some(Scalar { token, end })
 }
 
-/// The string, integer or literal that begins at a place.
+/// Returns the string, integer or literal at `from`; `None` if there is none, or something in the string is escaped.
 #[inline(always)]
 pub(crate) fn scalar_at<'a>(line: &'a str, from: usize) -> Option<Scalar<'a>>
     requires { from < length line.now }

@@ -11,14 +11,14 @@ use memchr::memchr;
 use std::alloc::AllocError;
 use std::marker::Model;
 
-// A line is read where it is, unless something in it is escaped.
+// A line is read in place, unless something in it is escaped.
 #[derive(Drop)]
 pub(crate) enum Source<'a> {
     Plain(PlainReader<'a>),
     Escaped(Reader<'a>),
 }
 
-/// A clause sees the tokens that are still to come.
+/// A reader of the tokens of a line. Clauses see the tokens that are left.
 #[derive(Drop)]
 pub(crate) struct LineReader<'a> {
     source: Source<'a>,
@@ -36,14 +36,14 @@ impl<'a> Model for LineReader<'a> {
     ghost view = { λ a. source_tokens a.source };
 }
 
-/// Whether a text has a backslash.
+/// Returns whether a text has a backslash.
 pub(crate) fn has_escape(text: &str) -> bool {
     memchr(b'\\', text.as_bytes()).is_some()
 }
 
 impl<'a> LineReader<'a> {
-    /// Strings in which something is escaped are written to `scratch`, and all others are borrowed from the line. `escapes` is whether anything can be
-    /// escaped.
+    /// Begins to read a line. A string in which something is escaped is written to `scratch`, and any other is borrowed from the line. `escapes` is whether
+    /// anything can be escaped.
     #[inline(always)]
     pub(crate) fn new(
         line: &'a str,
@@ -60,7 +60,7 @@ impl<'a> LineReader<'a> {
         Ok(LineReader { source })
     }
 
-    /// The next token, where a value begins with it.
+    /// Returns the next token; `None` if no value begins with it.
     #[inline(always)]
     pub(crate) fn next(&mut self) -> Option<Token<'a>>
         ensures value { IfSome result (λ t. self.old ≡ token_of t ∷ self.new) }
@@ -71,7 +71,7 @@ impl<'a> LineReader<'a> {
         }
     }
 
-    /// The next key, or none at the brace that closes an object.
+    /// Returns the next key; `None` at the brace that closes an object.
     #[inline(always)]
     pub(crate) fn next_key(&mut self) -> Result<Option<&'a str>, Invalid>
         ensures value { IfOk result (λ k. read_key self.old ≡ Some (option_map (λ s. s.now) k, self.new)) }
@@ -82,7 +82,7 @@ impl<'a> LineReader<'a> {
         }
     }
 
-    /// Takes the bracket that closes an array, if it is next.
+    /// Takes the bracket that closes an array, and returns whether it is next.
     #[inline(always)]
     pub(crate) fn take_end_array(&mut self) -> bool
         ensures { MatchBool result (after_end_array self.old ≡ Some self.new) (self.new ≡ self.old) }
@@ -93,7 +93,7 @@ impl<'a> LineReader<'a> {
         }
     }
 
-    /// Whether no token is left.
+    /// Returns whether no token is left.
     pub(crate) fn is_at_end(&mut self) -> bool
         ensures { result ≡ true → self.old ≡ [] }
     {

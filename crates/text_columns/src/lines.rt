@@ -21,9 +21,9 @@ use std::alloc::{AllocError, Global};
 use text_import::is_blank;
 
 // How deep the values of a line's object or array may nest.
-const BELOW: u32 = 126;
+const MOST_DEPTH: u32 = 126;
 
-// The first line of a text, and what follows its line feed, where it has one.
+// The first line of a text, and what follows its line feed, if it has one.
 #[derive(Clone, Copy)]
 struct FirstLine<'a> {
     line: &'a str,
@@ -46,19 +46,19 @@ fn first_line<'a>(text: &'a str) -> FirstLine<'a>
     }
 }
 
-// Appends the cells of the object that a reader is in, and answers what its row weighs; none where it does not go in.
+// Appends the cells of the object that a reader is in, and returns the weight of its row; `None` if it is no row of the columns.
 fn push_object(
     names: &IndexSet<Vec<u8>>,
     order: &mut [usize],
     builders: &mut [ColumnBuilder],
-    heavies: &mut [Option<u64>],
+    weights: &mut [Option<u64>],
     reader: &mut LineReader<'_>,
 ) -> Result<Option<u64>, AllocError>
-    ensures few { IfOk result (λ taken. IfSome taken (λ heavy. heavy ≤ MAX_ROW_WEIGHT)) }
-    ensures kept { IfOk result (λ taken. IfSome taken (λ heavy.
-        KeepsTokens (key_list names.now.keys) (tokens.begin_object ∷ reader.old) heavy builders.old builders.new)) }
+    ensures few { IfOk result (λ taken. IfSome taken (λ weight. weight ≤ MAX_ROW_WEIGHT)) }
+    ensures kept { IfOk result (λ taken. IfSome taken (λ weight.
+        KeepsTokens (key_list names.now.keys) (tokens.begin_object ∷ reader.old) weight builders.old builders.new)) }
 {
-    let Some(weight) = push_fields(names, order, builders, heavies, reader, BELOW)? else {
+    let Some(weight) = push_fields(names, order, builders, weights, reader, MOST_DEPTH)? else {
         return Ok(None);
     };
     if !reader.is_at_end() {
@@ -67,16 +67,16 @@ fn push_object(
     Ok(Some(weight))
 }
 
-// The same of the array that a reader is in, by the places of its items.
+// Appends the cells of the array that a reader is in, and returns the weight of its row; `None` if it is no row of the columns.
 fn push_array(
     builders: &mut [ColumnBuilder],
     reader: &mut LineReader<'_>,
 ) -> Result<Option<u64>, AllocError>
-    ensures few { IfOk result (λ taken. IfSome taken (λ heavy. heavy ≤ MAX_ROW_WEIGHT)) }
-    ensures kept { IfOk result (λ taken. IfSome taken (λ heavy. (names : List (List ℕ))
-        → KeepsTokens names (tokens.begin_array ∷ reader.old) heavy builders.old builders.new)) }
+    ensures few { IfOk result (λ taken. IfSome taken (λ weight. weight ≤ MAX_ROW_WEIGHT)) }
+    ensures kept { IfOk result (λ taken. IfSome taken (λ weight. (names : List (List ℕ))
+        → KeepsTokens names (tokens.begin_array ∷ reader.old) weight builders.old builders.new)) }
 {
-    let Some(weight) = push_items(builders, reader, BELOW)? else {
+    let Some(weight) = push_items(builders, reader, MOST_DEPTH)? else {
         return Ok(None);
     };
     if !reader.is_at_end() {
@@ -85,63 +85,63 @@ fn push_array(
     Ok(Some(weight))
 }
 
-// The same of the value that a reader is at, which is an object or an array.
+// Appends the cells of the object or array that a reader is at, and returns the weight of its row; `None` if it is no row of the columns.
 fn push_value(
     names: &IndexSet<Vec<u8>>,
     order: &mut [usize],
     builders: &mut [ColumnBuilder],
-    heavies: &mut [Option<u64>],
+    weights: &mut [Option<u64>],
     reader: &mut LineReader<'_>,
 ) -> Result<Option<u64>, AllocError>
-    ensures few { IfOk result (λ taken. IfSome taken (λ heavy. heavy ≤ MAX_ROW_WEIGHT)) }
-    ensures kept { IfOk result (λ taken. IfSome taken (λ heavy. KeepsTokens (key_list names.now.keys) reader.old heavy builders.old builders.new)) }
+    ensures few { IfOk result (λ taken. IfSome taken (λ weight. weight ≤ MAX_ROW_WEIGHT)) }
+    ensures kept { IfOk result (λ taken. IfSome taken (λ weight. KeepsTokens (key_list names.now.keys) reader.old weight builders.old builders.new)) }
 {
     match reader.next() {
-        Some(Token::BeginObject) => push_object(names, order, builders, heavies, reader),
+        Some(Token::BeginObject) => push_object(names, order, builders, weights, reader),
         Some(Token::BeginArray) => push_array(builders, reader),
         _ => Ok(None),
     }
 }
 
-// The same of a line.
+// Appends the cells of a line, and returns the weight of its row; `None` if it is no row of the columns.
 fn push_line(
     names: &IndexSet<Vec<u8>>,
     order: &mut [usize],
     builders: &mut [ColumnBuilder],
-    heavies: &mut [Option<u64>],
+    weights: &mut [Option<u64>],
     scratch: &mut Scratch,
     line: &str,
     escapes: bool,
 ) -> Result<Option<u64>, AllocError>
-    ensures few { IfOk result (λ taken. IfSome taken (λ heavy. heavy ≤ MAX_ROW_WEIGHT)) }
-    ensures kept { IfOk result (λ taken. IfSome taken (λ heavy. KeepsLine (key_list names.now.keys) line.now heavy builders.old builders.new)) }
+    ensures few { IfOk result (λ taken. IfSome taken (λ weight. weight ≤ MAX_ROW_WEIGHT)) }
+    ensures kept { IfOk result (λ taken. IfSome taken (λ weight. KeepsLine (key_list names.now.keys) line.now weight builders.old builders.new)) }
 {
     let mut reader = LineReader::new(line, scratch, escapes)?;
-    push_value(names, order, builders, heavies, &mut reader)
+    push_value(names, order, builders, weights, &mut reader)
 }
 
-// The same, into the columns of the record batch that is being read.
+// Adds a line to the record batch that is being read, and returns the weight of its row; `None` if it is no row of the columns.
 fn push_row(
     names: &IndexSet<Vec<u8>>,
     order: &mut [usize],
     batches: &mut Batches,
-    heavies: &mut [Option<u64>],
+    weights: &mut [Option<u64>],
     scratch: &mut Scratch,
     line: &str,
     escapes: bool,
 ) -> Result<Option<u64>, AllocError>
-    ensures few { IfOk result (λ taken. IfSome taken (λ heavy. heavy ≤ MAX_ROW_WEIGHT)) }
-    ensures kept { IfOk result (λ taken. IfSome taken (λ heavy.
-        KeepsLine (key_list names.now.keys) line.now heavy batches.old.builders.items batches.new.builders.items)) }
-    ensures adds { IfOk result (λ taken. IfSome taken (λ heavy. AddsRow batches.old batches.new)) }
+    ensures few { IfOk result (λ taken. IfSome taken (λ weight. weight ≤ MAX_ROW_WEIGHT)) }
+    ensures kept { IfOk result (λ taken. IfSome taken (λ weight.
+        KeepsLine (key_list names.now.keys) line.now weight batches.old.builders.items batches.new.builders.items)) }
+    ensures adds { IfOk result (λ taken. IfSome taken (λ weight. AddsRow batches.old batches.new)) }
 {
     batches.count_row()?;
     let builders = batches.builders.as_mut_slice();
-    push_line(names, order, builders, heavies, scratch, line, escapes)
+    push_line(names, order, builders, weights, scratch, line, escapes)
 }
 
-/// Appends the rows of the lines of a text, of which those that are blank are skipped; none where a line is no object of members, each of the name of a
-/// column, and no array of an item for each column, or where the rows are too heavy for a table. `ends` is whether a record batch ends if a dictionary is full.
+/// Appends the rows of the lines of a text that are not blank, and returns their weight; `None` if a line is no row of the columns, if a dictionary is full,
+/// or if the rows are too heavy for a table. `ends` is whether a record batch ends if a dictionary is full.
 pub(crate) fn push_lines(
     alloc: Global,
     schema: &Schema,
@@ -152,11 +152,11 @@ pub(crate) fn push_lines(
 ) -> Result<Option<u64>, AllocError>
     requires { repeats (key_list names.now.keys) ≡ false }
     ensures { names_of (columns_of (schema_of schema.now).columns) ≡ key_list names.now.keys → HoldRows (schema_of schema.now) [] batches.old
-        → IfOk result (λ read. IfSome read (λ heavy.
-        HasRows (schema_of schema.now) (jsonl_rows_of (schema_of schema.now) text.now) heavy batches.new)) }
+        → IfOk result (λ read. IfSome read (λ weight.
+        HasRows (schema_of schema.now) (jsonl_rows_of (schema_of schema.now) text.now) weight batches.new)) }
 {
     let mut scratch = Scratch::new(alloc);
-    let mut heavies = vec![in alloc; None; schema.fields.len()]?;
+    let mut weights = vec![in alloc; None; schema.fields.len()]?;
     let mut order = vec![in alloc; 0; schema.fields.len()]?;
     let escapes = has_escape(text);
     let mut weight = 0;
@@ -170,11 +170,11 @@ pub(crate) fn push_lines(
         if !batches.make_room(alloc, schema, ends)? {
             return Ok(None);
         }
-        let Some(heavy) = push_row(
+        let Some(row_weight) = push_row(
             names,
             order.as_mut_slice(),
             batches,
-            heavies.as_mut_slice(),
+            weights.as_mut_slice(),
             &mut scratch,
             line,
             escapes,
@@ -182,10 +182,10 @@ pub(crate) fn push_lines(
         else {
             return Ok(None);
         };
-        if heavy > MAX_TABLE_WEIGHT - weight {
+        if row_weight > MAX_TABLE_WEIGHT - weight {
             return Ok(None);
         }
-        weight += heavy;
+        weight += row_weight;
     }
     Ok(Some(weight))
 }

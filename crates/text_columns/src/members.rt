@@ -10,9 +10,13 @@ use arrow_schema::Field;
 use indexmap::IndexSet;
 use std::alloc::{AllocError, Global};
 
-// Adds the names of fields; none where one was there.
-fn own_names(alloc: Global, fields: &[Field]) -> Result<Option<IndexSet<Vec<u8>>>, AllocError>
-    ensures { IfOk result (λ found. IfSome found (λ names. key_list names.keys ≡ names_of (columns_of (map column_of fields.now)))) }
+/// Returns the set of the names of fields; `None` if two are equal.
+pub(crate) fn names_of(
+    alloc: Global,
+    fields: &[Field],
+) -> Result<Option<IndexSet<Vec<u8>>>, AllocError>
+    ensures { IfOk result (λ found. IfSome found (λ names. (key_list names.keys ≡ names_of (columns_of (map column_of fields.now)))
+        × (repeats (names_of (columns_of (map column_of fields.now))) ≡ false))) }
 {
     let mut names = IndexSet::new(alloc);
     for field in fields {
@@ -23,21 +27,7 @@ fn own_names(alloc: Global, fields: &[Field]) -> Result<Option<IndexSet<Vec<u8>>
     Ok(Some(names))
 }
 
-/// The names of columns, where no two have the same.
-pub(crate) fn names_of(
-    alloc: Global,
-    fields: &[Field],
-) -> Result<Option<IndexSet<Vec<u8>>>, AllocError>
-    ensures { IfOk result (λ found. IfSome found (λ names. (key_list names.keys ≡ names_of (columns_of (map column_of fields.now)))
-        × (repeats (names_of (columns_of (map column_of fields.now))) ≡ false))) }
-{
-    match text_import::distinct_names(alloc, fields)? {
-        Some(_) => own_names(alloc, fields),
-        None => Ok(None),
-    }
-}
-
-// Whether the name at a place is this one.
+// Returns whether `name` stands at the place `at`.
 fn stands_at(names: &IndexSet<Vec<u8>>, at: usize, name: &str) -> bool
     ensures { result ≡ true → slice_get (key_list names.now.keys) at ≡ Some name.now }
 {
@@ -47,7 +37,8 @@ fn stands_at(names: &IndexSet<Vec<u8>>, at: usize, name: &str) -> bool
     }
 }
 
-/// The place of a name: the place that it had in the line before is tested first.
+/// Returns the place of `name`; `None` if it has none. Members mostly come in the order of the previous object, so the place `before` from there is tested
+/// first.
 pub(crate) fn find(names: &IndexSet<Vec<u8>>, before: usize, name: &str) -> Option<usize>
     ensures { IfSome result (λ at. slice_get (key_list names.now.keys) at ≡ Some name.now) }
 {

@@ -1,4 +1,4 @@
-// The value that a reader of JSON is at, into the column that it belongs to: a list item by item, an object member by member.
+// The value that a reader of JSON is at, into its column: a list item by item, an object member by member.
 ghost use Rattle.std.specs.Prelude.{◌≡◌, ◌≤◌, true, IfOk, IfSome};
 ghost use Rattle.text_columns.specs.inner.Kept.{key_list};
 ghost use Rattle.json.specs.Reads.{token_of};
@@ -13,20 +13,20 @@ use indexmap::IndexSet;
 use json::Token;
 use std::alloc::AllocError;
 
-/// How many items were read, and what their list weighs.
+/// How many items were read, and the weight of their list.
 #[derive(Clone, Copy)]
 pub(crate) struct ItemsTaken {
     pub(crate) count: u64,
     pub(crate) weight: u64,
 }
 
-// Appends the slot of a list and where it ends, once its items were, and answers what it weighs; none where they were not.
+// Appends the slot of a list and where it ends, and returns its weight; `None` if its items were not taken.
 fn end_list(
     slots: &mut Slots,
     offsets: &mut ListOffsets,
     taken: Option<ItemsTaken>,
 ) -> Result<Option<u64>, AllocError>
-    ensures { IfOk result (λ ended. IfSome ended (λ heavy. EndsList taken heavy slots.old slots.new offsets.old offsets.new)) }
+    ensures { IfOk result (λ ended. IfSome ended (λ weight. EndsList taken weight slots.old slots.new offsets.old offsets.new)) }
 {
     let Some(taken) = taken else {
         return Ok(None);
@@ -36,13 +36,13 @@ fn end_list(
     Ok(Some(taken.weight))
 }
 
-// Appends the slot of a list of n items; none if the list needs more or fewer.
+// Appends the slot of a list of `size` items, and returns its weight; `None` if its items were not taken, or are more or fewer.
 fn end_fixed_list(
     slots: &mut Slots,
     size: u32,
     taken: Option<ItemsTaken>,
 ) -> Result<Option<u64>, AllocError>
-    ensures { IfOk result (λ ended. IfSome ended (λ heavy. EndsFixedList taken size heavy slots.old slots.new)) }
+    ensures { IfOk result (λ ended. IfSome ended (λ weight. EndsFixedList taken size weight slots.old slots.new)) }
 {
     let Some(taken) = taken else {
         return Ok(None);
@@ -54,9 +54,9 @@ fn end_fixed_list(
     Ok(Some(taken.weight))
 }
 
-// Appends the slot of a struct, once its cells were, and answers what it weighs; none where they were not.
+// Appends the slot of a struct, and returns its weight; `None` if its cells were not taken.
 fn end_struct(slots: &mut Slots, taken: Option<u64>) -> Result<Option<u64>, AllocError>
-    ensures { IfOk result (λ ended. IfSome ended (λ heavy. EndsStruct taken heavy slots.old slots.new)) }
+    ensures { IfOk result (λ ended. IfSome ended (λ weight. EndsStruct taken weight slots.old slots.new)) }
 {
     let Some(weight) = taken else {
         return Ok(None);
@@ -65,8 +65,8 @@ fn end_struct(slots: &mut Slots, taken: Option<u64>) -> Result<Option<u64>, Allo
     Ok(Some(weight))
 }
 
-// Appends the items of the array that a reader is in; none where one does not go in, or they are too heavy for a row. Their values nest no deeper
-// than the number.
+// Appends the items of the array that a reader is in; `None` if one is no cell of the column or nests deeper than `depth`, or if they are too heavy for a
+// row.
 #[cycle(next)]
 fn push_list_items(
     items: &mut ColumnBuilder,
@@ -80,38 +80,38 @@ fn push_list_items(
         if reader.take_end_array() {
             return Ok(Some(ItemsTaken { count, weight }));
         }
-        let Some(heavy) = items.push_next(reader, depth)? else {
+        let Some(item_weight) = items.push_next(reader, depth)? else {
             return Ok(None);
         };
-        if heavy > MAX_ROW_WEIGHT - weight {
+        if item_weight > MAX_ROW_WEIGHT - weight {
             return Ok(None);
         }
-        weight += heavy;
+        weight += item_weight;
     }
     Ok(None)
 }
 
-/// Appends the cells of the items that a reader is at, whose values nest no deeper than the number, and answers what their row weighs; none where
-/// they are not as many as columns, or one does not go in.
+/// Appends the cells of the items that a reader is at, and returns the weight of their row; `None` if they are more or fewer than the columns, or one is no
+/// cell of its column or nests deeper than `depth`, or if the row is too heavy.
 #[cycle(next)]
 pub(crate) fn push_items(
     builders: &mut [ColumnBuilder],
     reader: &mut LineReader<'_>,
     depth: u32,
 ) -> Result<Option<u64>, AllocError>
-    ensures few { IfOk result (λ taken. IfSome taken (λ heavy. heavy ≤ MAX_ROW_WEIGHT)) }
-    ensures kept { IfOk result (λ taken. IfSome taken (λ heavy. KeepsItems depth reader.old reader.new heavy builders.old builders.new)) }
+    ensures few { IfOk result (λ taken. IfSome taken (λ weight. weight ≤ MAX_ROW_WEIGHT)) }
+    ensures kept { IfOk result (λ taken. IfSome taken (λ weight. KeepsItems depth reader.old reader.new weight builders.old builders.new)) }
 {
     let mut weight = 1;
     for i in 0..builders.len() {
         let builder = &mut builders[i];
-        let Some(heavy) = builder.push_next(reader, depth)? else {
+        let Some(cell_weight) = builder.push_next(reader, depth)? else {
             return Ok(None);
         };
-        if heavy > MAX_ROW_WEIGHT - weight {
+        if cell_weight > MAX_ROW_WEIGHT - weight {
             return Ok(None);
         }
-        weight += heavy;
+        weight += cell_weight;
     }
     if !reader.take_end_array() {
         return Ok(None);
@@ -119,43 +119,42 @@ pub(crate) fn push_items(
     Ok(Some(weight))
 }
 
-// Appends the value that a reader is at to the column at a place that has no cell of this row yet, and keeps what the cell weighs;
-// false where it does not go in.
+// Appends the value that a reader is at to the column at the place `at`, and keeps its weight. Returns false if the column already has a cell of this row,
+// or if the value is no cell of it or nests deeper than `depth`.
 #[cycle(next)]
 fn push_member(
     builders: &mut [ColumnBuilder],
-    heavies: &mut [Option<u64>],
+    weights: &mut [Option<u64>],
     at: usize,
     reader: &mut LineReader<'_>,
     depth: u32,
 ) -> Result<bool, AllocError>
-    ensures { IfOk result (λ done. done ≡ true → PushesMember depth at reader.old reader.new heavies.old heavies.new builders.old builders.new) }
+    ensures { IfOk result (λ done. done ≡ true → PushesMember depth at reader.old reader.new weights.old weights.new builders.old builders.new) }
 {
-    if at >= builders.len() || at >= heavies.len() || heavies[at].is_some() {
+    if at >= builders.len() || at >= weights.len() || weights[at].is_some() {
         return Ok(false);
     }
     let builder = &mut builders[at];
-    let Some(heavy) = builder.push_next(reader, depth)? else {
+    let Some(weight) = builder.push_next(reader, depth)? else {
         return Ok(false);
     };
-    heavies[at] = Some(heavy);
+    weights[at] = Some(weight);
     Ok(true)
 }
 
-/// Appends the values of the members that a reader is at, which nest no deeper than the number, and keeps what each weighs; false where one does not
-/// go into a column, or two have one name. `order` has the places of the columns that the members of the line before went into, and then those of this
-/// one.
+// Appends the values of the members that a reader is at, and keeps the weight of each. Returns false if one is no cell of a column or nests deeper than
+// `depth`, or if two have one name. `order` has the places of the columns of the previous object's members, and then those of this one's.
 #[cycle(next)]
 fn push_members(
     names: &IndexSet<Vec<u8>>,
     order: &mut [usize],
     builders: &mut [ColumnBuilder],
-    heavies: &mut [Option<u64>],
+    weights: &mut [Option<u64>],
     reader: &mut LineReader<'_>,
     depth: u32,
 ) -> Result<bool, AllocError>
     ensures { IfOk result (λ done. done ≡ true
-        → PushesMembers depth (key_list names.now.keys) reader.old reader.new heavies.old heavies.new builders.old builders.new) }
+        → PushesMembers depth (key_list names.now.keys) reader.old reader.new weights.old weights.new builders.old builders.new) }
 {
     for k in 0..order.len() {
         let Ok(key) = reader.next_key() else {
@@ -168,7 +167,7 @@ fn push_members(
             return Ok(false);
         };
         order[k] = at;
-        if !push_member(builders, heavies, at, reader, depth)? {
+        if !push_member(builders, weights, at, reader, depth)? {
             return Ok(false);
         }
     }
@@ -178,44 +177,44 @@ fn push_members(
     }
 }
 
-/// Appends the cells of the members that a reader is at, which nest no deeper than the number, and answers what their row weighs; none where they do not
-/// go in.
+/// Appends the cells of the members that a reader is at, and returns the weight of their row; `None` if they are no row of the columns, or one nests deeper
+/// than `depth`.
 #[cycle(next)]
 pub(crate) fn push_fields(
     names: &IndexSet<Vec<u8>>,
     order: &mut [usize],
     builders: &mut [ColumnBuilder],
-    heavies: &mut [Option<u64>],
+    weights: &mut [Option<u64>],
     reader: &mut LineReader<'_>,
     depth: u32,
 ) -> Result<Option<u64>, AllocError>
-    ensures few { IfOk result (λ taken. IfSome taken (λ heavy. heavy ≤ MAX_ROW_WEIGHT)) }
-    ensures kept { IfOk result (λ taken. IfSome taken (λ heavy.
-        KeepsFields depth (key_list names.now.keys) reader.old reader.new heavy builders.old builders.new)) }
+    ensures few { IfOk result (λ taken. IfSome taken (λ weight. weight ≤ MAX_ROW_WEIGHT)) }
+    ensures kept { IfOk result (λ taken. IfSome taken (λ weight.
+        KeepsFields depth (key_list names.now.keys) reader.old reader.new weight builders.old builders.new)) }
 {
-    if heavies.len() != builders.len() {
+    if weights.len() != builders.len() {
         return Ok(None);
     }
-    clear(heavies);
-    if !push_members(names, order, builders, heavies, reader, depth)? {
+    clear(weights);
+    if !push_members(names, order, builders, weights, reader, depth)? {
         return Ok(None);
     }
-    complete_row(builders, heavies)
+    complete_row(builders, weights)
 }
 
-// Appends the items of the array that a reader is in to the fields of structs.
+// Appends the items of the array that a reader is in to the fields of structs, and returns their weight; `None` if they are no struct.
 #[cycle(next)]
 fn push_parts(
     fields: &mut Vec<ColumnBuilder>,
     reader: &mut LineReader<'_>,
     depth: u32,
 ) -> Result<Option<u64>, AllocError>
-    ensures { IfOk result (λ taken. IfSome taken (λ heavy. KeepsItems depth reader.old reader.new heavy fields.old.items fields.new.items)) }
+    ensures { IfOk result (λ taken. IfSome taken (λ weight. KeepsItems depth reader.old reader.new weight fields.old.items fields.new.items)) }
 {
     push_items(fields.as_mut_slice(), reader, depth)
 }
 
-// The same of the members of an object.
+// Appends the members of the object that a reader is in to the fields of structs, and returns their weight; `None` if they are no struct.
 #[cycle(next)]
 fn push_named(
     names: &mut Names,
@@ -223,29 +222,29 @@ fn push_named(
     reader: &mut LineReader<'_>,
     depth: u32,
 ) -> Result<Option<u64>, AllocError>
-    ensures kept { IfOk result (λ taken. IfSome taken (λ heavy.
-        KeepsFields depth (key_list names.old.names.keys) reader.old reader.new heavy fields.old.items fields.new.items)) }
+    ensures kept { IfOk result (λ taken. IfSome taken (λ weight.
+        KeepsFields depth (key_list names.old.names.keys) reader.old reader.new weight fields.old.items fields.new.items)) }
     ensures same { names.new.names ≡ names.old.names }
 {
     push_fields(
         &names.names,
         names.order.as_mut_slice(),
         fields.as_mut_slice(),
-        names.heavies.as_mut_slice(),
+        names.weights.as_mut_slice(),
         reader,
         depth,
     )
 }
 
 impl ColumnBuilder {
-    // Appends the list of the array that a reader is in, and answers what it weighs; none where the column has no lists, or it does not go in.
+    // Appends the cell of the array that a reader is in, and returns its weight; `None` if it is no cell of the column.
     #[cycle(next)]
     fn push_array(
         &mut self,
         reader: &mut LineReader<'_>,
         depth: u32,
     ) -> Result<Option<u64>, AllocError>
-        ensures { IfOk result (λ taken. IfSome taken (λ heavy. KeepsArray depth reader.old reader.new heavy self.old self.new)) }
+        ensures { IfOk result (λ taken. IfSome taken (λ weight. KeepsArray depth reader.old reader.new weight self.old self.new)) }
     {
         match self {
             ColumnBuilder::Flat(_) => Ok(None),
@@ -264,14 +263,14 @@ impl ColumnBuilder {
         }
     }
 
-    // The same of the object that a reader is in.
+    // Appends the cell of the object that a reader is in, and returns its weight; `None` if it is no cell of the column.
     #[cycle(next)]
     fn push_object(
         &mut self,
         reader: &mut LineReader<'_>,
         depth: u32,
     ) -> Result<Option<u64>, AllocError>
-        ensures { IfOk result (λ taken. IfSome taken (λ heavy. KeepsObject depth reader.old reader.new heavy self.old self.new)) }
+        ensures { IfOk result (λ taken. IfSome taken (λ weight. KeepsObject depth reader.old reader.new weight self.old self.new)) }
     {
         match self {
             ColumnBuilder::Struct(slots, names, fields) => {
@@ -282,14 +281,15 @@ impl ColumnBuilder {
         }
     }
 
-    // The same of the value that a reader is at, in a column with parts.
+    // Appends the cell of the value that a reader is at to a column with parts, and returns its weight; `None` if it is no cell of the column, or nests
+    // deeper than `depth`.
     #[cycle(next)]
     fn push_nested(
         &mut self,
         reader: &mut LineReader<'_>,
         depth: u32,
     ) -> Result<Option<u64>, AllocError>
-        ensures { IfOk result (λ taken. IfSome taken (λ heavy. KeepsNext depth reader.old reader.new heavy self.old self.new)) }
+        ensures { IfOk result (λ taken. IfSome taken (λ weight. KeepsNext depth reader.old reader.new weight self.old self.new)) }
     {
         if depth == 0 {
             return Ok(None);
@@ -302,15 +302,14 @@ impl ColumnBuilder {
         }
     }
 
-    /// Appends the cell of the value that a reader is at, which nests no deeper than the number, and answers what it weighs; none where it is no cell of
-    /// the column.
+    /// Appends the cell of the value that a reader is at, and returns its weight; `None` if it is no cell of the column, or nests deeper than `depth`.
     #[cycle(next)]
     pub(crate) fn push_next(
         &mut self,
         reader: &mut LineReader<'_>,
         depth: u32,
     ) -> Result<Option<u64>, AllocError>
-        ensures { IfOk result (λ taken. IfSome taken (λ heavy. KeepsNext depth reader.old reader.new heavy self.old self.new)) }
+        ensures { IfOk result (λ taken. IfSome taken (λ weight. KeepsNext depth reader.old reader.new weight self.old self.new)) }
     {
         match self {
             ColumnBuilder::Flat(flat) => match reader.next() {

@@ -12,7 +12,7 @@ use crate::flat::FlatBuilder;
 use columns::{Dictionary, DictionaryPart, PlacedArray, PlacedLayout, Span};
 use std::alloc::{AllocError, Global};
 
-// Appends a buffer, and says where it is.
+// Appends a buffer, and returns where it is.
 fn append(bytes: &mut Vec<u8>, buffer: &[u8]) -> Result<Span, AllocError>
     ensures { IfOk result (λ span. IsAppended bytes.old.items buffer.now bytes.new.items span) }
 {
@@ -24,7 +24,7 @@ fn append(bytes: &mut Vec<u8>, buffer: &[u8]) -> Result<Span, AllocError>
     })
 }
 
-// Whether all bits are set.
+// Returns whether all bits are set.
 fn are_set(bits: &[bool]) -> bool
     ensures { result ≡ list_all (λ bit. bit) bits.now }
 {
@@ -36,7 +36,7 @@ fn are_set(bits: &[bool]) -> bool
     true
 }
 
-// Appends bits, packed, and says where they are.
+// Appends bits, packed, and returns where they are.
 fn append_bits(alloc: Global, bytes: &mut Vec<u8>, bits: &[bool]) -> Result<Span, AllocError>
     ensures { IfOk result (λ span. IsAppended bytes.old.items (packed bits.now) bytes.new.items span) }
 {
@@ -44,7 +44,7 @@ fn append_bits(alloc: Global, bytes: &mut Vec<u8>, bits: &[bool]) -> Result<Span
     append(bytes, &buffer)
 }
 
-// Whether slots have a validity bitmap: those of the type of nulls have none, without a dictionary.
+// Returns whether a column has a validity bitmap: one of the type of nulls has none, unless it has a dictionary.
 fn has_validity(column: &FlatBuilder) -> bool
     ensures { result ≡ has_validity column.now.coding column.now.values }
 {
@@ -63,7 +63,7 @@ fn has_bitmap(values: &ColumnValues) -> bool
     }
 }
 
-// Appends the validity bitmap of slots, and says where it is: no byte where each is valid, or where there is no bitmap.
+// Appends the validity bitmap of slots, and returns where it is: no byte if each is valid, or if there is no bitmap.
 fn append_validity(
     alloc: Global,
     bytes: &mut Vec<u8>,
@@ -79,7 +79,7 @@ fn append_validity(
     }
 }
 
-// Appends the buffers of values, and says where they are.
+// Appends the buffers of values, and returns where they are.
 fn place_values(
     alloc: Global,
     bytes: &mut Vec<u8>,
@@ -105,7 +105,7 @@ fn place_values(
     }
 }
 
-// Appends the array of a dictionary's entries, which is that of a dictionary of its own.
+// Appends the array of `count` entries as a dictionary of its own, and returns which part of it they are.
 fn place_entries(
     alloc: Global,
     bytes: &mut Vec<u8>,
@@ -127,7 +127,7 @@ fn place_entries(
     Ok(DictionaryPart { number, count: 1 })
 }
 
-// Appends the indices of a column, and the entries that they name.
+// Appends the indices of a column and the entries that they name, and returns where they are.
 fn place_coded(
     alloc: Global,
     bytes: &mut Vec<u8>,
@@ -142,7 +142,7 @@ fn place_coded(
     Ok(PlacedLayout::Dictionary(indices, part))
 }
 
-// Appends the values of a column, or its indices and entries, and says where they are.
+// Appends the values of a column, or its indices and entries, and returns where they are.
 fn place_layout(
     alloc: Global,
     bytes: &mut Vec<u8>,
@@ -157,7 +157,7 @@ fn place_layout(
     }
 }
 
-// Appends the buffers of a column without parts, and says where they are.
+// Appends the buffers of a column without parts, and returns where they are.
 fn place_flat(
     alloc: Global,
     bytes: &mut Vec<u8>,
@@ -175,8 +175,7 @@ fn place_flat(
     })
 }
 
-// Appends the buffers of a column, and says where they are: those of items and fields come after
-// those of their lists and structs.
+// Appends the buffers of a column, and returns where they are. Those of items and fields come after those of their lists and structs.
 #[cycle(place)]
 fn place(
     alloc: Global,
@@ -219,7 +218,7 @@ fn place(
     }
 }
 
-// Appends the buffers of the fields of structs, and says where they are.
+// Appends the buffers of the fields of structs, and returns where they are.
 #[cycle(place)]
 fn place_fields(
     alloc: Global,
@@ -237,7 +236,7 @@ fn place_fields(
     Ok(arrays)
 }
 
-// How many bytes values have, or somewhat more.
+// Returns how many bytes values have, or somewhat more.
 fn values_size(values: &ColumnValues) -> usize {
     match values {
         ColumnValues::Nulls => 0,
@@ -251,7 +250,7 @@ fn values_size(values: &ColumnValues) -> usize {
     }
 }
 
-// The same of a column without parts.
+// Returns how many bytes a column without parts has, or somewhat more.
 fn column_size(column: &FlatBuilder) -> usize {
     let indices = match &column.coding {
         Some(coding) => coding.indices.len(),
@@ -263,7 +262,7 @@ fn column_size(column: &FlatBuilder) -> usize {
         .saturating_add(validity)
 }
 
-// The same of all columns without parts. So their bytes are never moved to a larger buffer.
+// Returns how many bytes all columns without parts have, or somewhat more. So much is reserved, so that their bytes are never moved to a larger buffer.
 fn columns_size(columns: &[ColumnBuilder]) -> usize {
     let mut size: usize = 0;
     for column in columns {
@@ -282,7 +281,7 @@ pub(crate) struct Placed {
     pub(crate) arrays: Vec<PlacedArray>,
 }
 
-/// The arrays of columns. The buffers of a column are freed once they are copied.
+/// Places the arrays of columns. The buffers of a column are freed once they are copied.
 pub(crate) fn place_all(alloc: Global, columns: Vec<ColumnBuilder>) -> Result<Placed, AllocError>
     ensures { IfOk result (λ placed. ArePlaced columns.items placed.bytes.items placed.dictionaries.items placed.arrays.items) }
 {

@@ -1,4 +1,4 @@
-// Records without quotes, read where they are in the text: no byte of a field is copied before it goes into its column (RFC 4180, section 2).
+// Records without quotes, read in place: no byte of a field is copied before it goes into its column (RFC 4180, section 2).
 ghost use Rattle.std.specs.Prelude.{◌≡◌, ◌<◌, ◌≤◌, [], ◌∷◌, ℕ, List, length, drop, IfOk, IfSome};
 ghost use Rattle.csv.specs.Reading.{is_bom, strip_bom};
 ghost use Rattle.csv.specs.declared.parser.State.TheVariants as st;
@@ -7,7 +7,7 @@ ghost use Rattle.text_import.specs.Records.{record_row, records_of};
 ghost use Rattle.text_import.specs.Rows.{rows_from};
 ghost use Rattle.text_import.specs.Stands.{Left};
 ghost use Rattle.text_columns.specs.inner.Batches.{AddsRow, HasRows, HoldRows};
-ghost use Rattle.text_columns.specs.inner.Plain.{IsFieldAt, PushesField, PushesPlain, SkipsEnds, SkipsRecord, begins_quoted, begins_with, ends_field, ends_line};
+ghost use Rattle.text_columns.specs.inner.Plain.{IsFieldAt, PushesField, PushesPlain, SkipsEnds, SkipsHeader, begins_quoted, begins_with, ends_field, ends_line};
 
 use crate::ascii_texts::text_field;
 use crate::batches::Batches;
@@ -16,14 +16,14 @@ use arrow_schema::Schema;
 use cells::{MAX_ROW_WEIGHT, MAX_TABLE_WEIGHT};
 use std::alloc::{AllocError, Global};
 
-/// Where a record ends, with its line end, and what its row weighs.
+/// Where a record ends, with its line end, and the weight of its row.
 #[derive(Clone, Copy)]
 pub(crate) struct PlainRow {
     pub(crate) next: usize,
     pub(crate) weight: u64,
 }
 
-/// Where a field ends, and what its cell weighs.
+/// Where a field ends, and the weight of its cell.
 #[derive(Clone, Copy)]
 pub(crate) struct PlainField {
     pub(crate) end: usize,
@@ -48,7 +48,7 @@ fn is_mark(a: u8, b: u8, c: u8) -> bool
     a == 0xef && b == 0xbb && c == 0xbf
 }
 
-// Where the byte order mark ends, where the text begins with one.
+// Returns where the byte order mark of a text ends, or 0 if it has none.
 fn behind_mark(text: &[u8]) -> usize
     ensures within { result ≤ length text.now }
     ensures rest { drop result text.now ≡ strip_bom text.now }
@@ -62,7 +62,7 @@ fn behind_mark(text: &[u8]) -> usize
     0
 }
 
-// The first place from one on where no line ends.
+// Returns the first place from `from` on where no line ends.
 fn skip_ends(text: &[u8], from: usize) -> usize
     requires { from ≤ length text.now }
     ensures { SkipsEnds text.now from result }
@@ -75,10 +75,10 @@ fn skip_ends(text: &[u8], from: usize) -> usize
     text.len()
 }
 
-// Where the next record begins, where this one has no quote and a line end.
-fn skip_record(text: &[u8], from: usize) -> Option<usize>
+// Returns where the record after the header at `from` begins; `None` if the header has a quote, or no line end.
+fn skip_header(text: &[u8], from: usize) -> Option<usize>
     requires { from ≤ length text.now }
-    ensures { IfSome result (λ next. SkipsRecord text.now from next) }
+    ensures { IfSome result (λ next. SkipsHeader text.now from next) }
 {
     for i in from..text.len() {
         if ends_line(text[i]) {
@@ -91,7 +91,7 @@ fn skip_record(text: &[u8], from: usize) -> Option<usize>
     None
 }
 
-// Where the field that begins at a place ends.
+// Returns where the field at `from` ends.
 fn field_end(text: &[u8], from: usize) -> usize
     requires { from ≤ length text.now }
     ensures { IsFieldAt text.now from result }
@@ -104,7 +104,7 @@ fn field_end(text: &[u8], from: usize) -> usize
     text.len()
 }
 
-// Whether there is a quote at a place.
+// Returns whether there is a quote at `at`.
 fn is_quoted(text: &[u8], at: usize) -> bool
     requires { at ≤ length text.now }
     ensures { result ≡ begins_quoted (drop at text.now) }
@@ -112,7 +112,7 @@ fn is_quoted(text: &[u8], at: usize) -> bool
     at < text.len() && text[at] == b'"'
 }
 
-// Whether another field follows one that ends there.
+// Returns whether another field follows one that ends at `end`.
 fn goes_on(text: &[u8], end: usize) -> bool
     requires { end ≤ length text.now }
     ensures { result ≡ begins_with 44 (drop end text.now) }
@@ -120,7 +120,7 @@ fn goes_on(text: &[u8], end: usize) -> bool
     end < text.len() && text[end] == b','
 }
 
-// Where the next record begins after the last field of one.
+// Returns where the next record begins, after one whose last field ends at `end`.
 fn behind_line(text: &[u8], end: usize) -> usize
     requires { end ≤ length text.now }
     ensures within { result ≤ length text.now }
@@ -129,8 +129,8 @@ fn behind_line(text: &[u8], end: usize) -> usize
     if end < text.len() { end + 1 } else { end }
 }
 
-// Appends the cell of the field that begins at a place, and answers where it ends and what it weighs; none where it does not go in, or a quote
-// begins it.
+// Appends the cell of the field at `from`, and returns its end and weight; `None` if the field is no cell of the column, or begins with a quote. It is read
+// twice: for its end, and for its cell.
 fn push_any_field(
     builder: &mut ColumnBuilder,
     null_text: &[u8],
@@ -150,7 +150,8 @@ fn push_any_field(
     }
 }
 
-// The same of a column of strings: a field of ASCII is read once.
+// Appends the cell of the field at `from` to a column of strings, and returns its end and weight; `None` if the field is no cell of the column, or begins
+// with a quote. ASCII is read once.
 fn push_text_field(
     builder: &mut ColumnBuilder,
     null_text: &[u8],
@@ -171,7 +172,8 @@ fn push_text_field(
     }
 }
 
-// The same, where a field that is a short integer or ASCII is read once.
+// Appends the cell of the field at `from`, and returns its end and weight; `None` if the field is no cell of the column, or begins with a quote. A short
+// integer and ASCII are read once.
 fn push_plain_field(
     builder: &mut ColumnBuilder,
     null_text: &[u8],
@@ -194,8 +196,7 @@ fn push_plain_field(
     }
 }
 
-// Appends the cells of a record, as many as columns, and answers where it ends and what its row weighs; none where it does not go in,
-// or a quote begins a field.
+// Appends the cells of the record at `from`, and returns its end and weight; `None` if it is no row of the columns, or a field begins with a quote.
 #[inline(never)]
 fn push_plain(
     builders: &mut [ColumnBuilder],
@@ -214,11 +215,11 @@ fn push_plain(
         let Some(field) = push_plain_field(builder, null_text, text, at)? else {
             return Ok(None);
         };
-        let heavy = field.weight;
-        if heavy > MAX_ROW_WEIGHT - weight {
+        let cell_weight = field.weight;
+        if cell_weight > MAX_ROW_WEIGHT - weight {
             return Ok(None);
         }
-        weight += heavy;
+        weight += cell_weight;
         let end = field.end;
         if !goes_on(text, end) {
             if i + 1 < builders.len() {
@@ -232,7 +233,8 @@ fn push_plain(
     Ok(None)
 }
 
-// The same, into the columns of the record batch that is being read.
+// Adds the record at `from` to the record batch that is being read, and returns its end and weight; `None` if it is no row of the columns, or a field
+// begins with a quote.
 fn push_plain_row(
     batches: &mut Batches,
     null_text: &[u8],
@@ -249,7 +251,8 @@ fn push_plain_row(
     push_plain(batches.builders.as_mut_slice(), null_text, text, from)
 }
 
-// Appends the rows of the records from a place on; none where one of them does not go in, or they are too heavy for a table.
+// Appends the rows of the records from `from` on, and returns their weight; `None` if one is no row of the columns or has a field that begins with a quote,
+// if a dictionary is full, or if they are too heavy for a table.
 fn push_plain_rows(
     alloc: Global,
     schema: &Schema,
@@ -260,9 +263,9 @@ fn push_plain_rows(
     from: usize,
 ) -> Result<Option<u64>, AllocError>
     requires { from ≤ length text.now }
-    ensures { IfOk result (λ read. IfSome read (λ heavy. (records : List (List (List ℕ)))
+    ensures { IfOk result (λ read. IfSome read (λ weight. (records : List (List (List ℕ)))
         → Left records st.StartRecord (drop from text.now) → HoldRows (schema_of schema.now) [] batches.old
-        → HasRows (schema_of schema.now) (rows_from (record_row (schema_of schema.now) null_text.now) 1 records) heavy batches.new)) }
+        → HasRows (schema_of schema.now) (rows_from (record_row (schema_of schema.now) null_text.now) 1 records) weight batches.new)) }
 {
     let mut at = from;
     let mut weight = 0;
@@ -286,8 +289,9 @@ fn push_plain_rows(
     Ok(None)
 }
 
-/// Appends the rows of a text whose header was tested; none where a record does not go in, or a quote begins a field, or where the rows
-/// are too heavy for a table. `ends` is whether a record batch ends if a dictionary is full.
+/// Appends the rows of a text whose header was tested, and returns their weight; `None` if the header has a quote, if a record is no row of the columns or
+/// has a field that begins with a quote, if a dictionary is full, or if the rows are too heavy for a table. `ends` is whether a record batch ends if a
+/// dictionary is full.
 pub(crate) fn push_plain_text(
     alloc: Global,
     schema: &Schema,
@@ -296,12 +300,12 @@ pub(crate) fn push_plain_text(
     null_text: &[u8],
     text: &[u8],
 ) -> Result<Option<u64>, AllocError>
-    ensures { IfOk result (λ read. IfSome read (λ heavy. (header : List (List ℕ)) (records : List (List (List ℕ)))
+    ensures { IfOk result (λ read. IfSome read (λ weight. (header : List (List ℕ)) (records : List (List (List ℕ)))
         → records_of text.now ≡ header ∷ records → HoldRows (schema_of schema.now) [] batches.old
-        → HasRows (schema_of schema.now) (rows_from (record_row (schema_of schema.now) null_text.now) 1 records) heavy batches.new)) }
+        → HasRows (schema_of schema.now) (rows_from (record_row (schema_of schema.now) null_text.now) 1 records) weight batches.new)) }
 {
     let header = skip_ends(text, behind_mark(text));
-    let Some(from) = skip_record(text, header) else {
+    let Some(from) = skip_header(text, header) else {
         return Ok(None);
     };
     let read = push_plain_rows(alloc, schema, batches, ends, null_text, text, from)?;

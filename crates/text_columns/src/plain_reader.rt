@@ -19,7 +19,7 @@ pub(crate) enum Place {
     AfterComma,
 }
 
-/// A place of a line, behind all spaces.
+/// A place of a line, after all spaces.
 #[derive(Clone, Copy)]
 pub(crate) struct Stand {
     pub(crate) at: usize,
@@ -62,7 +62,7 @@ impl Place {
     }
 }
 
-// Behind an opening bracket, or a key and its colon.
+// Returns where a reader stands after an opening bracket, or a key and its colon, that ends at `from`.
 #[inline(always)]
 fn fresh(line: &[u8], from: usize) -> Stand
     requires { from ≤ length line.now }
@@ -74,7 +74,8 @@ fn fresh(line: &[u8], from: usize) -> Stand
     Stand { at, place }
 }
 
-// Behind a value that ends at a place, and the comma after it; none where neither a comma nor a closing bracket nor the end of the line follows it.
+// Returns where a reader stands after a value that ends at `end`, and the comma after it; `None` if what follows is neither a comma nor a closing bracket nor
+// the end of the line.
 #[inline(always)]
 fn after_value(line: &[u8], end: usize) -> Option<Stand>
     requires { end ≤ length line.now }
@@ -96,7 +97,7 @@ fn after_value(line: &[u8], end: usize) -> Option<Stand>
     None
 }
 
-// The token of the value that begins at a place.
+// Returns the first token of the value at `from`; `None` if there is none.
 #[inline(always)]
 fn value_at<'a>(line: &'a str, from: usize) -> Option<Step<'a>>
     requires { from < length line.now }
@@ -123,7 +124,7 @@ fn value_at<'a>(line: &'a str, from: usize) -> Option<Step<'a>>
     Some(Step { token, stand })
 }
 
-// The key that begins with the quote at a place.
+// Returns the key whose quote is at `from`; `None` if it is no key, or something in it is escaped.
 #[inline(always)]
 fn key_at<'a>(line: &'a str, from: usize) -> Option<KeyStep<'a>>
     requires within { from < length line.now }
@@ -144,7 +145,7 @@ fn key_at<'a>(line: &'a str, from: usize) -> Option<KeyStep<'a>>
     Some(KeyStep { key, stand })
 }
 
-// Behind the bracket at a place, where it closes an array or an object.
+// Returns where a reader stands after the closing bracket at `from`; `None` if it is not there.
 #[inline(always)]
 fn closed(line: &[u8], from: usize, bracket: u8) -> Option<Stand>
     requires { from ≤ length line.now }
@@ -161,7 +162,7 @@ fn closed(line: &[u8], from: usize, bracket: u8) -> Option<Stand>
     after_value(line, from + 1)
 }
 
-/// A clause sees the tokens that are still to come.
+/// A reader of the tokens of a line. Clauses see the tokens that are left.
 #[derive(Drop)]
 pub(crate) struct PlainReader<'a> {
     line: &'a str,
@@ -195,7 +196,7 @@ impl<'a> PlainReader<'a> {
         }
     }
 
-    // Takes a bracket that closes an array or an object, if it is next.
+    // Takes a bracket that closes an array or an object, and returns whether it is next.
     #[inline(always)]
     fn close(&mut self, bracket: u8) -> bool
         ensures closes { result ≡ true → (bracket ≡ 93 → self.old ≡ spec.end_array ∷ self.new) × (bracket ≡ 125 → self.old ≡ spec.end_object ∷ self.new) }
@@ -212,7 +213,7 @@ impl<'a> PlainReader<'a> {
         true
     }
 
-    // The next key, where one is next.
+    // Returns the next key; `None` if no key is next.
     #[inline(always)]
     fn key(&mut self) -> Option<&'a str>
         ensures { IfSome result (λ s. self.old ≡ spec.key s.now ∷ self.new) }
@@ -232,7 +233,7 @@ impl<'a> PlainReader<'a> {
         Some(step.key)
     }
 
-    /// The next token, where a value begins with it; none where none does.
+    /// Returns the next token; `None` if no value begins with it.
     #[inline(always)]
     pub(crate) fn next(&mut self) -> Option<Token<'a>>
         ensures value { IfSome result (λ t. self.old ≡ token_of t ∷ self.new) }
@@ -249,7 +250,7 @@ impl<'a> PlainReader<'a> {
         Some(step.token)
     }
 
-    /// The next key, or none at the brace that closes an object.
+    /// Returns the next key; `None` at the brace that closes an object.
     #[inline(always)]
     pub(crate) fn next_key(&mut self) -> Result<Option<&'a str>, Invalid>
         ensures value { IfOk result (λ k. read_key self.old ≡ Some (option_map (λ s. s.now) k, self.new)) }
@@ -263,7 +264,7 @@ impl<'a> PlainReader<'a> {
         }
     }
 
-    /// Takes the bracket that closes an array, if it is next.
+    /// Takes the bracket that closes an array, and returns whether it is next.
     #[inline(always)]
     pub(crate) fn take_end_array(&mut self) -> bool
         ensures { MatchBool result (after_end_array self.old ≡ Some self.new) (self.new ≡ self.old) }
@@ -271,7 +272,7 @@ impl<'a> PlainReader<'a> {
         self.close(b']')
     }
 
-    /// Whether no token is left.
+    /// Returns whether no token is left.
     pub(crate) fn is_at_end(&self) -> bool
         ensures { result ≡ true → self.now ≡ [] }
     {

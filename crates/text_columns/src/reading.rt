@@ -1,14 +1,13 @@
-// Reads a text into columns: CSV in place, or else by the reader of the kit; JSON Lines line by line.
+// Reads a text into record batches: CSV in place, or else with the reader of the kit; JSON Lines line by line.
 ghost use Rattle.std.specs.Prelude.{◌≡◌, false, IfOk, IfSome};
 ghost use Rattle.arrow_schema.specs.Column.{columns_of};
 ghost use Rattle.arrow_schema.specs.View.{schema_of};
 ghost use Rattle.text_import.specs.Records.{csv_rows_of};
 ghost use Rattle.text_import.specs.Objects.{jsonl_rows_of, names_of, repeats};
-ghost use Rattle.text_columns.specs.inner.Columns.{ReadsColumns};
-ghost use Rattle.text_columns.specs.inner.Batches.{HasRows};
+ghost use Rattle.text_columns.specs.inner.Batches.{HasRows, ReadsBatches};
 ghost use Rattle.text_columns.specs.inner.Kept.{key_list};
 
-use crate::batches::{Batches, no_batches};
+use crate::batches::{Batches, begin_batches};
 use crate::lines::push_lines;
 use crate::members::names_of;
 use crate::plain::push_plain_text;
@@ -19,127 +18,114 @@ use simdutf8::basic::from_utf8;
 use std::alloc::{AllocError, Global};
 use text_import::{TextError, csv_records};
 
-/// The record batches of a text, and what their rows weigh.
+/// The record batches of a text, and the weight of their rows.
 #[derive(Drop)]
-pub(crate) struct Columns {
+pub(crate) struct WeighedBatches {
     pub(crate) batches: Batches,
     pub(crate) weight: u64,
 }
 
-// Reads records in place, once the header was tested. If a dictionary is full, the text is read again, and record batches end where one is full.
+// Reads records in place, once the header was tested; `None` if they can't be read so. If a dictionary is full, the text is read again, and a record batch
+// ends before each row for which a dictionary might have no room.
 fn read_plain(
     alloc: Global,
     schema: &Schema,
     text: &[u8],
     null_text: &[u8],
-) -> Result<Option<Columns>, TextError>
-    ensures { ReadsColumns (schema_of schema.now) (csv_rows_of (schema_of schema.now) null_text.now text.now) result }
+) -> Result<Option<WeighedBatches>, TextError>
+    ensures { ReadsBatches (schema_of schema.now) (csv_rows_of (schema_of schema.now) null_text.now text.now) result }
 {
-    let Some(mut batches) = no_batches(alloc, schema)? else {
-        return Ok(None);
-    };
     drop(csv_records(alloc, schema, text)?);
-    if let Some(weight) = push_plain_text(alloc, schema, &mut batches, false, null_text, text)? {
-        return Ok(Some(Columns { batches, weight }));
+    for ends in [false, true] {
+        let Some(mut batches) = begin_batches(alloc, schema)? else {
+            return Ok(None);
+        };
+        if let Some(weight) = push_plain_text(alloc, schema, &mut batches, ends, null_text, text)? {
+            return Ok(Some(WeighedBatches { batches, weight }));
+        }
+        if batches.has_room() {
+            return Ok(None);
+        }
     }
-    if batches.has_room() {
-        return Ok(None);
-    }
-    drop(batches);
-    let Some(mut batches) = no_batches(alloc, schema)? else {
-        return Ok(None);
-    };
-    match push_plain_text(alloc, schema, &mut batches, true, null_text, text)? {
-        Some(weight) => Ok(Some(Columns { batches, weight })),
-        None => Ok(None),
-    }
+    Ok(None)
 }
 
-// Reads records with the reader of the kit, or reports why the text is refused. The text is read again as above.
+// Reads records with the reader of the kit, or reports why the text is refused; `None` if the rows are too heavy for a table. If a dictionary is full, the text
+// is read again, and a record batch ends before each row for which a dictionary might have no room.
 fn read_records(
     alloc: Global,
     schema: &Schema,
     text: &[u8],
     null_text: &[u8],
-) -> Result<Option<Columns>, TextError>
-    ensures { ReadsColumns (schema_of schema.now) (csv_rows_of (schema_of schema.now) null_text.now text.now) result }
+) -> Result<Option<WeighedBatches>, TextError>
+    ensures { ReadsBatches (schema_of schema.now) (csv_rows_of (schema_of schema.now) null_text.now text.now) result }
 {
-    let Some(mut batches) = no_batches(alloc, schema)? else {
-        return Ok(None);
-    };
-    if let Some(weight) = push_rows(alloc, schema, text, null_text, &mut batches, false)? {
-        return Ok(Some(Columns { batches, weight }));
+    for ends in [false, true] {
+        let Some(mut batches) = begin_batches(alloc, schema)? else {
+            return Ok(None);
+        };
+        if let Some(weight) = push_rows(alloc, schema, text, null_text, &mut batches, ends)? {
+            return Ok(Some(WeighedBatches { batches, weight }));
+        }
+        if batches.has_room() {
+            return Ok(None);
+        }
     }
-    if batches.has_room() {
-        return Ok(None);
-    }
-    drop(batches);
-    let Some(mut batches) = no_batches(alloc, schema)? else {
-        return Ok(None);
-    };
-    match push_rows(alloc, schema, text, null_text, &mut batches, true)? {
-        Some(weight) => Ok(Some(Columns { batches, weight })),
-        None => Ok(None),
-    }
+    Ok(None)
 }
 
-/// The columns of a text, in one record batch unless a dictionary is full; none for a dictionary with a limit below lists or structs, or where the
-/// rows are too heavy for a table.
+/// Reads a text into record batches of at most `MAX_PIECE_ROWS` rows, or into one if a column has parts or a dictionary and none is full; `None` if no columns
+/// can be begun for the schema, or the rows are too heavy for a table.
 ///
 /// # Errors
 ///
 /// The refusal of the schema, of the header, or of the first record that is refused.
-pub(crate) fn read_columns(
+pub(crate) fn read_csv(
     alloc: Global,
     schema: &Schema,
     text: &[u8],
     null_text: &[u8],
-) -> Result<Option<Columns>, TextError>
-    ensures { ReadsColumns (schema_of schema.now) (csv_rows_of (schema_of schema.now) null_text.now text.now) result }
+) -> Result<Option<WeighedBatches>, TextError>
+    ensures { ReadsBatches (schema_of schema.now) (csv_rows_of (schema_of schema.now) null_text.now text.now) result }
 {
     match read_plain(alloc, schema, text, null_text)? {
-        Some(columns) => Ok(Some(columns)),
+        Some(found) => Ok(Some(found)),
         None => read_records(alloc, schema, text, null_text),
     }
 }
 
-// The same of a text that is UTF-8. It is read again as above.
+// Reads lines of UTF-8 by the names of the columns; `None` if one is refused, or the rows are too heavy for a table. If a dictionary is full, the text is read
+// again, and a record batch ends before each row for which a dictionary might have no room.
 fn read_text(
     alloc: Global,
     schema: &Schema,
     names: &IndexSet<Vec<u8>>,
     text: &str,
-) -> Result<Option<Columns>, AllocError>
+) -> Result<Option<WeighedBatches>, AllocError>
     requires { repeats (key_list names.now.keys) ≡ false }
     ensures { names_of (columns_of (schema_of schema.now).columns) ≡ key_list names.now.keys → IfOk result (λ found. IfSome found (λ c.
         HasRows (schema_of schema.now) (jsonl_rows_of (schema_of schema.now) text.now) c.weight c.batches)) }
 {
-    let Some(mut batches) = no_batches(alloc, schema)? else {
-        return Ok(None);
-    };
-    if let Some(weight) = push_lines(alloc, schema, names, text, &mut batches, false)? {
-        return Ok(Some(Columns { batches, weight }));
+    for ends in [false, true] {
+        let Some(mut batches) = begin_batches(alloc, schema)? else {
+            return Ok(None);
+        };
+        if let Some(weight) = push_lines(alloc, schema, names, text, &mut batches, ends)? {
+            return Ok(Some(WeighedBatches { batches, weight }));
+        }
+        if batches.has_room() {
+            return Ok(None);
+        }
     }
-    if batches.has_room() {
-        return Ok(None);
-    }
-    drop(batches);
-    let Some(mut batches) = no_batches(alloc, schema)? else {
-        return Ok(None);
-    };
-    match push_lines(alloc, schema, names, text, &mut batches, true)? {
-        Some(weight) => Ok(Some(Columns { batches, weight })),
-        None => Ok(None),
-    }
+    Ok(None)
 }
 
-/// The columns of a text of JSON Lines, in one record batch unless a dictionary is full; none for a dictionary with a limit below lists or structs, where
-/// two columns have one name, where a line is neither an object nor an array, or where the rows are too heavy for a table.
-pub(crate) fn read_lines(
+/// Reads a text of JSON Lines into record batches, as `read_csv` does; `None` also if two columns have one name, or a line is refused.
+pub(crate) fn read_jsonl(
     alloc: Global,
     schema: &Schema,
     text: &[u8],
-) -> Result<Option<Columns>, AllocError>
+) -> Result<Option<WeighedBatches>, AllocError>
     ensures { IfOk result (λ found. IfSome found (λ c.
         HasRows (schema_of schema.now) (jsonl_rows_of (schema_of schema.now) text.now) c.weight c.batches)) }
 {

@@ -18,39 +18,38 @@ use csv::{ByteRecord, Reader};
 use std::alloc::{AllocError, Global};
 use text_import::{TextError, csv_records, numbered_row, read_next, record_field};
 
-// Appends the cells of as many fields as columns, and answers what their row weighs; none where a field is no cell of its column, or the
-// row is too heavy.
+// Appends the cells of as many fields as columns, and returns the weight of their row; `None` if a field is no cell of its column, or the row is too heavy.
 fn push_fields(
     builders: &mut [ColumnBuilder],
     null_text: &[u8],
     row: &ByteRecord,
 ) -> Result<Option<u64>, AllocError>
     requires { length (fields_of row.now) ≡ length builders.old }
-    ensures few { IfOk result (λ taken. IfSome taken (λ heavy. heavy ≤ MAX_ROW_WEIGHT)) }
-    ensures kept { IfOk result (λ taken. IfSome taken (λ heavy. KeepsFields null_text.now (fields_of row.now) heavy builders.old builders.new)) }
+    ensures few { IfOk result (λ taken. IfSome taken (λ weight. weight ≤ MAX_ROW_WEIGHT)) }
+    ensures kept { IfOk result (λ taken. IfSome taken (λ weight. KeepsFields null_text.now (fields_of row.now) weight builders.old builders.new)) }
 {
     let mut weight = 1;
     for i in 0..builders.len() {
         let builder = &mut builders[i];
-        let Some(heavy) = builder.push_field(null_text, record_field(row, i))? else {
+        let Some(cell_weight) = builder.push_field(null_text, record_field(row, i))? else {
             return Ok(None);
         };
-        if heavy > MAX_ROW_WEIGHT - weight {
+        if cell_weight > MAX_ROW_WEIGHT - weight {
             return Ok(None);
         }
-        weight += heavy;
+        weight += cell_weight;
     }
     Ok(Some(weight))
 }
 
-// The same of a record with any number of fields: none where it is another than of columns.
+// Appends the cells of a record, and returns the weight of its row; `None` if it is no row of the columns.
 fn push_record(
     builders: &mut [ColumnBuilder],
     null_text: &[u8],
     row: &ByteRecord,
 ) -> Result<Option<u64>, AllocError>
-    ensures few { IfOk result (λ taken. IfSome taken (λ heavy. heavy ≤ MAX_ROW_WEIGHT)) }
-    ensures kept { IfOk result (λ taken. IfSome taken (λ heavy. KeepsRecord null_text.now (fields_of row.now) heavy builders.old builders.new)) }
+    ensures few { IfOk result (λ taken. IfSome taken (λ weight. weight ≤ MAX_ROW_WEIGHT)) }
+    ensures kept { IfOk result (λ taken. IfSome taken (λ weight. KeepsRecord null_text.now (fields_of row.now) weight builders.old builders.new)) }
 {
     if row.len() != builders.len() {
         return Ok(None);
@@ -58,22 +57,22 @@ fn push_record(
     push_fields(builders, null_text, row)
 }
 
-// The same, into the columns of the record batch that is being read.
+// Adds a record to the record batch that is being read, and returns the weight of its row; `None` if it is no row of the columns.
 fn push_row(
     batches: &mut Batches,
     null_text: &[u8],
     row: &ByteRecord,
 ) -> Result<Option<u64>, AllocError>
-    ensures few { IfOk result (λ taken. IfSome taken (λ heavy. heavy ≤ MAX_ROW_WEIGHT)) }
-    ensures kept { IfOk result (λ taken. IfSome taken (λ heavy.
-        KeepsRecord null_text.now (fields_of row.now) heavy batches.old.builders.items batches.new.builders.items)) }
-    ensures adds { IfOk result (λ taken. IfSome taken (λ heavy. AddsRow batches.old batches.new)) }
+    ensures few { IfOk result (λ taken. IfSome taken (λ weight. weight ≤ MAX_ROW_WEIGHT)) }
+    ensures kept { IfOk result (λ taken. IfSome taken (λ weight.
+        KeepsRecord null_text.now (fields_of row.now) weight batches.old.builders.items batches.new.builders.items)) }
+    ensures adds { IfOk result (λ taken. IfSome taken (λ weight. AddsRow batches.old batches.new)) }
 {
     batches.count_row()?;
     push_record(batches.builders.as_mut_slice(), null_text, row)
 }
 
-// Why a record is refused; none where it is not.
+// Reports why a record is refused. `None` if it is a row by itself: then a dictionary is full.
 fn refuse(
     alloc: Global,
     schema: &Schema,
@@ -88,8 +87,8 @@ fn refuse(
     Ok(None)
 }
 
-// Appends the rows of the records that a reader has left, of which there are at most `most`; none where they are too heavy for a table.
-// They are read into a record that is borrowed.
+// Appends the rows of the records that a reader has left, of which there are at most `most`, and returns their weight; `None` if a dictionary is full, or they
+// are too heavy for a table. Each record is read into `row`, whose memory is used again.
 fn push_records(
     alloc: Global,
     schema: &Schema,
@@ -112,18 +111,19 @@ fn push_records(
         if !batches.make_room(alloc, schema, ends)? {
             return Ok(None);
         }
-        let Some(heavy) = push_row(batches, null_text, row)? else {
+        let Some(row_weight) = push_row(batches, null_text, row)? else {
             return refuse(alloc, schema, null_text, row, index as u64 + 1);
         };
-        if heavy > MAX_TABLE_WEIGHT - weight {
+        if row_weight > MAX_TABLE_WEIGHT - weight {
             return Ok(None);
         }
-        weight += heavy;
+        weight += row_weight;
     }
     Ok(Some(weight))
 }
 
-/// Appends the rows of a text; none where they are too heavy for a table. `ends` is whether a record batch ends if a dictionary is full.
+/// Appends the rows of a text, and returns their weight; `None` if a dictionary is full, or they are too heavy for a table. `ends` is whether a record batch
+/// ends if a dictionary is full.
 ///
 /// # Errors
 ///

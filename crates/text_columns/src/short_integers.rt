@@ -1,4 +1,4 @@
-// Short integers, read where they are in a text.
+// Short integers, read in place.
 ghost use Rattle.std.specs.Prelude.{◌≡◌, ◌+◌, ◌≤◌, ◌<◌, true, Some, length, drop, slice_index, IfOk, IfSome};
 ghost use Rattle.cells.specs.Typed.{typed_integer};
 ghost use Rattle.text_columns.specs.declared.builder.ColumnBuilder.{Flat};
@@ -19,7 +19,7 @@ pub(crate) struct ShortInteger {
     pub(crate) number: i64,
 }
 
-// Where the digits from a place on end, at the latest at a limit, and the number that they spell. Those before another place were read.
+// Returns where the digits from `from` on end, at the latest at `limit`, and the number that they spell. Those before `at` spell `read`.
 #[inline(never)]
 fn read_on(text: &[u8], from: usize, at: usize, read: u64, limit: usize) -> (usize, u64)
     requires read { AreDigits text.now from at read }
@@ -39,7 +39,8 @@ fn read_on(text: &[u8], from: usize, at: usize, read: u64, limit: usize) -> (usi
     (limit, number)
 }
 
-// The same of at most ten digits, as numbers of 32 bits have. The compiler writes a loop of so many rounds out, without a count or a test for the limit.
+// Returns where the digits from `from` on end, at the latest after ten, which numbers of 32 bits have at most, and the number that they spell. The compiler
+// unrolls a loop of so many rounds, without a count or a test for the limit.
 fn read_ten(text: &[u8], from: usize) -> (usize, u64)
     requires { from + 10 ≤ length text.now }
     ensures digits { AreDigits text.now from result.0 result.1 }
@@ -56,8 +57,8 @@ fn read_ten(text: &[u8], from: usize) -> (usize, u64)
     (from + 10, number)
 }
 
-// Where the last of 18 digits from a place on can end.
-fn last_digit(text: &[u8], from: usize) -> usize
+// Returns where the last of 18 digits from `from` on can end.
+fn digits_limit(text: &[u8], from: usize) -> usize
     requires { from ≤ length text.now }
     ensures many { from + 10 ≤ length text.now → from + 10 ≤ result }
     ensures high { result ≤ length text.now }
@@ -70,7 +71,7 @@ fn last_digit(text: &[u8], from: usize) -> usize
     }
 }
 
-/// Where the digits from a place on end, at the latest behind 18, and the number that they spell.
+/// Returns where the digits from `from` on end, at the latest after 18, and the number that they spell.
 pub(crate) fn read_digits(text: &[u8], from: usize) -> (usize, u64)
     requires { from ≤ length text.now }
     ensures digits { AreDigits text.now from result.0 result.1 }
@@ -83,7 +84,7 @@ pub(crate) fn read_digits(text: &[u8], from: usize) -> (usize, u64)
     if end < from + 10 {
         return (end, number);
     }
-    read_on(text, from, end, number, last_digit(text, from))
+    read_on(text, from, end, number, digits_limit(text, from))
 }
 
 fn has_minus(text: &[u8], at: usize) -> bool
@@ -93,7 +94,7 @@ fn has_minus(text: &[u8], at: usize) -> bool
     at < text.len() && text[at] == b'-'
 }
 
-// Whether a field ends at a place.
+// Returns whether a field ends at `at`.
 fn ends_at(text: &[u8], at: usize) -> bool
     requires { at ≤ length text.now }
     ensures { result ≡ true → at < length text.now → ends_field (slice_index text.now at) ≡ true }
@@ -101,7 +102,7 @@ fn ends_at(text: &[u8], at: usize) -> bool
     at == text.len() || ends_field(text[at])
 }
 
-// The integer without a sign that a field is, where it has at most 18 digits.
+// Returns the integer without a sign at `from`; `None` if the field is none of at most 18 digits.
 fn unsigned(text: &[u8], from: usize) -> Option<ShortInteger>
     requires { from ≤ length text.now }
     ensures { IfSome result (IsShortInteger text.now from) }
@@ -114,7 +115,7 @@ fn unsigned(text: &[u8], from: usize) -> Option<ShortInteger>
     Some(ShortInteger { end, number })
 }
 
-// The same after a minus.
+// Returns the integer with a minus at `from`; `None` if the field is none of at most 18 digits.
 fn negative(text: &[u8], from: usize) -> Option<ShortInteger>
     requires { begins_with 45 (drop from text.now) ≡ true }
     ensures { IfSome result (IsShortInteger text.now from) }
@@ -128,7 +129,7 @@ fn negative(text: &[u8], from: usize) -> Option<ShortInteger>
     Some(ShortInteger { end, number })
 }
 
-// The integer that a field is, where it has at most 18 digits.
+// Returns the integer at `from`; `None` if the field is none of at most 18 digits.
 fn short_integer(text: &[u8], from: usize) -> Option<ShortInteger>
     requires { from ≤ length text.now }
     ensures { IfSome result (IsShortInteger text.now from) }
@@ -141,7 +142,7 @@ fn short_integer(text: &[u8], from: usize) -> Option<ShortInteger>
 }
 
 impl FlatBuilder {
-    // The short integer that a field is, where the column has integers without a dictionary.
+    // Returns the short integer at `from`; `None` if the field is none, or the column has no integers, or has a dictionary.
     fn short_integer(&self, text: &[u8], from: usize) -> Option<ShortInteger>
         requires { from ≤ length text.now }
         ensures { IfSome result (IsShortInteger text.now from) }
@@ -155,7 +156,7 @@ impl FlatBuilder {
         }
     }
 
-    // Appends the cell of a field whose text spells an integer, where it is one, and answers what it weighs.
+    // Appends the cell of a field that spells a short integer, and returns its weight; `None` if the field is no cell of the column.
     fn push_short(
         &mut self,
         null_text: &[u8],
@@ -163,21 +164,21 @@ impl FlatBuilder {
         short: ShortInteger,
     ) -> Result<Option<u64>, AllocError>
         requires { typed_integer text.now ≡ Some short.number }
-        ensures { IfOk result (λ taken. IfSome taken (λ heavy. KeepsField null_text.now text.now heavy (Flat self.old) (Flat self.new))) }
+        ensures { IfOk result (λ taken. IfSome taken (λ weight. KeepsField null_text.now text.now weight (Flat self.old) (Flat self.new))) }
     {
         if self.is_null(null_text, text) {
             return self.push_null();
         }
-        let Some(heavy) = coding::push_short(&mut self.values, &mut self.coding, short)? else {
+        let Some(weight) = coding::push_short(&mut self.values, &mut self.coding, short)? else {
             return Ok(None);
         };
         self.valid.push(true)?;
-        Ok(Some(heavy))
+        Ok(Some(weight))
     }
 }
 
 impl ColumnBuilder {
-    /// The short integer that the field at a place of a text is, where the column has integers without a dictionary.
+    /// Returns the short integer at `from`; `None` if the field is none, or the column has no integers, or has a dictionary.
     pub(crate) fn short_integer(&self, text: &[u8], from: usize) -> Option<ShortInteger>
         requires { from ≤ length text.now }
         ensures { IfSome result (IsShortInteger text.now from) }
@@ -188,7 +189,7 @@ impl ColumnBuilder {
         }
     }
 
-    /// Appends the cell of a field whose text spells an integer, where it is one, and answers what it weighs.
+    /// Appends the cell of a field that spells a short integer, and returns its weight; `None` if the field is no cell of the column.
     pub(crate) fn push_short(
         &mut self,
         null_text: &[u8],
@@ -196,7 +197,7 @@ impl ColumnBuilder {
         short: ShortInteger,
     ) -> Result<Option<u64>, AllocError>
         requires { typed_integer text.now ≡ Some short.number }
-        ensures { IfOk result (λ taken. IfSome taken (λ heavy. KeepsField null_text.now text.now heavy self.old self.new)) }
+        ensures { IfOk result (λ taken. IfSome taken (λ weight. KeepsField null_text.now text.now weight self.old self.new)) }
     {
         match self {
             ColumnBuilder::Flat(flat) => flat.push_short(null_text, text, short),

@@ -1,9 +1,9 @@
-// The buffers of the columns of a schema, before there is a row.
+// The columns of a schema before the first row.
 ghost use Rattle.std.specs.Prelude.{◌≡◌, ◌+◌, true, false, sum_by, None, Some, [], map, IfOk, IfSome};
 ghost use Rattle.arrow_schema.specs.Parts.{index_of_column};
 ghost use Rattle.arrow_schema.specs.View.{column_of, kind_of};
 ghost use Rattle.cells.specs.Dictionary.{has_limit};
-ghost use Rattle.text_columns.specs.inner.Kept.{AreUnlimited, HoldContents, KeepAll, Keeps, StartsBinaries, StartsFixedLists, StartsLists, StartsStructs, StartsTexts, Takes, null_heavy_of};
+ghost use Rattle.text_columns.specs.inner.Kept.{AreUnlimited, HoldContents, KeepAll, Keeps, StartsBinaries, StartsFixedLists, StartsLists, StartsStructs, StartsTexts, Takes, null_weight_of};
 
 use crate::builder::{ColumnBuilder, ListOffsets, Names, Slots};
 use crate::coding::Coding;
@@ -16,8 +16,8 @@ use columns::{OffsetWidth, date_integer, push_offset, timestamp_integer};
 use indexmap::IndexSet;
 use std::alloc::{AllocError, Global};
 
-// The offset 0 is before the first string or binary.
-fn no_contents(alloc: Global, width: OffsetWidth) -> Result<(Vec<u8>, Vec<u8>), AllocError>
+// Returns the offsets and contents of no string or binary: the offset 0 is before the first one.
+fn empty_contents(alloc: Global, width: OffsetWidth) -> Result<(Vec<u8>, Vec<u8>), AllocError>
     ensures { IfOk result (λ started. HoldContents width [] started.0.items started.1.items) }
 {
     let mut offsets = Vec::new(alloc);
@@ -25,22 +25,22 @@ fn no_contents(alloc: Global, width: OffsetWidth) -> Result<(Vec<u8>, Vec<u8>), 
     Ok((offsets, Vec::new(alloc)))
 }
 
-fn no_texts(alloc: Global, width: OffsetWidth) -> Result<ColumnValues, AllocError>
+fn empty_texts(alloc: Global, width: OffsetWidth) -> Result<ColumnValues, AllocError>
     ensures { IfOk result (λ values. StartsTexts width values) }
 {
-    let (offsets, contents) = no_contents(alloc, width)?;
+    let (offsets, contents) = empty_contents(alloc, width)?;
     Ok(ColumnValues::Texts(width, offsets, contents))
 }
 
-fn no_binaries(alloc: Global, width: OffsetWidth) -> Result<ColumnValues, AllocError>
+fn empty_binaries(alloc: Global, width: OffsetWidth) -> Result<ColumnValues, AllocError>
     ensures { IfOk result (λ values. StartsBinaries width values) }
 {
-    let (offsets, contents) = no_contents(alloc, width)?;
+    let (offsets, contents) = empty_contents(alloc, width)?;
     Ok(ColumnValues::Binaries(width, offsets, contents))
 }
 
-// The values of a type of which no cell is written, where it has no parts.
-fn no_values(alloc: Global, data_type: &DataType) -> Result<Option<ColumnValues>, AllocError>
+// Returns the values of a type before the first cell; `None` if the type has parts.
+fn empty_values(alloc: Global, data_type: &DataType) -> Result<Option<ColumnValues>, AllocError>
     ensures { IfOk result (λ started. IfSome started (Takes (kind_of data_type.now) [])) }
 {
     let values = match data_type {
@@ -49,21 +49,21 @@ fn no_values(alloc: Global, data_type: &DataType) -> Result<Option<ColumnValues>
         DataType::Int(integer) => ColumnValues::Integers(*integer, Vec::new(alloc)),
         DataType::Date(unit) => ColumnValues::Integers(date_integer(*unit), Vec::new(alloc)),
         DataType::Timestamp(_, _) => ColumnValues::Integers(timestamp_integer(), Vec::new(alloc)),
-        DataType::Utf8 => no_texts(alloc, OffsetWidth::Four)?,
-        DataType::LargeUtf8 => no_texts(alloc, OffsetWidth::Eight)?,
-        DataType::Binary => no_binaries(alloc, OffsetWidth::Four)?,
-        DataType::LargeBinary => no_binaries(alloc, OffsetWidth::Eight)?,
+        DataType::Utf8 => empty_texts(alloc, OffsetWidth::Four)?,
+        DataType::LargeUtf8 => empty_texts(alloc, OffsetWidth::Eight)?,
+        DataType::Binary => empty_binaries(alloc, OffsetWidth::Four)?,
+        DataType::LargeBinary => empty_binaries(alloc, OffsetWidth::Eight)?,
         DataType::FixedSizeBinary(width) => ColumnValues::FixedBinaries(*width, Vec::new(alloc)),
         _ => return Ok(None),
     };
     Ok(Some(values))
 }
 
-fn no_flat_cells(alloc: Global, field: &Field) -> Result<Option<ColumnBuilder>, AllocError>
+fn empty_flat_column(alloc: Global, field: &Field) -> Result<Option<ColumnBuilder>, AllocError>
     requires { field.now.dictionary ≡ None }
     ensures { IfOk result (λ started. IfSome started (Keeps (column_of field.now) [])) }
 {
-    let Some(values) = no_values(alloc, &field.data_type)? else {
+    let Some(values) = empty_values(alloc, &field.data_type)? else {
         return Ok(None);
     };
     Ok(Some(ColumnBuilder::Flat(FlatBuilder {
@@ -74,7 +74,7 @@ fn no_flat_cells(alloc: Global, field: &Field) -> Result<Option<ColumnBuilder>, 
     })))
 }
 
-fn no_coded_cells(
+fn empty_coded_column(
     alloc: Global,
     field: &Field,
     spec: DictSpec,
@@ -82,10 +82,10 @@ fn no_coded_cells(
     requires { field.now.dictionary ≡ Some spec }
     ensures { IfOk result (λ started. IfSome started (Keeps (column_of field.now) [])) }
 {
-    let Some(values) = no_values(alloc, &field.data_type)? else {
+    let Some(values) = empty_values(alloc, &field.data_type)? else {
         return Ok(None);
     };
-    let Some(one) = no_values(alloc, &field.data_type)? else {
+    let Some(one) = empty_values(alloc, &field.data_type)? else {
         return Ok(None);
     };
     let coding = Coding {
@@ -102,20 +102,20 @@ fn no_coded_cells(
     })))
 }
 
-// The buffers of a column below another, where no row fills its dictionary.
+// Returns a column of items without cells; `None` if its dictionary has a limit, or `empty_column` returns none.
 #[cycle(starting)]
-fn no_items(alloc: Global, item: &Field) -> Result<Option<ColumnBuilder>, AllocError>
+fn empty_items(alloc: Global, item: &Field) -> Result<Option<ColumnBuilder>, AllocError>
     ensures { IfOk result (λ started. IfSome started (λ items.
         (has_limit (index_of_column (column_of item.now)) ≡ false) × Keeps (column_of item.now) [] items)) }
 {
     if has_limit(item.dictionary) {
         return Ok(None);
     }
-    no_cells(alloc, item)
+    empty_column(alloc, item)
 }
 
 #[cycle(starting)]
-fn no_lists(
+fn empty_lists(
     alloc: Global,
     nullable: bool,
     width: OffsetWidth,
@@ -123,7 +123,7 @@ fn no_lists(
 ) -> Result<Option<ColumnBuilder>, AllocError>
     ensures { IfOk result (λ started. IfSome started (StartsLists nullable width (column_of item.now))) }
 {
-    let Some(items) = no_items(alloc, item)? else {
+    let Some(items) = empty_items(alloc, item)? else {
         return Ok(None);
     };
     let slots = Slots {
@@ -142,7 +142,7 @@ fn no_lists(
 }
 
 #[cycle(starting)]
-fn no_fixed_lists(
+fn empty_fixed_lists(
     alloc: Global,
     nullable: bool,
     size: u32,
@@ -150,7 +150,7 @@ fn no_fixed_lists(
 ) -> Result<Option<ColumnBuilder>, AllocError>
     ensures { IfOk result (λ started. IfSome started (StartsFixedLists nullable size (column_of item.now))) }
 {
-    let Some(items) = no_items(alloc, item)? else {
+    let Some(items) = empty_items(alloc, item)? else {
         return Ok(None);
     };
     let Some(below) = items.null_weight().checked_mul(size as u64) else {
@@ -167,8 +167,8 @@ fn no_fixed_lists(
     Ok(Some(ColumnBuilder::FixedList(slots, size, Box::new(alloc, items)?)))
 }
 
-// Whether a dictionary of a field has a limit.
-fn has_limits(fields: &[Field]) -> bool
+// Returns whether one of these fields itself has a dictionary with a limit.
+fn have_own_limit(fields: &[Field]) -> bool
     ensures { result ≡ false → AreUnlimited (map column_of fields.now) }
 {
     for field in fields {
@@ -179,9 +179,9 @@ fn has_limits(fields: &[Field]) -> bool
     false
 }
 
-// What a null weighs in each column, and one; none where that is no number of 64 bits.
+// Returns the weight of a struct with a null in each column; `None` if that is no number of 64 bits.
 fn nulls_weight(builders: &[ColumnBuilder]) -> Option<u64>
-    ensures { IfSome result (λ weight. weight ≡ 1 + sum_by null_heavy_of builders.now) }
+    ensures { IfSome result (λ weight. weight ≡ 1 + sum_by null_weight_of builders.now) }
 {
     let mut weight: u64 = 1;
     for builder in builders {
@@ -190,29 +190,29 @@ fn nulls_weight(builders: &[ColumnBuilder]) -> Option<u64>
     Some(weight)
 }
 
-// The names of n fields, where there was no object yet.
-fn no_object(alloc: Global, names: IndexSet<Vec<u8>>, count: usize) -> Result<Names, AllocError>
+// Returns the names of `count` fields, before the first object.
+fn struct_names(alloc: Global, names: IndexSet<Vec<u8>>, count: usize) -> Result<Names, AllocError>
     ensures { IfOk result (λ own. own.names ≡ names) }
 {
     Ok(Names {
         names,
         order: vec![in alloc; 0; count]?,
-        heavies: vec![in alloc; None; count]?,
+        weights: vec![in alloc; None; count]?,
     })
 }
 
 #[cycle(starting)]
-fn no_structs(
+fn empty_structs(
     alloc: Global,
     nullable: bool,
     fields: &[Field],
 ) -> Result<Option<ColumnBuilder>, AllocError>
     ensures { IfOk result (λ started. IfSome started (StartsStructs nullable (map column_of fields.now))) }
 {
-    if has_limits(fields) {
+    if have_own_limit(fields) {
         return Ok(None);
     }
-    let Some(builders) = no_rows(alloc, fields)? else {
+    let Some(builders) = empty_columns(alloc, fields)? else {
         return Ok(None);
     };
     let Some(names) = names_of(alloc, fields)? else {
@@ -226,37 +226,43 @@ fn no_structs(
         valid: Vec::new(alloc),
         null_weight,
     };
-    let own = no_object(alloc, names, builders.len())?;
+    let own = struct_names(alloc, names, builders.len())?;
     Ok(Some(ColumnBuilder::Struct(slots, own, builders)))
 }
 
 #[cycle(starting)]
-fn no_plain_cells(alloc: Global, field: &Field) -> Result<Option<ColumnBuilder>, AllocError>
+fn empty_plain_column(alloc: Global, field: &Field) -> Result<Option<ColumnBuilder>, AllocError>
     requires { field.now.dictionary ≡ None }
     ensures { IfOk result (λ started. IfSome started (Keeps (column_of field.now) [])) }
 {
     match &field.data_type {
-        DataType::List(item) => no_lists(alloc, field.nullable, OffsetWidth::Four, item),
-        DataType::LargeList(item) => no_lists(alloc, field.nullable, OffsetWidth::Eight, item),
-        DataType::FixedSizeList(size, item) => no_fixed_lists(alloc, field.nullable, *size, item),
-        DataType::Struct(fields) => no_structs(alloc, field.nullable, fields),
-        _ => no_flat_cells(alloc, field),
+        DataType::List(item) => empty_lists(alloc, field.nullable, OffsetWidth::Four, item),
+        DataType::LargeList(item) => empty_lists(alloc, field.nullable, OffsetWidth::Eight, item),
+        DataType::FixedSizeList(size, item) => empty_fixed_lists(
+            alloc,
+            field.nullable,
+            *size,
+            item,
+        ),
+        DataType::Struct(fields) => empty_structs(alloc, field.nullable, fields),
+        _ => empty_flat_column(alloc, field),
     }
 }
 
 #[cycle(starting)]
-fn no_cells(alloc: Global, field: &Field) -> Result<Option<ColumnBuilder>, AllocError>
+fn empty_column(alloc: Global, field: &Field) -> Result<Option<ColumnBuilder>, AllocError>
     ensures { IfOk result (λ started. IfSome started (Keeps (column_of field.now) [])) }
 {
     match field.dictionary {
-        None => no_plain_cells(alloc, field),
-        Some(spec) => no_coded_cells(alloc, field, spec),
+        None => empty_plain_column(alloc, field),
+        Some(spec) => empty_coded_column(alloc, field, spec),
     }
 }
 
-/// The buffers of columns that have no cell yet, where no dictionary below lists or structs has a limit, and no struct has two fields of one name.
+/// Returns columns without cells; `None` if a dictionary below a list or a struct has a limit, if a struct has two fields of one name, or if the weight of a
+/// null is no number of 64 bits.
 #[cycle(starting)]
-pub(crate) fn no_rows(
+pub(crate) fn empty_columns(
     alloc: Global,
     fields: &[Field],
 ) -> Result<Option<Vec<ColumnBuilder>>, AllocError>
@@ -264,7 +270,7 @@ pub(crate) fn no_rows(
 {
     let mut builders = Vec::with_capacity(alloc, fields.len())?;
     for field in fields {
-        let Some(builder) = no_cells(alloc, field)? else {
+        let Some(builder) = empty_column(alloc, field)? else {
             return Ok(None);
         };
         builders.push_reserved(builder);

@@ -14,7 +14,7 @@ ghost use Rattle.values.specs.TableView.{table_of, is_in_parts};
 ghost use Rattle.text_columns.specs.inner.Tables.{HasTable, MakesRows};
 
 use crate::batches::{Batches, end_batches};
-use crate::reading::{Columns, read_columns, read_lines};
+use crate::reading::{WeighedBatches, read_csv, read_jsonl};
 use arrow_schema::Schema;
 use std::alloc::{AllocError, Global};
 use text_import::{TextError, rows_of_texts_are_rows};
@@ -52,10 +52,10 @@ pub fn csv_table(
     ensures refused { IfErr result (λ e. Reports (refused_by e) (csv_rows_of (schema_of schema.now) null_text.now text.now)) }
 {
     rows_of_texts_are_rows();
-    let Some(columns) = read_columns(alloc, schema, text, null_text.as_bytes())? else {
+    let Some(read) = read_csv(alloc, schema, text, null_text.as_bytes())? else {
         return Ok(None);
     };
-    let Columns { batches, weight } = columns;
+    let WeighedBatches { batches, weight } = read;
     let table = build_table(alloc, schema, batches)?;
     Ok(Some(WeighedTable { table, weight }))
 }
@@ -79,10 +79,10 @@ pub fn jsonl_table(
     ensures in_parts { IfOk result (λ found. IfSome found (λ w. is_in_parts w.table ≡ true)) }
 {
     rows_of_texts_are_rows();
-    let Some(columns) = read_lines(alloc, schema, text)? else {
+    let Some(read) = read_jsonl(alloc, schema, text)? else {
         return Ok(None);
     };
-    let Columns { batches, weight } = columns;
+    let WeighedBatches { batches, weight } = read;
     let table = build_table(alloc, schema, batches)?;
     Ok(Some(WeighedTable { table, weight }))
 }

@@ -1,4 +1,4 @@
-// Texts: where they end, and their bytes.
+// Strings and binaries: where they end, and their bytes.
 ghost use Rattle.std.specs.Prelude.{◌≡◌, ◌+◌, ◌++◌, true, length, IfOk, IfSome, OnOk};
 ghost use Rattle.std.specs.Str.{is_utf8};
 ghost use Rattle.byteorder.specs.Endian.{little_bytes};
@@ -24,7 +24,7 @@ pub(crate) fn extend(
     push_offset(offsets, width, contents.len() as u64)
 }
 
-/// Appends a string that is UTF-8 and where it ends, and answers what it weighs.
+/// Appends a string and where it ends, and returns its weight; `None` if it is not UTF-8.
 #[inline(always)]
 pub(crate) fn push_contents(
     offsets: &mut Vec<u8>,
@@ -32,7 +32,7 @@ pub(crate) fn push_contents(
     width: OffsetWidth,
     text: &[u8],
 ) -> Result<Option<u64>, AllocError>
-    ensures { IfOk result (λ taken. IfSome taken (λ heavy. (heavy ≡ 1 + length text.now) × (is_utf8 text.now ≡ true)
+    ensures { IfOk result (λ taken. IfSome taken (λ weight. (weight ≡ 1 + length text.now) × (is_utf8 text.now ≡ true)
         × (contents.new.items ≡ contents.old.items ++ text.now)
         × (offsets.new.items ≡ offsets.old.items ++ little_bytes (width_of width) (length contents.old.items + length text.now)))) }
 {
@@ -43,7 +43,7 @@ pub(crate) fn push_contents(
     Ok(Some(1 + text.len() as u64))
 }
 
-/// The same of a text that is known to be UTF-8.
+/// Appends a string that is known to be UTF-8 and where it ends, and returns its weight.
 #[inline(always)]
 pub(crate) fn push_utf8(
     offsets: &mut Vec<u8>,
@@ -52,7 +52,7 @@ pub(crate) fn push_utf8(
     text: &[u8],
 ) -> Result<Option<u64>, AllocError>
     requires { is_utf8 text.now ≡ true }
-    ensures { IfOk result (λ taken. IfSome taken (λ heavy. (heavy ≡ 1 + length text.now) × (is_utf8 text.now ≡ true)
+    ensures { IfOk result (λ taken. IfSome taken (λ weight. (weight ≡ 1 + length text.now) × (is_utf8 text.now ≡ true)
         × (contents.new.items ≡ contents.old.items ++ text.now)
         × (offsets.new.items ≡ offsets.old.items ++ little_bytes (width_of width) (length contents.old.items + length text.now)))) }
 {

@@ -20,7 +20,7 @@ use fast_float::Numeral;
 use json::Token;
 use std::alloc::AllocError;
 
-// The integer that digits without a sign are; none where they are none of 64 bits.
+// Returns the integer that digits without a sign spell; `None` if no 64 bits hold it.
 fn unsigned(numeral: &Numeral<'_>) -> Option<i128>
     ensures { IfSome result (λ n. integer_after false numeral.now ≡ Some n) }
 {
@@ -30,7 +30,7 @@ fn unsigned(numeral: &Numeral<'_>) -> Option<i128>
     }
 }
 
-// The same after a sign; none for `-0` too, which is a float.
+// Returns the integer that digits after a minus spell; `None` if no 64 bits hold it, or for `-0`, which is a float.
 fn negative(numeral: &Numeral<'_>) -> Option<i128>
     ensures { IfSome result (λ n. integer_after true numeral.now ≡ Some n) }
 {
@@ -50,7 +50,7 @@ fn has_minus(bytes: &[u8]) -> bool
     !bytes.is_empty() && bytes[0] == b'-'
 }
 
-// The integer that a number of JSON is.
+// Returns the integer that a number of JSON is; `None` if it is none of 64 bits.
 fn integer_of(text: &str) -> Option<i128>
     ensures { IfSome result (λ n. integer_in text.now ≡ Some n) }
 {
@@ -62,7 +62,7 @@ fn integer_of(text: &str) -> Option<i128>
     }
 }
 
-// The number that at most 18 digits from a place on are, if nothing comes after them.
+// Returns the number that the rest of a text from `from` on spells; `None` if that is anything but 1 to 18 digits.
 fn digits_from(text: &[u8], from: usize) -> Option<u64>
     ensures { IfSome result (λ number. (from < length text.now) × (number < 2 ^ 63) × AreDigits text.now from (length text.now) number) }
 {
@@ -79,7 +79,7 @@ fn digits_from(text: &[u8], from: usize) -> Option<u64>
     Some(number)
 }
 
-// The integer of at most 18 digits without a sign that a number is.
+// Returns the integer that a number without a sign is; `None` if it is none of at most 18 digits.
 fn short_unsigned(text: &[u8]) -> Option<i64>
     ensures { IfSome result (λ n. integer_in text.now ≡ Some n) }
 {
@@ -88,7 +88,7 @@ fn short_unsigned(text: &[u8]) -> Option<i64>
     Some(number)
 }
 
-// The same after a minus; none for `-0` too.
+// Returns the integer that a number with a minus is; `None` if it is none of at most 18 digits, or is `-0`.
 fn short_negative(text: &[u8]) -> Option<i64>
     requires { slice_index text.now 0 ≡ 45 }
     ensures { IfSome result (λ n. integer_in text.now ≡ Some n) }
@@ -111,7 +111,7 @@ fn short_integer(text: &[u8]) -> Option<i64>
     }
 }
 
-// Appends the bytes of the integer that a number of any length is, where the type holds it.
+// Appends the bytes of the integer that a number of any length is. Returns false if the type does not hold it.
 fn push_any_integer(
     values: &mut Vec<u8>,
     integer: IntegerType,
@@ -125,7 +125,7 @@ fn push_any_integer(
     }
 }
 
-// The same, where short digits are read once.
+// Appends the bytes of the integer that a number is. Returns false if the type does not hold it. At most 18 digits are read once.
 fn push_integer_of(
     values: &mut Vec<u8>,
     integer: IntegerType,
@@ -139,13 +139,13 @@ fn push_integer_of(
     }
 }
 
-// Appends the integer that a token is, where the type holds it, and answers what it weighs.
+// Appends the integer that a token is, and returns its weight; `None` if it is none, or the type does not hold it.
 fn push_integer(
     values: &mut Vec<u8>,
     integer: IntegerType,
     token: Token<'_>,
 ) -> Result<Option<u64>, AllocError>
-    ensures { IfOk result (λ taken. IfSome taken (λ heavy. (heavy ≡ 1)
+    ensures { IfOk result (λ taken. IfSome taken (λ weight. (weight ≡ 1)
         × AppendsNumber integer (token_of token.entry) values.old.items values.new.items)) }
 {
     let Token::Number(text) = token else {
@@ -158,9 +158,9 @@ fn push_integer(
     }
 }
 
-// Appends the boolean that a token is, and answers what it weighs.
+// Appends the boolean that a token is, and returns its weight; `None` if it is none.
 fn push_boolean(bits: &mut Vec<bool>, token: Token<'_>) -> Result<Option<u64>, AllocError>
-    ensures { IfOk result (λ taken. IfSome taken (λ heavy. (heavy ≡ 1) × AppendsBit (token_of token.entry) bits.old.items bits.new.items)) }
+    ensures { IfOk result (λ taken. IfSome taken (λ weight. (weight ≡ 1) × AppendsBit (token_of token.entry) bits.old.items bits.new.items)) }
 {
     let Token::Bool(bit) = token else {
         return Ok(None);
@@ -169,15 +169,15 @@ fn push_boolean(bits: &mut Vec<bool>, token: Token<'_>) -> Result<Option<u64>, A
     Ok(Some(1))
 }
 
-// Appends the string that a token is and where it ends, and answers what it weighs.
+// Appends the string that a token is and where it ends, and returns its weight; `None` if it is none.
 fn push_text(
     offsets: &mut Vec<u8>,
     contents: &mut Vec<u8>,
     width: OffsetWidth,
     token: Token<'_>,
 ) -> Result<Option<u64>, AllocError>
-    ensures { IfOk result (λ taken. IfSome taken (λ heavy.
-        AppendsString width (token_of token.entry) heavy offsets.old.items contents.old.items offsets.new.items contents.new.items)) }
+    ensures { IfOk result (λ taken. IfSome taken (λ weight.
+        AppendsString width (token_of token.entry) weight offsets.old.items contents.old.items offsets.new.items contents.new.items)) }
 {
     let Token::String(text) = token else {
         return Ok(None);
@@ -185,15 +185,15 @@ fn push_text(
     push_utf8(offsets, contents, width, text.as_bytes())
 }
 
-// Appends the binary that the digits of a token spell and where it ends, and answers what it weighs.
+// Appends the binary that the digits of a token spell and where it ends, and returns its weight; `None` if they spell none.
 fn push_binary(
     offsets: &mut Vec<u8>,
     contents: &mut Vec<u8>,
     width: OffsetWidth,
     token: Token<'_>,
 ) -> Result<Option<u64>, AllocError>
-    ensures { IfOk result (λ taken. IfSome taken (λ heavy.
-        AppendsBinary width (token_of token.entry) heavy offsets.old.items contents.old.items offsets.new.items contents.new.items)) }
+    ensures { IfOk result (λ taken. IfSome taken (λ weight.
+        AppendsBinary width (token_of token.entry) weight offsets.old.items contents.old.items offsets.new.items contents.new.items)) }
 {
     let Token::String(digits) = token else {
         return Ok(None);
@@ -201,13 +201,13 @@ fn push_binary(
     push_bytes(offsets, contents, width, digits.as_bytes())
 }
 
-// The same of a binary of n bytes.
+// Appends the binary of `width` bytes that the digits of a token spell, and returns its weight; `None` if they spell none.
 fn push_fixed_binary(
     values: &mut Vec<u8>,
     width: u32,
     token: Token<'_>,
 ) -> Result<Option<u64>, AllocError>
-    ensures { IfOk result (λ taken. IfSome taken (λ heavy. AppendsFixedBinary width (token_of token.entry) heavy values.old.items values.new.items)) }
+    ensures { IfOk result (λ taken. IfSome taken (λ weight. AppendsFixedBinary width (token_of token.entry) weight values.old.items values.new.items)) }
 {
     let Token::String(digits) = token else {
         return Ok(None);
@@ -216,9 +216,9 @@ fn push_fixed_binary(
 }
 
 impl ColumnValues {
-    /// Appends the cell that a token is, where it is one of the type and no null, and answers what it weighs.
+    /// Appends the cell that a token is, and returns its weight; `None` if it is none of the type, or a null.
     pub(crate) fn push_token(&mut self, token: Token<'_>) -> Result<Option<u64>, AllocError>
-        ensures { IfOk result (λ taken. IfSome taken (λ heavy. TakesToken (token_of token.entry) heavy self.old self.new)) }
+        ensures { IfOk result (λ taken. IfSome taken (λ weight. TakesToken (token_of token.entry) weight self.old self.new)) }
     {
         match self {
             ColumnValues::Nulls => Ok(None),
@@ -236,14 +236,15 @@ impl ColumnValues {
 }
 
 impl Coding {
-    // Appends the index of the string that a token is, among entries that are strings, and answers what it weighs. It is looked up where it is.
+    // Appends the index of the string that a token is, and returns its weight; `None` if it is none, or no index can name it. The string is looked up in place,
+    // without a copy.
     fn push_string(
         &mut self,
         entries: &mut ColumnValues,
         token: Token<'_>,
     ) -> Result<Option<u64>, AllocError>
         requires { has_texts entries.old ≡ true }
-        ensures { IfOk result (λ taken. IfSome taken (λ heavy. TakesCodedToken (token_of token.entry) heavy self.old entries.old self.new entries.new)) }
+        ensures { IfOk result (λ taken. IfSome taken (λ weight. TakesCodedToken (token_of token.entry) weight self.old entries.old self.new entries.new)) }
     {
         let Token::String(text) = token else {
             return Ok(None);
@@ -251,37 +252,37 @@ impl Coding {
         self.push_utf8(entries, text.as_bytes())
     }
 
-    // Appends the index of the value that a token is, where it is one of the type and no null, and answers what it weighs.
+    // Appends the index of the value that a token is, and returns its weight; `None` if it is none of the type, or a null, or no index can name it.
     fn push_token(
         &mut self,
         entries: &mut ColumnValues,
         token: Token<'_>,
     ) -> Result<Option<u64>, AllocError>
-        ensures { IfOk result (λ taken. IfSome taken (λ heavy. TakesCodedToken (token_of token.entry) heavy self.old entries.old self.new entries.new)) }
+        ensures { IfOk result (λ taken. IfSome taken (λ weight. TakesCodedToken (token_of token.entry) weight self.old entries.old self.new entries.new)) }
     {
         if entries.has_texts() {
             return self.push_string(entries, token);
         }
         self.one.clear()?;
-        let Some(heavy) = self.one.push_token(token)? else {
+        let Some(weight) = self.one.push_token(token)? else {
             return Ok(None);
         };
         if self.code(entries)? {
-            Ok(Some(heavy))
+            Ok(Some(weight))
         } else {
             Ok(None)
         }
     }
 }
 
-// Appends the cell that a token is, or its index, where it is one of the type and no null, and answers what it weighs.
+// Appends the cell that a token is, or its index, and returns its weight; `None` if it is none of the type, or a null, or no index can name it.
 fn push_token(
     values: &mut ColumnValues,
     coding: &mut Option<Coding>,
     token: Token<'_>,
 ) -> Result<Option<u64>, AllocError>
-    ensures { IfOk result (λ taken. IfSome taken (λ heavy.
-        TakesCellToken (token_of token.entry) heavy values.old coding.old values.new coding.new)) }
+    ensures { IfOk result (λ taken. IfSome taken (λ weight.
+        TakesCellToken (token_of token.entry) weight values.old coding.old values.new coding.new)) }
 {
     match coding {
         None => values.push_token(token),
@@ -292,18 +293,18 @@ fn push_token(
 impl FlatBuilder {
     ghost use Rattle.text_columns.specs.inner.Lines.{KeepsToken};
 
-    // Appends the cell of a token that is no null.
+    // Appends the cell of a token that is no null, and returns its weight; `None` if it is no cell of the column.
     fn push_there(&mut self, token: Token<'_>) -> Result<Option<u64>, AllocError>
-        ensures { IfOk result (λ taken. IfSome taken (λ heavy. KeepsToken (token_of token.entry) heavy (Flat self.old) (Flat self.new))) }
+        ensures { IfOk result (λ taken. IfSome taken (λ weight. KeepsToken (token_of token.entry) weight (Flat self.old) (Flat self.new))) }
     {
         let taken = push_token(&mut self.values, &mut self.coding, token)?;
         self.valid.push(true)?;
         Ok(taken)
     }
 
-    /// Appends the cell that a token is, where it is one of the column, and answers what it weighs.
+    /// Appends the cell that a token is, and returns its weight; `None` if it is no cell of the column.
     pub(crate) fn push_token(&mut self, token: Token<'_>) -> Result<Option<u64>, AllocError>
-        ensures { IfOk result (λ taken. IfSome taken (λ heavy. KeepsToken (token_of token.entry) heavy (Flat self.old) (Flat self.new))) }
+        ensures { IfOk result (λ taken. IfSome taken (λ weight. KeepsToken (token_of token.entry) weight (Flat self.old) (Flat self.new))) }
     {
         match token {
             Token::Null => self.push_null(),

@@ -29,7 +29,6 @@ pub use flat::{spelled_boolean, spelled_integer};
 pub use form::{TextForm, rows_of_text};
 pub use jsonl::{is_blank, jsonl_rows, split_lines};
 pub use laws::{refused_parts_are_causes, rows_of_texts_are_rows};
-pub use objects::distinct_names;
 pub use part::{LinePart, RefusedPart, refused_part};
 pub use records::{csv_records, csv_rows, numbered_row, read_next, record_field};
 pub use refusal::{Refusal, Refused, TextError};

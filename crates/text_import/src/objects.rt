@@ -1,5 +1,5 @@
 // Reads cells and rows from JSON values.
-ghost use Rattle.std.specs.Prelude.{◌≡◌, [], ◌∷◌, ◌++◌, true, false, not, map, length, option_map, IfOk, IfSome, None, Result};
+ghost use Rattle.std.specs.Prelude.{◌≡◌, [], ◌∷◌, ◌++◌, true, false, not, map, length, option_map, IfOk, Result};
 ghost use Rattle.serde_json.specs.Find.{get_member};
 ghost use Rattle.serde_json.specs.View.{view, items_view, members_view};
 ghost use Rattle.arrow_schema.specs.Column.{columns_of};
@@ -87,23 +87,6 @@ fn add_names<'a>(names: &mut IndexSet<&'a str>, fields: &'a [Field]) -> Result<b
         }
     }
     Ok(true)
-}
-
-/// Returns the names of columns, or `None` exactly if two columns have the same name.
-///
-/// # Errors
-/// `AllocError` if memory was refused.
-pub fn distinct_names(alloc: Global, fields: &[Field]) -> Result<Option<IndexSet<&str>>, AllocError>
-    ensures found { IfOk result (λ found. IfSome found (λ names. (text_list names.keys ≡ names_of (columns_of (map column_of fields.now)))
-        × (repeats (text_list names.keys) ≡ false))) }
-    ensures none { IfOk result (λ found. found ≡ None → repeats (names_of (columns_of (map column_of fields.now))) ≡ true) }
-{
-    let mut names = IndexSet::with_capacity(alloc, fields.len())?;
-    if add_names(&mut names, fields)? {
-        Ok(Some(names))
-    } else {
-        Ok(None)
-    }
 }
 
 fn has_unknown(names: &IndexSet<&str>, members: &Map<String, Json>) -> bool

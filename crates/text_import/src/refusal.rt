@@ -6,6 +6,7 @@ ghost use Rattle.text_import.specs.RefusalText.{refusal_text};
 
 use std::alloc::{AllocError, AllocFailed};
 use std::fmt;
+use thiserror::Error;
 
 /// What is wrong with a text.
 #[derive(Clone, Copy, Debug, PartialEq, Eq)]
@@ -54,9 +55,11 @@ pub struct Refused {
 }
 
 /// Why a text was not read: it was refused, or memory was refused.
-#[derive(Clone, Copy)]
+#[derive(Clone, Copy, Debug, Error)]
 pub enum TextError {
+    #[error(transparent)]
     Refused(Refused),
+    #[error("OutOfMemory")]
     OutOfMemory,
 }
 

@@ -20,7 +20,7 @@ are_below (b ∷ bits) [] = false
 are_below (true ∷ bits) (o ∷ others) = o && are_below bits others
 are_below (false ∷ bits) (o ∷ others) = are_below bits others
 
--- ---- masks that are written as a validity bitmap: all bits are set where it has no byte
+-- ---- masks that are written as a validity bitmap: all bits are set if it has no byte
 
 -- and as those of a type
 abbrev pub masked_kind : Kind → (mask : List ℕ) → List SlotRun → List Cell

@@ -42,7 +42,7 @@ has_sound_part j c (Nulls n) = true
 abbrev pub IsPartOf : ℕ → (run part : SlotRun) → Type 0
 IsPartOf j run part = (c : Column) → has_sound_part j c run ≡ true → (run_cells c part ≡ part_cells_behind j c run) × (is_run_sound c part ≡ true)
 
--- the runs of the field at a place, where it is this column, and whatever its type
+-- the runs of the field at a place: if it is this column, and whatever its type
 abbrev pub IsPartIn : Column → ℕ → (structs parts : List SlotRun) → Type 0
 IsPartIn c j structs parts = list_all (has_sound_part j c) structs ≡ true → (runs_cells c parts ≡ flat_map (part_cells_behind j c) structs) × (are_runs_sound c parts ≡ true)
 

@@ -65,7 +65,7 @@ fixed_value (timestamps unit timezone) = integer_bytes 8
 fixed_value (fixed_binaries width) = fixed_bytes width
 fixed_value _ = λ c. []
 
--- values of n bytes each, with zeros where a bit is not set
+-- values of `width` bytes each, with zeros for those whose bit is not set
 abbrev pub cleared : (width : ℕ) → List Bool → List ℕ → List ℕ
 cleared width [] values = []
 cleared width (b ∷ bits) values = (if b then take width values else replicate width 0) ++ cleared width bits (drop width values)
@@ -87,7 +87,7 @@ slot_sizes width a from len = map (λ i. number_at width (offsets_in a) (i + 1) 
 abbrev pub cell_sizes : List Cell → List ℕ
 cell_sizes cells = map (λ c. length (contents_of c)) cells
 
--- the offsets at which n bytes begin, where the first begin at one place and what follows them at another
+-- offsets were added: those at which spans of these sizes begin, the first at `start`, and what follows them at `next`
 abbrev pub AreOffsetsAdded : (width : ℕ) → (old new : List ℕ) → (start next : ℕ) → (sizes : List ℕ) → Type 0
 AreOffsetsAdded width old new start next sizes =
     (rest : List ℕ) → new ++ flat_map (little_bytes width) (sums_from next rest) ≡ old ++ flat_map (little_bytes width) (sums_from start (sizes ++ rest))

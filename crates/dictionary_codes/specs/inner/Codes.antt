@@ -19,7 +19,7 @@ use Rattle.columns.specs.declared.view.ArrayView.{ArrayView}
 abbrev pub code_in : List Cell → Cell → Option ℕ
 code_in entries c = position (is_entry c) entries
 
--- the index of n bytes that stands for it
+-- the index of `size` bytes that stands for it
 abbrev pub sized_code : (size : ℕ) → Option ℕ → List ℕ
 sized_code size code = little_bytes size (place_or_zero code)
 
@@ -34,14 +34,14 @@ pub record IsCodedSlot (field : Field) (slots : CodedSlots) (i : ℕ) : Type 0 w
   pub within : i < slots_in (view_array slots.view)
   pub coded : is_coded (coded_cell field slots i) ≡ true
 
--- each slot from one up to another has
+-- each slot from `from` up to `to` has one
 pub record AreCodedSlots (field : Field) (slots : CodedSlots) (from to : ℕ) : Type 0 where
   pub spec : field.dictionary ≡ Some slots.spec
   pub sound : is_sound (column_of field) (view_array slots.view) ≡ true
   pub within : to ≤ slots_in (view_array slots.view)
   pub coded : list_all is_coded (cells_from (coded_cell field slots) from (to - from)) ≡ true
 
--- there is room at a place for an index of n bytes, and for whether it stands for an entry
+-- there is room at a place for an index of `size` bytes, and for whether it stands for an entry
 pub record HasPlace (size place : ℕ) (indices : List ℕ) (valid : List Bool) : Type 0 where
   pub small : size ≤ 8
   pub room : size * place + size ≤ length indices
@@ -52,12 +52,12 @@ pub record IsCoded (old_entries new_entries : List Cell) (codes : List (Option �
   pub entries : new_entries ≡ with_entries old_entries cells
   pub places : (more : List Cell) → codes ≡ map (code_in (with_entries new_entries more)) cells
 
--- the index of n bytes of a cell, and whether it has one, over what stood at a place
+-- the index of `size` bytes of a cell, and whether it has one, over what was at a place
 pub record IsPut (size place : ℕ) (entries : List Cell) (c : Cell) (old_bytes new_bytes : List ℕ) (old_bits new_bits : List Bool) : Type 0 where
   pub index : new_bytes ≡ take (size * place) old_bytes ++ (sized_code size (code_in entries c) ++ drop (size * place + size) old_bytes)
   pub valid : new_bits ≡ set old_bits place (is_some (code_in entries c))
 
--- the index of n bytes of each of some cells, and whether it has one
+-- the index of `size` bytes of each of some cells, and whether it has one
 pub record IsWritten (size : ℕ) (old_entries new_entries : List Cell) (bytes : List ℕ) (bits : List Bool) (cells : List Cell) : Type 0 where
   pub codes : List (Option ℕ)
   pub coded : IsCoded old_entries new_entries codes cells
@@ -69,7 +69,7 @@ pub record IsUnderway (start : List Cell) (all : List Cell) (es : List Cell) (ks
   pub entries : with_entries es left ≡ with_entries start all
   pub codes : (more : List Cell) → ks ++ map (code_in (with_entries (with_entries start all) more)) left ≡ map (code_in (with_entries (with_entries start all) more)) all
 
--- the same, written over the first of the bytes and bits that stand for all
+-- these codes, written over the first `done` of the indices and bits of all cells
 pub record IsPartWritten (size : ℕ) (start all es left : List Cell) (bytes : List ℕ) (bits : List Bool) (done : ℕ) : Type 0 where
   pub codes : List (Option ℕ)
   pub coded : IsUnderway start all es codes left
@@ -99,7 +99,7 @@ noted known (Some n) (Some k) = set known n (Some k)
 abbrev pub AreKnown : (seen own : List Cell) → (known : List (Option ℕ)) → Type 0
 AreKnown seen own known = (n k : ℕ) → Some k ≡ get_or known n None → is_entry (get_or own n null) (get_or seen k null) ≡ true
 
--- the number under which a cell was seen: none where it is no entry
+-- the number under which a cell was seen: none if it is no entry
 abbrev pub IsNumber : (seen : List Cell) → Option ℕ → Cell → Type 0
 IsNumber seen None c = entry_in c ≡ None
 IsNumber seen (Some k) c = is_entry c (get_or seen k null) ≡ true

@@ -11,6 +11,6 @@ use Rattle.columns.specs.View.{placed_dictionary}
 abbrev pub dictionary_entries : KnownDictionary → List Cell
 dictionary_entries d = entries_of_kind (kind_of d.data_type.now) (placed_dictionary d.bytes.now d.arrays.arrays.now)
 
--- of each what is known is so
+-- what is known of each is true
 abbrev pub AreAllKnown : (seen : List Cell) → List KnownDictionary → Type 0
 AreAllKnown seen dictionaries = All (λ d. AreKnown seen (dictionary_entries d) d.numbers) dictionaries

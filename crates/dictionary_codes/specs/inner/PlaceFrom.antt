@@ -1,7 +1,7 @@
--- Places that are written as what is added to a first one.
+-- Places that are written as their sums with a first number.
 use Rattle.std.specs.Prelude.{◌<◌, ◌-◌, ℕ, List, Option, Some, None, get_or, nat_lt, if◌then◌else◌}
 
--- the place that is written so: below the first there is none
+-- the place that is written so; below the first number there is none
 abbrev pub place_from : (first written : ℕ) → Option ℕ
 place_from first written = if nat_lt written first then None else Some (written - first)
 

@@ -1,4 +1,4 @@
--- Flat arrays that are one, in bytes of their own.
+-- Flat arrays that are equal, each in its own bytes.
 use Rattle.std.specs.Prelude.{◌≡◌, ℕ, List}
 use Rattle.columns.specs.View.{array_in, no_dictionary}
 use Rattle.columns.specs.declared.array.PlacedArray.{PlacedArray}

@@ -27,14 +27,14 @@ masked_append none [] more (x ∷ xs) ys len = absurd (omega (arith, len))
 masked_append none (b ∷ bits) more [] ys len = absurd (omega (arith, len))
 masked_append none (b ∷ bits) more (x ∷ xs) ys len = ap (λ zs. (if b then x else none) ∷ zs) (masked_append none bits more xs ys (omega (arith, len)))
 
--- nothing changes where all bits are set
+-- nothing changes if all bits are set
 pub all_kept : {A : Type 0} (none : A) (bits : List Bool) (xs : List A) → length bits ≡ length xs → list_all (λ b. b) bits ≡ true → masked_by none bits xs ≡ xs
 all_kept none [] xs len all = refl
 all_kept none (b ∷ bits) [] len all = absurd (omega (arith, len))
 all_kept none (true ∷ bits) (x ∷ xs) len all = ap (λ ys. x ∷ ys) (all_kept none bits xs (omega (arith, len)) all)
 all_kept none (false ∷ bits) (x ∷ xs) len all = cc
 
--- and all are one where none is set
+-- and all items are one if none is set
 pub none_kept : {A : Type 0} (none : A) (n : ℕ) (xs : List A) → n ≡ length xs → masked_by none (replicate n false) xs ≡ replicate n none
 none_kept none zero [] len = refl
 none_kept none zero (x ∷ xs) len = absurd (omega (arith, len))

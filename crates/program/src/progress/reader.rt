@@ -1,27 +1,35 @@
-// Shows how much of a long input was read.
+// Shows how much of a long input was read, or that it is to be typed.
 ghost use Rattle.std.specs.Prelude.{◌≡◌};
 
 use super::{LEAST_SHOWN, LONG_WORK, ProgressLine, Stage};
 use std::io::{self, IsTerminal, Read, Write};
 use std::time::Clock;
 
-/// Reads `input` and shows how much was read and, at the end of a long input, that it is being worked on.
+/// Reads `input` and shows how much was read and, at the end of a long input, that it is being worked on; or, before the first read of an input that is
+/// typed, how to end it.
 #[derive(Drop)]
 pub struct ProgressReader<'a, C: Clock, T, R: Read> {
     input: R,
     line: Option<&'a ProgressLine<'a, C, T>>,
+    // where a typed input is asked for, until that is done
+    asked_on: Option<&'a ProgressLine<'a, C, T>>,
     bytes_read: u64,
 }
 
 impl<'a, C: Clock, T: Write + Copy, R: Read + IsTerminal> ProgressReader<'a, C, T, R> {
-    /// Shows nothing of an input that is typed on the terminal itself.
+    /// Of an input that is typed on the terminal itself, progress is not shown: the line would appear within the typed text.
     pub fn new(input: R, line: Option<&'a ProgressLine<'a, C, T>>) -> ProgressReader<'a, C, T, R>
         ensures { result.input ≡ input }
     {
-        let line = if input.is_terminal() { None } else { line };
+        let (line, asked_on) = if input.is_terminal() {
+            (None, line)
+        } else {
+            (line, None)
+        };
         ProgressReader {
             input,
             line,
+            asked_on,
             bytes_read: 0,
         }
     }
@@ -31,6 +39,9 @@ impl<C: Clock, T: Write + Copy, R: Read> Read for ProgressReader<'_, C, T, R> {
     ghost remaining = { λ reader. R.remaining reader.input };
 
     fn read(&mut self, buf: &mut [u8]) -> io::Result<usize> {
+        if let Some(line) = self.asked_on.take() {
+            line.ask_for_input();
+        }
         let read = self.input.read(buf);
         if let Some(line) = self.line {
             match &read {

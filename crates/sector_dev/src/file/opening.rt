@@ -91,8 +91,8 @@ impl<F: Read + Write + Seek + OpenFile + LockFile + Drop> FileDevice<F> {
     /// ```
     ///
     /// # Errors
-    /// `Io` if the system refuses or another program has the file open; `BadSize` if its length is not a multiple of 512, or is outside 16 to
-    /// 4,194,304 sectors.
+    /// `Io` if the system refuses, or if the file is locked by another program or by another device of this one; `BadSize` if its length is not a
+    /// multiple of 512, or is outside 16 to 4,194,304 sectors.
     pub fn open<R: Files<File = F> + AllocGlobal>(
         rt: &R,
         path: &str,
@@ -114,8 +114,8 @@ impl<F: Read + Write + Seek + OpenFile + LockFile + Drop> FileDevice<F> {
     /// Opens a file as a read-only device: each write fails. Others may read it at the same time.
     ///
     /// # Errors
-    /// `Io` if the system refuses or another program has the file open for writing; `BadSize` if its length is not a multiple of 512, or is outside
-    /// 16 to 4,194,304 sectors.
+    /// `Io` if the system refuses, or if the file is locked exclusively by another program or by another device of this one; `BadSize` if its length is
+    /// not a multiple of 512, or is outside 16 to 4,194,304 sectors.
     pub fn open_to_read<R: Files<File = F> + AllocGlobal>(
         rt: &R,
         path: &str,

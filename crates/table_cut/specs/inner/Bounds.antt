@@ -13,11 +13,11 @@ abbrev pub Weighs : Weighed → ℕ → Type 0
 Weighs (Exactly w) n = w ≡ n
 Weighs (AtMost w) n = n ≤ w
 
--- what the column at a place weighs in the first n rows of a run
+-- the weight of the column at a place in the first `rows` rows of a run
 abbrev pub column_weight : ℕ → Column → RowRun → (rows : ℕ) → ℕ
 column_weight j c r rows = sum_by (weight c) (cells_from (cell_at c (array_at j r)) r.from rows)
 
--- and all columns from a place on
+-- the weight of all columns from a place on
 unfoldable pub columns_weight : ℕ → Columns → RowRun → (rows : ℕ) → ℕ
 columns_weight j no_column r rows = 0
 columns_weight j (and_column c cs) r rows = column_weight j c r rows + columns_weight (j + 1) cs r rows

@@ -20,6 +20,6 @@ IsSizeOf dictionary known = AreNoLonger (width_of known.width) known.size dictio
 abbrev pub AreSizesOf : RowRun → List (Option EntrySize) → Type 0
 AreSizesOf r sizes = (j : ℕ) (known : EntrySize) → slice_get sizes j ≡ Some (Some known) → IsSizeOf (dictionary_in (array_at j r)) known
 
--- the same of the run at a place
+-- these are the sizes of the run at a place
 abbrev pub AreSizesAt : ℕ → List RowRun → List (Option EntrySize) → Type 0
 AreSizesAt place runs sizes = (r : RowRun) → slice_get runs place ≡ Some r → AreSizesOf r sizes

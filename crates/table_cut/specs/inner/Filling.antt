@@ -35,6 +35,6 @@ unfoldable mutual
   can_any_fill values no_column = false
   can_any_fill values (and_column f fs) = can_fill values f || can_any_fill values fs
 
--- whether n rows of these columns can fill one
+-- whether so many rows of these columns can fill one
 abbrev pub can_rows_fill : ℕ → Columns → Bool
 can_rows_fill rows columns = can_any_fill (Some rows) columns

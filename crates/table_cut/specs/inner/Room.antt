@@ -40,7 +40,7 @@ IsSeen s rows (seens.Shared first) = AreRowsSharing (columns_of s.columns) (arra
 IsSeen s rows (seens.Columns tried) = Unit {0}
 IsSeen s rows (seens.Rows seen) = HaveSeen s rows seen
 
--- nothing is asked where the rows of a piece can fill no dictionary
+-- nothing is asked if the rows of a piece can fill no dictionary
 abbrev pub IsSeenWithin : PlainSchema → List (List Cell) → Seen → Type 0
 IsSeenWithin s rows seen = can_rows_fill MAX_PIECE_ROWS (columns_of s.columns) ≡ true → IsSeen s rows seen
 
@@ -48,13 +48,13 @@ IsSeenWithin s rows seen = can_rows_fill MAX_PIECE_ROWS (columns_of s.columns) �
 abbrev pub row_in : PlainSchema → RowRun → ℕ → List Cell
 row_in s run i = row_at (columns_of s.columns) (arrays_of_run run) (run.from + i)
 
--- after some rows there is room for just n of a run: for these, and not for the next
+-- after some rows there is room for just `n` of a run: for these, and not for the next
 pub record HasRoom (s : PlainSchema) (rows : List (List Cell)) (run : RowRun) (n : ℕ) : Type 0 where
   pub within : n ≤ run.len
   pub fits : dictionaries_fit s (rows ++ take n (run_rows (columns_of s.columns) run)) ≡ true
   pub full : n < run.len → dictionaries_fit s ((rows ++ take n (run_rows (columns_of s.columns) run)) ++ row_in s run n ∷ []) ≡ false
 
--- and where that is all of them, it is known which entries all have
+-- and if that is all of them, it is known which entries all have
 pub record IsRoom (s : PlainSchema) (rows : List (List Cell)) (run : RowRun) (found : Room) : Type 0 where
   pub room : HasRoom s rows run found.rows
   pub known : found.rows ≡ run.len → IsSeen s (rows ++ run_rows (columns_of s.columns) run) found.seen

@@ -38,6 +38,6 @@ are_within [] es = true
 are_within (h ∷ hs) [] = true
 are_within (h ∷ hs) (e ∷ es) = is_within h.limit (length e) && are_within hs es
 
--- where a dictionary has a limit, these are the entries of all dictionaries in some rows
+-- if a dictionary has a limit, these are the entries of all dictionaries in some rows
 abbrev pub AreSeen : PlainSchema → List (List Cell) → List (List Cell) → Type 0
 AreSeen s rows entries = is_any_limited (columns_of s.columns) ≡ true → entries ≡ map (λ h. entries_of h.cells) (holdings_of s rows)

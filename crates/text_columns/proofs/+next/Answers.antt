@@ -19,11 +19,11 @@ next::push_list_items-loop-count-init t c = record { some = omega arith; few = o
 pub next::push_list_items-loop-count-preserved : goal.next::push_list_items-loop-count-preserved
 next::push_list_items-loop-count-preserved t c =
     let stays = MatchBool-at_false _ _ c.if-take_end_array.false c.take_end_array.ensures in
-    let keeps = rw (c.in-Some.is, stays) at c.in_ok-heavy.ensures in
+    let keeps = rw (c.in-Some.is, stays) at c.in_ok-item_weight.ensures in
     record {
       some = omega (arith, c.loop-count.invariant.some);
-      few = omega (arith, c.loop-count.invariant.few, c.if-heavy-weight.false);
-      read = list_pushed c.args.depth c.args.reader.now c.loop-count.reader c.push_next.new.reader c.loop-count.count c.loop-count.weight c.in-Some.heavy c.args.items.now c.loop-count.items c.push_next.new.self keeps
+      few = omega (arith, c.loop-count.invariant.few, c.if-item_weight-weight.false);
+      read = list_pushed c.args.depth c.args.reader.now c.loop-count.reader c.push_next.new.reader c.loop-count.count c.loop-count.weight c.in-Some.item_weight c.args.items.now c.loop-count.items c.push_next.new.self keeps
           c.loop-count.invariant.read;
     }
 
@@ -78,7 +78,7 @@ next::push_parts-returns t c =
     let size : length c.push_items.new.builders ≡ c.args.fields.now.len = omega (arith, c.push_items.auto.builders, ap length c.as_mut_slice.ensures.value, c.args.fields.now.ok.0) in
     let whole = take_at c.push_items.new.builders _ c.args.fields.now.len size in
     subst
-    (λ (bs : List ColumnBuilder). IfOk c.push_items.result (λ taken. IfSome taken (λ heavy. KeepsItems c.args.depth c.args.reader.now c.push_items.new.reader heavy c.args.fields.now.items bs)))
+    (λ (bs : List ColumnBuilder). IfOk c.push_items.result (λ taken. IfSome taken (λ weight. KeepsItems c.args.depth c.args.reader.now c.push_items.new.reader weight c.args.fields.now.items bs)))
     (sym whole) (rw c.as_mut_slice.ensures.value at c.push_items.ensures.kept)
 
 pub next::push_named-returns-clause-kept : goal.next::push_named-returns-clause-kept
@@ -86,7 +86,7 @@ next::push_named-returns-clause-kept t c =
     let size : length c.push_fields.new.builders ≡ c.args.fields.now.len = omega (arith, c.push_fields.auto.builders, ap length c.as_mut_slice-2.ensures.value, c.args.fields.now.ok.0) in
     let whole = take_at c.push_fields.new.builders _ c.args.fields.now.len size in
     subst
-    (λ (bs : List ColumnBuilder). IfOk c.push_fields.result (λ taken. IfSome taken (λ heavy. KeepsFields c.args.depth (key_list c.args.names.now.names.keys) c.args.reader.now c.push_fields.new.reader heavy c.args.fields.now.items bs)))
+    (λ (bs : List ColumnBuilder). IfOk c.push_fields.result (λ taken. IfSome taken (λ weight. KeepsFields c.args.depth (key_list c.args.names.now.names.keys) c.args.reader.now c.push_fields.new.reader weight c.args.fields.now.items bs)))
     (sym whole) (rw c.as_mut_slice-2.ensures.value at c.push_fields.ensures.kept)
 
 pub builder::ColumnBuilder::push_object-returns-in_ok-taken-in-Struct : goal.builder::ColumnBuilder::push_object-returns-in_ok-taken-in-Struct
@@ -99,38 +99,38 @@ builder::ColumnBuilder::push_object-returns-in_ok-taken-in-Struct t c =
 
 pub next::push_fields-returns-clause-kept : goal.next::push_fields-returns-clause-kept
 next::push_fields-returns-clause-kept t c =
-    fields_step c.args.depth (key_list c.args.names.now.keys) c.args.reader.now c.push_members.new.reader c.clear.new.heavies c.push_members.new.heavies c.args.builders.now c.push_members.new.builders
-    c.complete_row.new.builders c.complete_row.result (omega (arith, c.if-heavies-builders.false, c.clear.auto.heavies)) c.clear.ensures (c.in_ok-push_members.ensures c.if-not-branch.false) c.complete_row.ensures.kept
+    fields_step c.args.depth (key_list c.args.names.now.keys) c.args.reader.now c.push_members.new.reader c.clear.new.weights c.push_members.new.weights c.args.builders.now c.push_members.new.builders
+    c.complete_row.new.builders c.complete_row.result (omega (arith, c.if-weights-builders.false, c.clear.auto.weights)) c.clear.ensures (c.in_ok-push_members.ensures c.if-not-branch.false) c.complete_row.ensures.kept
 
 pub next::push_member-returns : goal.next::push_member-returns
 next::push_member-returns t c = λ yes. record {
-  heavy = c.in-Some.heavy;
+  weight = c.in-Some.weight;
   before = c.index-builders-at.result;
   behind = c.push_next.new.self;
-  free = free_at c.args.heavies.now c.args.at _ (omega (arith, c.if-at-heavies.false)) (sym c.if-is_some.ensures);
+  free = free_at c.args.weights.now c.args.at _ (omega (arith, c.if-at-weights.false)) (sym c.if-is_some.ensures);
   here = slice_get-get_or c.args.builders.now c.args.at c.index-builders-at.result (omega (arith, c.if-at-builders.false)) ∙ ap Some (sym c.index-builders-at.is);
-  keeps = rw (c.in-Some.is, ← c.index-builders-at.is) at c.in_ok-heavy.ensures;
+  keeps = rw (c.in-Some.is, ← c.index-builders-at.is) at c.in_ok-weight.ensures;
   kept = refl;
   pushed = refl;
 }
 
 pub next::push_members-loop-k-init : goal.next::push_members-loop-k-init
-next::push_members-loop-k-init t c = record { read = members_none c.args.depth (key_list c.args.names.now.keys) c.args.reader.now c.args.heavies.now c.args.builders.now }
+next::push_members-loop-k-init t c = record { read = members_none c.args.depth (key_list c.args.names.now.keys) c.args.reader.now c.args.weights.now c.args.builders.now }
 
 pub next::push_members-loop-k-preserved : goal.next::push_members-loop-k-preserved
 next::push_members-loop-k-preserved t c = record {
-  read = members_more c.args.depth (key_list c.args.names.now.keys) c.args.reader.now c.loop-k.reader c.next_key.new.self c.push_member.new.reader c.in-Some.name.now c.in-Some-find.at c.args.heavies.now c.loop-k.heavies
-      c.push_member.new.heavies c.args.builders.now c.loop-k.builders c.push_member.new.builders (rw c.in-Some.is at c.in-Ok.ensures.value) c.in-Some-find.ensures (c.in_ok-push_member.ensures c.if-not-branch.false) c.loop-k.invariant.read;
+  read = members_more c.args.depth (key_list c.args.names.now.keys) c.args.reader.now c.loop-k.reader c.next_key.new.self c.push_member.new.reader c.in-Some.name.now c.in-Some-find.at c.args.weights.now c.loop-k.weights
+      c.push_member.new.weights c.args.builders.now c.loop-k.builders c.push_member.new.builders (rw c.in-Some.is at c.in-Ok.ensures.value) c.in-Some-find.ensures (c.in_ok-push_member.ensures c.if-not-branch.false) c.loop-k.invariant.read;
 }
 
 pub next::push_members-returns-in_default-key : goal.next::push_members-returns-in_default-key
 next::push_members-returns-in_default-key t c = λ yes.
-    members_all c.args.depth (key_list c.args.names.now.keys) c.args.reader.now c.loop-k.reader _ c.args.heavies.now c.loop-k.heavies c.args.builders.now c.loop-k.builders (rw c.in_default-key.is at c.in-Ok.ensures.value)
+    members_all c.args.depth (key_list c.args.names.now.keys) c.args.reader.now c.loop-k.reader _ c.args.weights.now c.loop-k.weights c.args.builders.now c.loop-k.builders (rw c.in_default-key.is at c.in-Ok.ensures.value)
     c.loop-k.invariant.read
 
 pub next::push_members-returns-in-Ok-None : goal.next::push_members-returns-in-Ok-None
 next::push_members-returns-in-Ok-None t c = λ yes.
-    members_all c.args.depth (key_list c.args.names.now.keys) c.args.reader.now c.loop-k.reader _ c.args.heavies.now c.loop-k.heavies c.args.builders.now c.loop-k.builders (rw c.in-Ok-None.field-0-is at c.in-Ok-None.ensures.value) c.loop-k.invariant.read
+    members_all c.args.depth (key_list c.args.names.now.keys) c.args.reader.now c.loop-k.reader _ c.args.weights.now c.loop-k.weights c.args.builders.now c.loop-k.builders (rw c.in-Ok-None.field-0-is at c.in-Ok-None.ensures.value) c.loop-k.invariant.read
 
 pub next::push_items-loop-i-init : goal.next::push_items-loop-i-init
 next::push_items-loop-i-init t c = record { some = omega arith; few = omega arith; within = omega arith; read = items_none c.args.depth c.args.reader.now c.args.builders.now }
@@ -142,12 +142,12 @@ next::push_items-loop-i-preserved t c =
     let old = c.index-builders-i.result in
     let within : i < length bs = omega (arith, c.loop-i-test.true, c.loop-i.auto.builders) in
     let here : slice_get bs i ≡ Some old = slice_get-get_or bs i old within ∙ ap Some (sym c.index-builders-i.is) in
-    let taken = rw (c.in-Some.is, ← c.index-builders-i.is) at c.in_ok-heavy.ensures in
+    let taken = rw (c.in-Some.is, ← c.index-builders-i.is) at c.in_ok-cell_weight.ensures in
     record {
       some = omega (arith, c.loop-i.invariant.some);
-      few = omega (arith, c.loop-i.invariant.few, c.if-heavy-weight.false);
+      few = omega (arith, c.loop-i.invariant.few, c.if-cell_weight-weight.false);
       within = omega (arith, within, c.loop-i.auto.builders);
-      read = items_pushed c.args.depth c.args.reader.now c.loop-i.reader c.push_next.new.reader i c.loop-i.weight c.in-Some.heavy c.args.builders.now bs old c.push_next.new.self here taken c.loop-i.invariant.read;
+      read = items_pushed c.args.depth c.args.reader.now c.loop-i.reader c.push_next.new.reader i c.loop-i.weight c.in-Some.cell_weight c.args.builders.now bs old c.push_next.new.self here taken c.loop-i.invariant.read;
     }
 
 pub next::push_items-returns-clause-kept : goal.next::push_items-returns-clause-kept

@@ -34,7 +34,7 @@ invariant-next::push_items-loop-i l = record {
 
 abbrev pub invariant-next::push_members-loop-k : goal.invariant-next::push_members-loop-k
 invariant-next::push_members-loop-k l = record {
-  read : MembersRead l.depth (key_list l.names.keys) l.initial.reader l.reader l.initial.heavies l.heavies l.initial.builders l.builders;
+  read : MembersRead l.depth (key_list l.names.keys) l.initial.reader l.reader l.initial.weights l.weights l.initial.builders l.builders;
 }
 
 abbrev pub decreases-builder::ColumnBuilder::push_object : goal.decreases-builder::ColumnBuilder::push_object

@@ -13,7 +13,7 @@ use Rattle.cells.specs.Dictionary.{entries_of, entry_limit, has_limit, is_within
 use Rattle.cells.specs.Fit.{date_bits, fits_kind, in_range}
 use Rattle.cells.specs.Nulls.{is_there}
 use Rattle.cells.specs.Typed.{typed_boolean, typed_integer}
-use Rattle.cells.specs.Weight.{kind_weight, parts_weight, weight}
+use Rattle.cells.specs.Weight.{kind_weight, parts_weight, weight as cell_weight}
 use Rattle.columns.specs.Built.{contents_of, fixed_bytes, fixed_items, index_bytes, integer_bytes, is_set, list_offsets, offsets_of}
 use Rattle.columns.specs.Offsets.{width_of}
 use Rattle.columns.specs.declared.numbers.OffsetWidth.{OffsetWidth}
@@ -31,7 +31,7 @@ use Rattle.text_columns.specs.declared.builder.Names.{Names}
 use Rattle.text_columns.specs.declared.builder.ListOffsets.{ListOffsets}
 use Rattle.text_columns.specs.declared.builder.Slots.{Slots}
 
--- the bytes of an integer that a type of n bits holds come after others
+-- the bytes of an integer that fits the type come after others
 abbrev pub AppendsInteger : (bits : ℕ) → (signed : Bool) → ℤ → List ℕ → List ℕ → Type 0
 AppendsInteger bits signed n old new = (in_range bits signed n ≡ true) × (new ≡ old ++ integer_bytes (bits / 8) (number n))
 
@@ -54,20 +54,20 @@ pub record AppendsDigits (digits : List ℕ) (count : ℕ) (old new : List ℕ) 
   pub size : length spelled ≡ count
   pub more : new ≡ old ++ spelled
 
--- these and where they end
-pub record AppendsBytes (width : OffsetWidth) (digits : List ℕ) (heavy : ℕ) (offsets contents newer longer : List ℕ) : Type 0 where
+-- the bytes that digits spell, and where they end
+pub record AppendsBytes (width : OffsetWidth) (digits : List ℕ) (weight : ℕ) (offsets contents newer longer : List ℕ) : Type 0 where
   pub spelled : List ℕ
   pub read : decode_of digits ≡ Ok spelled
-  pub weighs : heavy ≡ 1 + length spelled
+  pub weighs : weight ≡ 1 + length spelled
   pub more : longer ≡ contents ++ spelled
   pub end : newer ≡ offsets ++ little_bytes (width_of width) (length contents + length spelled)
 
--- so many of them
-pub record AppendsFixed (width : ℕ) (digits : List ℕ) (heavy : ℕ) (old new : List ℕ) : Type 0 where
+-- the bytes that digits spell, `width` of them
+pub record AppendsFixed (width : ℕ) (digits : List ℕ) (weight : ℕ) (old new : List ℕ) : Type 0 where
   pub spelled : List ℕ
   pub read : decode_of digits ≡ Ok spelled
   pub size : length spelled ≡ width
-  pub weighs : heavy ≡ 1 + width
+  pub weighs : weight ≡ 1 + width
   pub more : new ≡ old ++ spelled
 
 -- values of this type
@@ -85,9 +85,9 @@ IsOf (fixed_binaries size) (FixedBinaries width bytes) = width ≡ size
 IsOf _ _ = ⊥
 
 -- what a null of these values weighs
-abbrev pub null_heavy : ColumnValues → ℕ
-null_heavy (FixedBinaries width bytes) = 1 + width
-null_heavy _ = 1
+abbrev pub null_weight : ColumnValues → ℕ
+null_weight (FixedBinaries width bytes) = 1 + width
+null_weight _ = 1
 
 -- values that are strings
 abbrev pub has_texts : ColumnValues → Bool
@@ -116,20 +116,20 @@ pub record Takes (kind : Kind) (cells : List Cell) (values : ColumnValues) : Typ
 abbrev pub TakesNull : ColumnValues → ColumnValues → Type 0
 TakesNull old new = (kind : Kind) (cells : List Cell) → Takes kind cells old → Takes kind (cells ++ null ∷ []) new
 
--- a cell of a text that weighs so much comes after the cells of a type
-pub record HasTaken (kind : Kind) (text : List ℕ) (heavy : ℕ) (cells : List Cell) (new : ColumnValues) : Type 0 where
+-- the cell of a text comes after the cells of a type
+pub record HasTaken (kind : Kind) (text : List ℕ) (weight : ℕ) (cells : List Cell) (new : ColumnValues) : Type 0 where
   pub taken : Cell
   pub read : cell_of_text kind text ≡ Ok taken
   pub there : is_there taken ≡ true
-  pub weighs : kind_weight kind taken ≡ heavy
+  pub weighs : kind_weight kind taken ≡ weight
   pub takes : Takes kind (cells ++ taken ∷ []) new
 
 abbrev pub TakesText : List ℕ → ℕ → ColumnValues → ColumnValues → Type 0
-TakesText text heavy old new = (kind : Kind) (cells : List Cell) → Takes kind cells old → HasTaken kind text heavy cells new
+TakesText text weight old new = (kind : Kind) (cells : List Cell) → Takes kind cells old → HasTaken kind text weight cells new
 
--- the cell of each text that spells a number, where a call answers what it weighs
+-- the cell of each text that spells the number, if a call returns a weight
 abbrev pub TakesSpelled : {E : Type 0} → ℤ → Result (Option ℕ) E → ColumnValues → ColumnValues → Type 0
-TakesSpelled n result old new = (text : List ℕ) → typed_integer text ≡ Some n → IfOk result (λ taken. IfSome taken (λ heavy. TakesText text heavy old new))
+TakesSpelled n result old new = (text : List ℕ) → typed_integer text ≡ Some n → IfOk result (λ taken. IfSome taken (λ weight. TakesText text weight old new))
 
 -- ---- columns with a dictionary: entries are looked up by their bytes
 
@@ -163,11 +163,11 @@ key_of _ c = contents_of c
 abbrev pub key_list : List (Vec ℕ) → List (List ℕ)
 key_list keys = map (λ k. k.items) keys
 
--- no cell of the same type
+-- the same type, without cells
 abbrev pub Clears : ColumnValues → ColumnValues → Type 0
 Clears old new = (kind : Kind) → IsOf kind old → Takes kind [] new
 
--- the cell that has such bytes comes after the cells
+-- the cell with the bytes `key` comes after the cells
 abbrev pub TakesKey : List ℕ → ColumnValues → ColumnValues → Type 0
 TakesKey key old new = (kind : Kind) (cells : List Cell) (c : Cell) → Takes kind cells old → key ≡ key_of kind c → Takes kind (cells ++ c ∷ []) new
 
@@ -182,7 +182,7 @@ pub record IsCoded (index : Index) (kind : Kind) (cells : List Cell) (values : C
   pub few : is_within (entry_limit index) (length (entries_of cells)) ≡ true
   pub one : IsOf kind d.one
 
--- the entry of some bytes stood at a place
+-- the entry with the bytes `key` was at the place
 pub record StoodAt (key : List ℕ) (place : ℕ) (keys keys2 : List (Vec ℕ)) (old new : ColumnValues) : Type 0 where
   pub found : position (bytes_eq key) (key_list keys) ≡ Some place
   pub same : keys2 ≡ keys
@@ -191,7 +191,7 @@ pub record StoodAt (key : List ℕ) (place : ℕ) (keys keys2 : List (Vec ℕ)) 
 abbrev pub index_type : IntegerType → Index
 index_type integer = record { bits = bits_of integer.width; signed = integer.signed }
 
--- or it comes after all entries, where an index can name it
+-- or it comes after all entries, and an index can name it
 pub record ComesLast (integer : IntegerType) (key : List ℕ) (place : ℕ) (keys keys2 : List (Vec ℕ)) (old new : ColumnValues) : Type 0 where
   pub missing : position (bytes_eq key) (key_list keys) ≡ None
   pub last : place ≡ length keys
@@ -202,7 +202,7 @@ pub record ComesLast (integer : IntegerType) (key : List ℕ) (place : ℕ) (key
 abbrev pub Places : IntegerType → List ℕ → ℕ → List (Vec ℕ) → List (Vec ℕ) → ColumnValues → ColumnValues → Type 0
 Places integer key place keys keys2 old new = StoodAt key place keys keys2 old new ⊎ ComesLast integer key place keys keys2 old new
 
--- and its index comes after others
+-- the index of the entry comes after others
 pub record PushesPlace (integer : IntegerType) (key indices indices2 : List ℕ) (keys keys2 : List (Vec ℕ)) (old new : ColumnValues) : Type 0 where
   pub place : ℕ
   pub placed : Places integer key place keys keys2 old new
@@ -222,12 +222,12 @@ HoldsCells (Some index) kind cells values (Some d) = IsCoded index kind cells va
 HoldsCells None kind cells values (Some d) = ⊥
 HoldsCells (Some index) kind cells values None = ⊥
 
--- a cell that was read and weighs so much comes after the cells
-pub record HasCell (dictionary : Option Index) (kind : Kind) (stated : Result Cell Refusal) (heavy : ℕ) (cells : List Cell) (values : ColumnValues) (coding : Option Coding) : Type 0 where
+-- the cell that is stated comes after the cells
+pub record HasCell (dictionary : Option Index) (kind : Kind) (stated : Result Cell Refusal) (weight : ℕ) (cells : List Cell) (values : ColumnValues) (coding : Option Coding) : Type 0 where
   pub taken : Cell
   pub read : stated ≡ Ok taken
   pub there : is_there taken ≡ true
-  pub weighs : kind_weight kind taken ≡ heavy
+  pub weighs : kind_weight kind taken ≡ weight
   pub holds : HoldsCells dictionary kind (cells ++ taken ∷ []) values coding
 
 abbrev pub TakesNullCell : ColumnValues → Option Coding → ColumnValues → Option Coding → Type 0
@@ -235,12 +235,12 @@ TakesNullCell old o new o2 =
     (dictionary : Option Index) (kind : Kind) (cells : List Cell) → HoldsCells dictionary kind cells old o → HoldsCells dictionary kind (cells ++ null ∷ []) new o2
 
 abbrev pub TakesCodedText : List ℕ → ℕ → Coding → ColumnValues → Coding → ColumnValues → Type 0
-TakesCodedText text heavy old values new values2 =
-    (index : Index) (kind : Kind) (cells : List Cell) → IsCoded index kind cells values old → HasCell (Some index) kind (cell_of_text kind text) heavy cells values2 (Some new)
+TakesCodedText text weight old values new values2 =
+    (index : Index) (kind : Kind) (cells : List Cell) → IsCoded index kind cells values old → HasCell (Some index) kind (cell_of_text kind text) weight cells values2 (Some new)
 
 abbrev pub TakesField : List ℕ → ℕ → ColumnValues → Option Coding → ColumnValues → Option Coding → Type 0
-TakesField text heavy old o new o2 =
-    (dictionary : Option Index) (kind : Kind) (cells : List Cell) → HoldsCells dictionary kind cells old o → HasCell dictionary kind (cell_of_text kind text) heavy cells new o2
+TakesField text weight old o new o2 =
+    (dictionary : Option Index) (kind : Kind) (cells : List Cell) → HoldsCells dictionary kind cells old o → HasCell dictionary kind (cell_of_text kind text) weight cells new o2
 
 -- ---- columns with parts: their slots, and the cells below them
 
@@ -311,7 +311,7 @@ pub record HoldsSlots (nullable : Bool) (dictionary : Option Index) (kind : Kind
   pub slots : KeepsSlots nullable dictionary kind cells s
   pub parts : keeps cells b
 
--- where cells of a type with parts have such buffers below them
+-- the slots and values of cells; `keeps` is about what is below those of a type with parts
 abbrev pub KeepsAs : Bool → Option Index → Kind → (List Cell → ColumnBuilder → Type 0) → List Cell → ColumnBuilder → Type 0
 KeepsAs nullable dictionary kind keeps cells (Flat b) = (b.nullable ≡ nullable) × (b.valid.items ≡ map is_there cells) × HoldsCells dictionary kind cells b.values b.coding
 KeepsAs nullable dictionary kind keeps cells (List' slots offsets p items) = HoldsSlots nullable dictionary kind keeps cells slots (List' slots offsets p items)
@@ -340,7 +340,7 @@ pub record KeepAll (cs : List Column) (rows : List (List Cell)) (bs : List Colum
   pub count : length bs ≡ length cs
   pub each : (j : ℕ) (c : Column) (b : ColumnBuilder) → slice_get cs j ≡ Some c → slice_get bs j ≡ Some b → Keeps c (column_at j rows) b
 
--- so many nulls come after the cells
+-- `count` nulls come after the cells
 abbrev pub AppendsNulls : ℕ → ColumnBuilder → ColumnBuilder → Type 0
 AppendsNulls count old new = (c : Column) (cells : List Cell) → Keeps c cells old → Keeps c (cells ++ replicate count null) new
 
@@ -351,30 +351,30 @@ is_nullable (FixedList' slots size p items) = slots.nullable
 is_nullable (Struct' slots names v row) = slots.nullable
 
 -- what a null of a column weighs
-abbrev pub null_heavy_of : ColumnBuilder → ℕ
-null_heavy_of (Flat b) = null_heavy b.values
-null_heavy_of (List' slots offsets p items) = slots.null_weight
-null_heavy_of (FixedList' slots size p items) = slots.null_weight
-null_heavy_of (Struct' slots names v row) = slots.null_weight
+abbrev pub null_weight_of : ColumnBuilder → ℕ
+null_weight_of (Flat b) = null_weight b.values
+null_weight_of (List' slots offsets p items) = slots.null_weight
+null_weight_of (FixedList' slots size p items) = slots.null_weight
+null_weight_of (Struct' slots names v row) = slots.null_weight
 
--- so many nulls come after the cells of each column
+-- `count` nulls come after the cells of each column
 pub record AllAppendNulls (count : ℕ) (old new : List ColumnBuilder) : Type 0 where
   pub same : length new ≡ length old
   pub each : (j : ℕ) (b b2 : ColumnBuilder) → slice_get old j ≡ Some b → slice_get new j ≡ Some b2 → AppendsNulls count b b2
 
--- a cell that is there comes behind the others
+-- a cell that is not null comes after the others
 pub record PushesThere (old new : Slots) : Type 0 where
   pub nullable : new.nullable ≡ old.nullable
   pub null_weight : new.null_weight ≡ old.null_weight
   pub valid : new.valid.items ≡ old.valid.items ++ true ∷ []
 
--- a list of so many items ends behind the others
+-- a list of `items` items ends after the others
 pub record PushesEnd (items : ℕ) (old new : ListOffsets) : Type 0 where
   pub width : new.width ≡ old.width
   pub count : new.count ≡ old.count + items
   pub offsets : new.offsets.items ≡ old.offsets.items ++ little_bytes (width_of old.width) (old.count + items)
 
--- so many lists without items end there
+-- `many` lists without items end after the others
 abbrev pub PushesEmpty : ℕ → ListOffsets → ListOffsets → Type 0
 PushesEmpty many old new = (width : OffsetWidth) (cells : List Cell) → KeepsOffsets width cells old → KeepsOffsets width (cells ++ replicate many null) new
 
@@ -399,7 +399,7 @@ pub record StartsFixedLists (nullable : Bool) (size : ℕ) (item : Column) (b : 
   pub is : b ≡ FixedList' slots size place items
   pub same : slots.nullable ≡ nullable
   pub none : slots.valid.items ≡ []
-  pub null_weighs : slots.null_weight ≡ 1 + size * weight item null
+  pub null_weighs : slots.null_weight ≡ 1 + size * cell_weight item null
   pub unlimited : IsUnlimited item
   pub below : Keeps item [] items
 
@@ -410,7 +410,7 @@ pub record StartsStructs (nullable : Bool) (columns : List Column) (b : ColumnBu
   pub is : b ≡ Struct slots names fields
   pub same : slots.nullable ≡ nullable
   pub none : slots.valid.items ≡ []
-  pub null_weighs : slots.null_weight ≡ 1 + sum_by null_heavy_of fields.items
+  pub null_weighs : slots.null_weight ≡ 1 + sum_by null_weight_of fields.items
   pub names_are : key_list names.names.keys ≡ names_of (columns_of columns)
   pub distinct : repeats (names_of (columns_of columns)) ≡ false
   pub unlimited : AreUnlimited columns
@@ -424,28 +424,28 @@ StartsTexts width values = (offsets : Vec ℕ) × (contents : Vec ℕ) × (value
 abbrev pub StartsBinaries : OffsetWidth → ColumnValues → Type 0
 StartsBinaries width values = (offsets : Vec ℕ) × (contents : Vec ℕ) × (values ≡ Binaries width offsets contents) × HoldContents width [] offsets.items contents.items
 
--- the cell of a field that weighs so much comes behind the cells of a column
-pub record HasKept (c : Column) (null_text text : List ℕ) (heavy : ℕ) (cells : List Cell) (new : ColumnBuilder) : Type 0 where
+-- the cell of a field comes after the cells of a column
+pub record HasKept (c : Column) (null_text text : List ℕ) (weight : ℕ) (cells : List Cell) (new : ColumnBuilder) : Type 0 where
   pub kept : Cell
   pub read : field_cell null_text c text ≡ Ok kept
-  pub weighs : weight c kept ≡ heavy
+  pub weighs : cell_weight c kept ≡ weight
   pub keeps : Keeps c (cells ++ kept ∷ []) new
 
 abbrev pub KeepsField : (null_text text : List ℕ) → ℕ → ColumnBuilder → ColumnBuilder → Type 0
-KeepsField null_text text heavy old new = (c : Column) (cells : List Cell) → Keeps c cells old → HasKept c null_text text heavy cells new
+KeepsField null_text text weight old new = (c : Column) (cells : List Cell) → Keeps c cells old → HasKept c null_text text weight cells new
 
 -- ---- rows
 
--- the cells of fields come after the rows: the row weighs so much
-pub record HasRow (cs : List Column) (null_text : List ℕ) (ts : List (List ℕ)) (heavy : ℕ) (rows : List (List Cell)) (new : List ColumnBuilder) : Type 0 where
+-- the cells of fields come after the rows
+pub record HasRow (cs : List Column) (null_text : List ℕ) (ts : List (List ℕ)) (weight : ℕ) (rows : List (List Cell)) (new : List ColumnBuilder) : Type 0 where
   pub row : List Cell
   pub read : field_cells null_text cs ts ≡ Ok row
-  pub weighs : 1 + parts_weight (columns_of cs) (cells_of row) ≡ heavy
+  pub weighs : 1 + parts_weight (columns_of cs) (cells_of row) ≡ weight
   pub keeps : KeepAll cs (rows ++ row ∷ []) new
 
 abbrev pub KeepsFields : (null_text : List ℕ) → List (List ℕ) → ℕ → List ColumnBuilder → List ColumnBuilder → Type 0
-KeepsFields null_text ts heavy old new = (cs : List Column) (rows : List (List Cell)) → KeepAll cs rows old → HasRow cs null_text ts heavy rows new
+KeepsFields null_text ts weight old new = (cs : List Column) (rows : List (List Cell)) → KeepAll cs rows old → HasRow cs null_text ts weight rows new
 
 -- there are as many fields as columns
 abbrev pub KeepsRecord : (null_text : List ℕ) → List (List ℕ) → ℕ → List ColumnBuilder → List ColumnBuilder → Type 0
-KeepsRecord null_text ts heavy old new = (length ts ≡ length old) × KeepsFields null_text ts heavy old new
+KeepsRecord null_text ts weight old new = (length ts ≡ length old) × KeepsFields null_text ts weight old new

@@ -18,7 +18,7 @@ use Rattle.arrow_schema.specs.declared.types.IntegerType.{IntegerType}
 use Rattle.cells.specs.Cell as cells
 use Rattle.cells.specs.Cell.{Cell, cells_of}
 use Rattle.cells.specs.Nulls.{is_there}
-use Rattle.cells.specs.Weight.{kind_weight, parts_weight, sum_of, weight}
+use Rattle.cells.specs.Weight.{kind_weight, parts_weight, sum_of, weight as cell_weight}
 use Rattle.columns.specs.Built.{integer_bytes}
 use Rattle.columns.specs.Offsets.{width_of}
 use Rattle.columns.specs.declared.numbers.OffsetWidth.{OffsetWidth}
@@ -75,89 +75,89 @@ pub record AppendsNumber (integer : IntegerType) (t : Token) (old new : List ℕ
   pub takes : TakesNumber integer text old new
 
 -- a token is a text, which comes after others
-pub record AppendsString (width : OffsetWidth) (t : Token) (heavy : ℕ) (offsets contents newer longer : List ℕ) : Type 0 where
+pub record AppendsString (width : OffsetWidth) (t : Token) (weight : ℕ) (offsets contents newer longer : List ℕ) : Type 0 where
   pub text : List ℕ
   pub is : t ≡ tokens.string text
-  pub weighs : heavy ≡ 1 + length text
+  pub weighs : weight ≡ 1 + length text
   pub utf8 : is_utf8 text ≡ true
   pub more : longer ≡ contents ++ text
   pub end : newer ≡ offsets ++ little_bytes (width_of width) (length contents + length text)
 
--- a token is digits, whose bytes come behind others
-pub record AppendsBinary (width : OffsetWidth) (t : Token) (heavy : ℕ) (offsets contents newer longer : List ℕ) : Type 0 where
+-- a token is digits, whose bytes come after others
+pub record AppendsBinary (width : OffsetWidth) (t : Token) (weight : ℕ) (offsets contents newer longer : List ℕ) : Type 0 where
   pub digits : List ℕ
   pub is : t ≡ tokens.string digits
-  pub takes : AppendsBytes width digits heavy offsets contents newer longer
+  pub takes : AppendsBytes width digits weight offsets contents newer longer
 
-pub record AppendsFixedBinary (width : ℕ) (t : Token) (heavy : ℕ) (old new : List ℕ) : Type 0 where
+pub record AppendsFixedBinary (width : ℕ) (t : Token) (weight : ℕ) (old new : List ℕ) : Type 0 where
   pub digits : List ℕ
   pub is : t ≡ tokens.string digits
-  pub takes : AppendsFixed width digits heavy old new
+  pub takes : AppendsFixed width digits weight old new
 
--- the cell of a value that weighs so much comes behind the cells of a type
-pub record HasTakenValue (kind : Kind) (d : Data) (heavy : ℕ) (so : List Cell) (new : ColumnValues) : Type 0 where
+-- the cell of a value comes after the cells of a type
+pub record HasTakenValue (kind : Kind) (d : Data) (weight : ℕ) (so : List Cell) (new : ColumnValues) : Type 0 where
   pub taken : Cell
   pub read : kind_in kind d ≡ Ok taken
   pub there : is_there taken ≡ true
-  pub weighs : kind_weight kind taken ≡ heavy
+  pub weighs : kind_weight kind taken ≡ weight
   pub takes : Takes kind (so ++ taken ∷ []) new
 
 abbrev pub TakesValue : Data → ℕ → ColumnValues → ColumnValues → Type 0
-TakesValue d heavy old new = (kind : Kind) (so : List Cell) → Takes kind so old → HasTakenValue kind d heavy so new
+TakesValue d weight old new = (kind : Kind) (so : List Cell) → Takes kind so old → HasTakenValue kind d weight so new
 
 -- a token that is a value, and no null
-pub record TakesToken (t : Token) (heavy : ℕ) (old new : ColumnValues) : Type 0 where
+pub record TakesToken (t : Token) (weight : ℕ) (old new : ColumnValues) : Type 0 where
   pub data_is : Data
   pub read : token_data t ≡ Some data_is
   pub there : data_is ≡ null → ⊥
-  pub takes : TakesValue data_is heavy old new
+  pub takes : TakesValue data_is weight old new
 
--- the same of a column, or of its dictionary
-pub record TakesCellToken (t : Token) (heavy : ℕ) (old : ColumnValues) (o : Option Coding) (new : ColumnValues) (o2 : Option Coding) : Type 0 where
+-- the cell of a token that is no null comes after those of a column, with a dictionary or without
+pub record TakesCellToken (t : Token) (weight : ℕ) (old : ColumnValues) (o : Option Coding) (new : ColumnValues) (o2 : Option Coding) : Type 0 where
   pub data_is : Data
   pub read : token_data t ≡ Some data_is
   pub there : data_is ≡ null → ⊥
-  pub takes : (dictionary : Option Index) (kind : Kind) (so : List Cell) → HoldsCells dictionary kind so old o → HasCell dictionary kind (kind_in kind data_is) heavy so new o2
+  pub takes : (dictionary : Option Index) (kind : Kind) (so : List Cell) → HoldsCells dictionary kind so old o → HasCell dictionary kind (kind_in kind data_is) weight so new o2
 
-pub record TakesCodedToken (t : Token) (heavy : ℕ) (old : Coding) (values : ColumnValues) (new : Coding) (values2 : ColumnValues) : Type 0 where
+pub record TakesCodedToken (t : Token) (weight : ℕ) (old : Coding) (values : ColumnValues) (new : Coding) (values2 : ColumnValues) : Type 0 where
   pub data_is : Data
   pub read : token_data t ≡ Some data_is
   pub there : data_is ≡ null → ⊥
-  pub takes : (index : Index) (kind : Kind) (so : List Cell) → IsCoded index kind so values old → HasCell (Some index) kind (kind_in kind data_is) heavy so values2 (Some new)
+  pub takes : (index : Index) (kind : Kind) (so : List Cell) → IsCoded index kind so values old → HasCell (Some index) kind (kind_in kind data_is) weight so values2 (Some new)
 
--- the cell of a value that weighs so much comes after the cells of a column
-pub record HasKeptValue (c : Column) (d : Data) (heavy : ℕ) (so : List Cell) (new : ColumnBuilder) : Type 0 where
+-- the cell of a value comes after the cells of a column
+pub record HasKeptValue (c : Column) (d : Data) (weight : ℕ) (so : List Cell) (new : ColumnBuilder) : Type 0 where
   pub kept : Cell
   pub read : cell_in c d ≡ Ok kept
-  pub weighs : weight c kept ≡ heavy
+  pub weighs : cell_weight c kept ≡ weight
   pub keeps : Keeps c (so ++ kept ∷ []) new
 
 abbrev pub KeepsValue : Data → ℕ → ColumnBuilder → ColumnBuilder → Type 0
-KeepsValue d heavy old new = (c : Column) (so : List Cell) → Keeps c so old → HasKeptValue c d heavy so new
+KeepsValue d weight old new = (c : Column) (so : List Cell) → Keeps c so old → HasKeptValue c d weight so new
 
-pub record KeepsToken (t : Token) (heavy : ℕ) (old new : ColumnBuilder) : Type 0 where
+pub record KeepsToken (t : Token) (weight : ℕ) (old new : ColumnBuilder) : Type 0 where
   pub data_is : Data
   pub read : token_data t ≡ Some data_is
-  pub keeps : KeepsValue data_is heavy old new
+  pub keeps : KeepsValue data_is weight old new
 
--- the value that a reader stands at, which nests no deeper than the number, comes behind the cells of a column
-pub record KeepsNext (depth : ℕ) (old new : List Token) (heavy : ℕ) (b b2 : ColumnBuilder) : Type 0 where
+-- the value that a reader is at, which nests no deeper than `depth`, comes after the cells of a column
+pub record KeepsNext (depth : ℕ) (old new : List Token) (weight : ℕ) (b b2 : ColumnBuilder) : Type 0 where
   pub data_is : Data
   pub read : converted of_json (value depth old) ≡ Some (data_is, new)
-  pub keeps : KeepsValue data_is heavy b b2
+  pub keeps : KeepsValue data_is weight b b2
 
--- a null that weighs so much comes behind the cells of a column that has nulls
+-- a null comes after the cells of a column that has nulls
 abbrev pub KeepsNull : ℕ → ColumnBuilder → ColumnBuilder → Type 0
-KeepsNull heavy old new = (c : Column) (so : List Cell) → Keeps c so old → (is_nullable_column c ≡ true) × (weight c cells.null ≡ heavy) × Keeps c (so ++ cells.null ∷ []) new
+KeepsNull weight old new = (c : Column) (so : List Cell) → Keeps c so old → (is_nullable_column c ≡ true) × (cell_weight c cells.null ≡ weight) × Keeps c (so ++ cells.null ∷ []) new
 
 -- ---- the items of a list
 
--- the cells of items come behind those of a column, and weigh so much with their list
-pub record HasItems (c : Column) (found : Items) (heavy : ℕ) (so : List Cell) (new : ColumnBuilder) : Type 0 where
+-- the cells of items come after those of a column; the weight is that of their list
+pub record HasItems (c : Column) (found : Items) (weight : ℕ) (so : List Cell) (new : ColumnBuilder) : Type 0 where
   pub kept : List Cell
   pub many : length kept ≡ item_count found
   pub read : each_item (cell_in c) found ≡ Ok (cells_of kept)
-  pub weighs : 1 + sum_of (weight c) (cells_of kept) ≡ heavy
+  pub weighs : 1 + sum_of (cell_weight c) (cells_of kept) ≡ weight
   pub keeps : Keeps c (so ++ kept) new
 
 -- all items of an array, which end with its bracket
@@ -167,56 +167,56 @@ pub record KeepsListItems (depth : ℕ) (old new : List Token) (taken : ItemsTak
   pub count : item_count found ≡ taken.count
   pub keeps : (c : Column) (so : List Cell) → Keeps c so b → HasItems c found taken.weight so b2
 
--- the slot of a list comes behind the others, once its items were taken
-pub record EndsList (taken : Option ItemsTaken) (heavy : ℕ) (slots slots2 : Slots) (offsets offsets2 : ListOffsets) : Type 0 where
+-- the slot of a list comes after the others, once its items were taken
+pub record EndsList (taken : Option ItemsTaken) (weight : ℕ) (slots slots2 : Slots) (offsets offsets2 : ListOffsets) : Type 0 where
   pub own : ItemsTaken
   pub is : taken ≡ Some own
-  pub weighs : own.weight ≡ heavy
+  pub weighs : own.weight ≡ weight
   pub slot : PushesThere slots slots2
   pub ends : PushesEnd own.count offsets offsets2
 
-pub record EndsFixedList (taken : Option ItemsTaken) (size heavy : ℕ) (slots slots2 : Slots) : Type 0 where
+pub record EndsFixedList (taken : Option ItemsTaken) (size weight : ℕ) (slots slots2 : Slots) : Type 0 where
   pub own : ItemsTaken
   pub is : taken ≡ Some own
-  pub weighs : own.weight ≡ heavy
+  pub weighs : own.weight ≡ weight
   pub many : own.count ≡ size
   pub slot : PushesThere slots slots2
 
--- the array that a reader stands in comes behind the cells of a column
-pub record KeepsArray (depth : ℕ) (old new : List Token) (heavy : ℕ) (b b2 : ColumnBuilder) : Type 0 where
+-- the array that a reader is in comes after the cells of a column
+pub record KeepsArray (depth : ℕ) (old new : List Token) (weight : ℕ) (b b2 : ColumnBuilder) : Type 0 where
   pub found : Items
   pub read : converted of_items (items (value depth) (length old) old) ≡ Some (found, new)
-  pub keeps : KeepsValue (array found) heavy b b2
+  pub keeps : KeepsValue (array found) weight b b2
 
--- and the object that it stands in
-pub record KeepsObject (depth : ℕ) (old new : List Token) (heavy : ℕ) (b b2 : ColumnBuilder) : Type 0 where
+-- the object that a reader is in comes after the cells of a column
+pub record KeepsObject (depth : ℕ) (old new : List Token) (weight : ℕ) (b b2 : ColumnBuilder) : Type 0 where
   pub found : Members
   pub read : converted (λ ms. of_members ms no_members) (members (value depth) (length old) old) ≡ Some (found, new)
-  pub keeps : KeepsValue (object found) heavy b b2
+  pub keeps : KeepsValue (object found) weight b b2
 
--- the slot of a struct comes behind the others, once its cells were taken
-pub record EndsStruct (taken : Option ℕ) (heavy : ℕ) (slots slots2 : Slots) : Type 0 where
-  pub is : taken ≡ Some heavy
+-- the slot of a struct comes after the others, once its cells were taken
+pub record EndsStruct (taken : Option ℕ) (weight : ℕ) (slots slots2 : Slots) : Type 0 where
+  pub is : taken ≡ Some weight
   pub slot : PushesThere slots slots2
 
 -- ---- the members of an object
 
--- the value that a reader stands at comes behind the cells of the column at a place
+-- the value that a reader is at comes after the cells of the column at a place
 pub record PushesMember (depth place : ℕ) (old new : List Token) (weights weights2 : List (Option ℕ)) (bs bs2 : List ColumnBuilder) : Type 0 where
-  pub heavy : ℕ
+  pub weight : ℕ
   pub before : ColumnBuilder
   pub behind : ColumnBuilder
   pub free : slice_get weights place ≡ Some None
   pub here : slice_get bs place ≡ Some before
-  pub keeps : KeepsNext depth old new heavy before behind
-  pub kept : weights2 ≡ set weights place (Some heavy)
+  pub keeps : KeepsNext depth old new weight before behind
+  pub kept : weights2 ≡ set weights place (Some weight)
   pub pushed : bs2 ≡ set bs place behind
 
--- what a column holds once some members of an object were read: the cell of its member, where there was one
+-- what a column holds once some members of an object were read: also the cell of its member, if there was one
 abbrev pub HoldsMember : Column → List Cell → Option Data → Option ℕ → ColumnBuilder → Type 0
 HoldsMember c so None None b = Keeps c so b
-HoldsMember c so (Some d) (Some heavy) b = HasKeptValue c d heavy so b
-HoldsMember c so None (Some heavy) b = ⊥
+HoldsMember c so (Some d) (Some weight) b = HasKeptValue c d weight so b
+HoldsMember c so None (Some weight) b = ⊥
 HoldsMember c so (Some d) None b = ⊥
 
 pub record HoldMembers (cs : List Column) (rows : List (List Cell)) (found : Members) (weights : List (Option ℕ)) (bs : List ColumnBuilder) : Type 0 where
@@ -225,7 +225,7 @@ pub record HoldMembers (cs : List Column) (rows : List (List Cell)) (found : Mem
   pub each : (j : ℕ) (c : Column) (b : ColumnBuilder) (w : Option ℕ) → slice_get cs j ≡ Some c → slice_get bs j ≡ Some b → slice_get weights j ≡ Some w
       → HoldsMember c (column_at j rows) (get_member (name_of_column c) found) w b
 
--- all members of an object, which end with its brace, with values that nest no deeper than the number
+-- all members of an object, which end with its brace, with values that nest no deeper than `depth`
 pub record PushesMembers (depth : ℕ) (names : List (List ℕ)) (old new : List Token) (weights weights2 : List (Option ℕ)) (bs bs2 : List ColumnBuilder) : Type 0 where
   pub found : Members
   pub read : converted (λ ms. of_members ms no_members) (members (value depth) (length old) old) ≡ Some (found, new)
@@ -235,77 +235,77 @@ pub record PushesMembers (depth : ℕ) (names : List (List ℕ)) (old new : List
 
 -- ---- rows
 
--- the lines of what is left of a text, where something is
+-- the lines of what is left of a text, if something is
 abbrev pub lines_left : Option (Bor (List ℕ)) → List (List ℕ)
 lines_left None = []
 lines_left (Some text) = slice_split (λ b. b == 10) text.now
 
--- no byte may be left behind a last line feed
+-- the size of what is left, which may be an empty line after the last line feed
 abbrev pub size_left : Option (Bor (List ℕ)) → ℕ
 size_left None = 0
 size_left (Some text) = 1 + length text.now
 
--- the cell of a member that weighs so much is after the cells of a column, or a null where there is none
-pub record HasMember (c : Column) (o : Option Data) (heavy : ℕ) (so : List Cell) (new : ColumnBuilder) : Type 0 where
+-- the cell of a member comes after the cells of a column, or a null if there is none
+pub record HasMember (c : Column) (o : Option Data) (weight : ℕ) (so : List Cell) (new : ColumnBuilder) : Type 0 where
   pub kept : Cell
   pub read : member_in (is_nullable_column c) (cell_in c) o ≡ Ok kept
-  pub weighs : weight c kept ≡ heavy
+  pub weighs : cell_weight c kept ≡ weight
   pub keeps : Keeps c (so ++ kept ∷ []) new
 
 abbrev pub Completes : Option ℕ → ℕ → ColumnBuilder → ColumnBuilder → Type 0
-Completes w heavy old new = (c : Column) (so : List Cell) (o : Option Data) → HoldsMember c so o w old → HasMember c o heavy so new
+Completes w weight old new = (c : Column) (so : List Cell) (o : Option Data) → HoldsMember c so o w old → HasMember c o weight so new
 
--- the cells of members come after the rows: the row weighs so much
-pub record HasNamedRow (cs : List Column) (found : Members) (heavy : ℕ) (rows : List (List Cell)) (new : List ColumnBuilder) : Type 0 where
+-- the cells of members come after the rows
+pub record HasNamedRow (cs : List Column) (found : Members) (weight : ℕ) (rows : List (List Cell)) (new : List ColumnBuilder) : Type 0 where
   pub row : List Cell
   pub read : cells_by_name (columns_of cs) found ≡ Ok (cells_of row)
-  pub weighs : 1 + parts_weight (columns_of cs) (cells_of row) ≡ heavy
+  pub weighs : 1 + parts_weight (columns_of cs) (cells_of row) ≡ weight
   pub keeps : KeepAll cs (rows ++ row ∷ []) new
 
 abbrev pub CompletesRow : List (Option ℕ) → ℕ → List ColumnBuilder → List ColumnBuilder → Type 0
-CompletesRow weights heavy old new =
-    (cs : List Column) (rows : List (List Cell)) (found : Members) → HoldMembers cs rows found weights old → HasNamedRow cs found heavy rows new
+CompletesRow weights weight old new =
+    (cs : List Column) (rows : List (List Cell)) (found : Members) → HoldMembers cs rows found weights old → HasNamedRow cs found weight rows new
 
 -- the cells of a value come after the rows
-pub record HasValueRow (cs : List Column) (d : Data) (heavy : ℕ) (rows : List (List Cell)) (new : List ColumnBuilder) : Type 0 where
+pub record HasValueRow (cs : List Column) (d : Data) (weight : ℕ) (rows : List (List Cell)) (new : List ColumnBuilder) : Type 0 where
   pub row : List Cell
   pub read : cells_in (columns_of cs) d ≡ Ok (cells_of row)
-  pub weighs : 1 + parts_weight (columns_of cs) (cells_of row) ≡ heavy
+  pub weighs : 1 + parts_weight (columns_of cs) (cells_of row) ≡ weight
   pub keeps : KeepAll cs (rows ++ row ∷ []) new
 
--- where no two columns have one name
+-- the cells of a value come after the rows, if no two columns have one name
 abbrev pub KeepsRow : List (List ℕ) → Data → ℕ → List ColumnBuilder → List ColumnBuilder → Type 0
-KeepsRow names d heavy old new =
-    (cs : List Column) (rows : List (List Cell)) → names_of (columns_of cs) ≡ names → repeats names ≡ false → KeepAll cs rows old → HasValueRow cs d heavy rows new
+KeepsRow names d weight old new =
+    (cs : List Column) (rows : List (List Cell)) → names_of (columns_of cs) ≡ names → repeats names ≡ false → KeepAll cs rows old → HasValueRow cs d weight rows new
 
--- all members of an object, which end with its brace, and nulls where there is none
-pub record KeepsFields (depth : ℕ) (names : List (List ℕ)) (old new : List Token) (heavy : ℕ) (bs bs2 : List ColumnBuilder) : Type 0 where
+-- all members of an object, which end with its brace, and nulls for columns without a member
+pub record KeepsFields (depth : ℕ) (names : List (List ℕ)) (old new : List Token) (weight : ℕ) (bs bs2 : List ColumnBuilder) : Type 0 where
   pub found : Members
   pub read : converted (λ ms. of_members ms no_members) (members (value depth) (length old) old) ≡ Some (found, new)
-  pub keeps : KeepsRow names (object found) heavy bs bs2
+  pub keeps : KeepsRow names (object found) weight bs bs2
 
--- the cells of items come behind the rows
-pub record HasItemRow (cs : List Column) (found : Items) (heavy : ℕ) (rows : List (List Cell)) (new : List ColumnBuilder) : Type 0 where
+-- the cells of items come after the rows
+pub record HasItemRow (cs : List Column) (found : Items) (weight : ℕ) (rows : List (List Cell)) (new : List ColumnBuilder) : Type 0 where
   pub row : List Cell
   pub read : cells_by_place (columns_of cs) found ≡ Ok (cells_of row)
-  pub weighs : 1 + parts_weight (columns_of cs) (cells_of row) ≡ heavy
+  pub weighs : 1 + parts_weight (columns_of cs) (cells_of row) ≡ weight
   pub keeps : KeepAll cs (rows ++ row ∷ []) new
 
 -- all items of an array, as many as columns, which end with its bracket
-pub record KeepsItems (depth : ℕ) (old new : List Token) (heavy : ℕ) (bs bs2 : List ColumnBuilder) : Type 0 where
+pub record KeepsItems (depth : ℕ) (old new : List Token) (weight : ℕ) (bs bs2 : List ColumnBuilder) : Type 0 where
   pub found : Items
   pub read : converted of_items (items (value depth) (length old) old) ≡ Some (found, new)
   pub count : item_count found ≡ length bs
-  pub keeps : (cs : List Column) (rows : List (List Cell)) → KeepAll cs rows bs → HasItemRow cs found heavy rows bs2
+  pub keeps : (cs : List Column) (rows : List (List Cell)) → KeepAll cs rows bs → HasItemRow cs found weight rows bs2
 
--- all tokens are one value, whose cells come behind the rows
-pub record KeepsTokens (names : List (List ℕ)) (old : List Token) (heavy : ℕ) (bs bs2 : List ColumnBuilder) : Type 0 where
+-- all tokens are one value, whose cells come after the rows
+pub record KeepsTokens (names : List (List ℕ)) (old : List Token) (weight : ℕ) (bs bs2 : List ColumnBuilder) : Type 0 where
   pub data_is : Data
   pub read : converted of_json (value 127 old) ≡ Some (data_is, [])
-  pub keeps : KeepsRow names data_is heavy bs bs2
+  pub keeps : KeepsRow names data_is weight bs bs2
 
--- the same of a line
-pub record KeepsLine (names : List (List ℕ)) (line : List ℕ) (heavy : ℕ) (bs bs2 : List ColumnBuilder) : Type 0 where
+-- a line is one value, whose cells come after the rows
+pub record KeepsLine (names : List (List ℕ)) (line : List ℕ) (weight : ℕ) (bs bs2 : List ColumnBuilder) : Type 0 where
   pub data_is : Data
   pub read : line_value line ≡ Ok data_is
-  pub keeps : KeepsRow names data_is heavy bs bs2
+  pub keeps : KeepsRow names data_is weight bs bs2

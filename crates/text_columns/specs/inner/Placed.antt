@@ -22,7 +22,7 @@ use Rattle.text_columns.specs.declared.builder.ColumnBuilder.{ColumnBuilder}
 use Rattle.text_columns.specs.declared.flat.FlatBuilder.{FlatBuilder}
 use Rattle.text_columns.specs.inner.Kept.{KeepAll, Keeps}
 
--- the validity bitmap of slots, which is empty where each is valid
+-- the validity bitmap of slots, which is empty if each is valid
 abbrev pub validity_of_bits : List Bool → List ℕ
 validity_of_bits valid = if list_all (λ b. b) valid then [] else packed valid
 
@@ -57,13 +57,13 @@ column_layout (Some d) values = dictionary_layout d.indices.items (and_array (en
 abbrev pub array_of : FlatBuilder → Array
 array_of b = array (length b.valid.items) (validity_in (has_validity b.coding b.values) b.valid.items) (column_layout b.coding b.values)
 
--- a buffer comes behind other bytes, and stands there whatever comes behind it
+-- a buffer comes after other bytes, and stays there whatever comes after it
 pub record IsAppended (old buffer new : List ℕ) (span : Span) : Type 0 where
   pub whole : new ≡ old ++ buffer
   pub stands : (more : List ℕ) → within (new ++ more) span ≡ buffer
   pub ends : (more : List ℕ) → ends_within (length (new ++ more)) span ≡ true
 
--- places as a layout, where so much is known of dictionaries
+-- places as a layout; `known` is what is known of dictionaries
 abbrev pub layout_by : (bytes : List ℕ) → (DictionaryPart → List Array) → PlacedLayout → Layout
 layout_by bytes known = fold-PlacedLayout Layout Array (layout_step bytes known) (array_step bytes)
 

@@ -34,7 +34,7 @@ begins_quoted xs = begins_with 34 xs
 abbrev pub AllBetween : (ℕ → Bool) → List ℕ → (from end : ℕ) → Type 0
 AllBetween p text from end = list_all p (take (end - from) (drop from text)) ≡ true
 
--- a field from a place up to another, where it does not begin with a quote
+-- a field from a place up to another, if it does not begin with a quote
 pub record IsFieldAt (text : List ℕ) (from end : ℕ) : Type 0 where
   pub low : from ≤ end
   pub high : end ≤ length text
@@ -58,17 +58,17 @@ pub record IsShortInteger (text : List ℕ) (from : ℕ) (s : ShortInteger) : Ty
 abbrev pub below_128 : ℕ → Bool
 below_128 b = nat_lt b 128
 
--- the bytes of a field up to a place, which are ASCII where the bits of all are below 128
+-- the bytes of a field up to a place, which are ASCII if the bits of all are below 128
 pub record IsScanned (text : List ℕ) (from at bits : ℕ) : Type 0 where
   pub plain : AllBetween (λ b. not (ends_field b)) text from at
   pub ascii : bits < 128 → AllBetween below_128 text from at
 
--- a field, whose bytes are ASCII where the bits of all are below 128
+-- a field, whose bytes are ASCII if the bits of all are below 128
 pub record IsTextAt (text : List ℕ) (from : ℕ) (t : TextField) : Type 0 where
   pub field : IsFieldAt text from t.end
   pub ascii : t.bits < 128 → is_utf8 (take (t.end - from) (drop from text)) ≡ true
 
--- a field without quotes, whose cell came behind those of a column
+-- a field without quotes, whose cell came after those of a column
 pub record PushesField (text null_text : List ℕ) (from : ℕ) (f : PlainField) (old new : ColumnBuilder) : Type 0 where
   pub field : IsFieldAt text from f.end
   pub unquoted : begins_quoted (drop from text) ≡ false
@@ -81,8 +81,8 @@ pub record SkipsEnds (text : List ℕ) (from next : ℕ) : Type 0 where
   pub ends : AllBetween ends_line text from next
   pub stops : next < length text → ends_line (slice_index text next) ≡ false
 
--- a record without quotes from a place on, with its line end
-pub record SkipsRecord (text : List ℕ) (from next : ℕ) : Type 0 where
+-- the header from a place on, with its line end, if it has no quotes
+pub record SkipsHeader (text : List ℕ) (from next : ℕ) : Type 0 where
   pub last : ℕ
   pub low : from ≤ last
   pub high : last < length text

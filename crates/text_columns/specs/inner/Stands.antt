@@ -22,12 +22,12 @@ pub record FollowsValue (line : List ℕ) (end : ℕ) (s : Stand) : Type 0 where
   pub no_colon : begins_colon (lex between (drop end line)) ≡ false
   pub same : punctuate after_value (lex between (drop end line)) ≡ tokens_at s.place (drop s.at line)
 
--- where a value or a key may begin, it begins with this token
+-- if a value or a key may begin, it begins with this token
 pub record Begins (line : List ℕ) (from : ℕ) (t : Token) (s : Stand) : Type 0 where
   pub within : s.at ≤ length line
   pub first : (p : lexer.Place) → may_begin p ≡ true → punctuate p (lex between (drop from line)) ≡ t ∷ tokens_at s.place (drop s.at line)
 
--- where a bracket may close, this one does
+-- if a bracket may close, this one does
 pub record Closes (line : List ℕ) (from : ℕ) (t : Token) (s : Stand) : Type 0 where
   pub within : s.at ≤ length line
   pub first : (p : lexer.Place) → may_close p ≡ true → punctuate p (lex between (drop from line)) ≡ t ∷ tokens_at s.place (drop s.at line)

@@ -10,7 +10,7 @@ use Rattle.text_columns.specs.declared.builder.ColumnBuilder.{ColumnBuilder}
 use Rattle.text_columns.specs.inner.Batches.{HoldRows}
 use Rattle.text_columns.specs.inner.Kept.{KeepAll}
 
--- a part that has the rows which the columns hold, n of them
+-- a part that has the `n` rows that the columns hold
 abbrev pub IsPartOf : List ColumnBuilder → ℕ → TablePart → Type 0
 IsPartOf columns n part =
     (s : PlainSchema) (rows : List (List Cell)) → KeepAll s.columns rows columns → length rows ≡ n → IsTable (record { schema = s; rows = rows })
@@ -22,7 +22,7 @@ pub record MakesRows (s : PlainSchema) (batches : Batches) : Type 0 where
   pub holds : HoldRows s rows batches
   pub table : IsTable (record { schema = s; rows = rows })
 
--- a table of the rows that the batches hold, where these are those of a table
+-- a table of the rows that the batches hold, if these are those of a table
 abbrev pub HasTable : PlainSchema → Batches → PlainTable → Type 0
 HasTable s batches table =
     (rows : List (List Cell)) → HoldRows s rows batches → IsTable (record { schema = s; rows = rows }) → table ≡ record { schema = s; rows = rows }

@@ -37,13 +37,13 @@ loop-i-init c =
 
 pub push_stretch-requires-clause-slots : goal.push_stretch-requires-clause-slots
 push_stretch-requires-clause-slots c =
-    omega (arith, c.loop-i.invariant.begins, c.run_end-end.ensures.begins, c.run_end-end.ensures.ends, c.requires.within)
+    omega (arith, c.loop-i.invariant.begins, c.run_to-end.ensures.begins, c.run_to-end.ensures.ends, c.requires.within)
 
 pub push_stretch-requires-clause-valid : goal.push_stretch-requires-clause-valid
 push_stretch-requires-clause-valid c = λ set.
-    let next = c.run_end-end.ensures.begins in
-    stretch_valid (view_array c.args.array) c.args.mask.now c.args.from c.args.at c.args.to c.loop-i.i c.run_end-end.result c.requires.valid c.loop-i.invariant.begins (omega (arith, next))
-    c.run_end-end.ensures.ends c.run_end-end.ensures.alike (sym c.get.ensures ∙ set)
+    let next = c.run_to-end.ensures.begins in
+    stretch_valid (view_array c.args.array) c.args.mask.now c.args.from c.args.at c.args.to c.loop-i.i c.run_to-end.result c.requires.valid c.loop-i.invariant.begins (omega (arith, next))
+    c.run_to-end.ensures.ends c.run_to-end.ensures.alike (sym c.get.ensures ∙ set)
 
 pub loop-i-preserved : goal.loop-i-preserved
 loop-i-preserved c =
@@ -51,19 +51,19 @@ loop-i-preserved c =
     let a : Array = view_array c.args.array in
     let list : ℕ → Cell = cell_at (list_column c.args.width item) a in
     let i : ℕ = c.loop-i.i in
-    let stop : ℕ = c.run_end-end.result in
+    let stop : ℕ = c.run_to-end.result in
     let p : ℕ = c.args.from + (i - c.args.at) in
     let made : List Cell = runs_cells item c.loop-i.items.items ++ cells_from (cell_at item (items_in a)) c.loop-i.start c.loop-i.len in
     let all : List Cell = flat_map item_list (cells_from list p (stop - i)) in
     let own : List Cell = if bit c.args.mask.now i then all else [] in
     let rest : List Cell = lists_under list c.args.mask.now (c.args.from + (stop - c.args.at)) stop (c.args.to - stop) in
     let low = c.loop-i.invariant.begins in
-    let next = c.run_end-end.ensures.begins in
+    let next = c.run_to-end.ensures.begins in
     let added = c.in_ok-span.ensures.cells ∙ ap (λ (b : Bool). made ++ (if b then all else [])) c.get.ensures in
-    let split = next_lists list c.args.mask.now c.args.from c.args.at i stop c.args.to low (omega (arith, next)) c.run_end-end.ensures.ends c.run_end-end.ensures.alike in
+    let split = next_lists list c.args.mask.now c.args.from c.args.at i stop c.args.to low (omega (arith, next)) c.run_to-end.ensures.ends c.run_to-end.ensures.alike in
     record {
       begins = omega (arith, low, next);
-      ends = c.run_end-end.ensures.ends;
+      ends = c.run_to-end.ensures.ends;
       within = c.in_ok-span.ensures.within;
       good = c.in_ok-span.ensures.good;
       cells = turned made own rest _ _ added (sym (ap (λ (xs : List Cell). made ++ xs) split) ∙ c.loop-i.invariant.cells);

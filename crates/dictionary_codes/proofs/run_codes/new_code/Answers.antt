@@ -16,7 +16,7 @@ use Rattle.columns.specs.Borrowed.{borrowed_cell}
 pub returns-clause-known : goal.returns-clause-known
 returns-clause-known c =
     let before : List Cell = seen_cells c.args.entries.now in
-    let after : List Cell = seen_cells c.number_of.new.self in
+    let after : List Cell = seen_cells c.number_by_guess.new.self in
     let own : List Cell = own_entries c.args.field.now c.args.slots.view in
     let z : ℤ = index_at (index_of c.args.slots.spec) (view_array c.args.slots.view) c.args.i in
     let cell : borrowed_cell c.value.result ≡ entry_at own z =

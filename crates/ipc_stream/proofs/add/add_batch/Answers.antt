@@ -16,7 +16,7 @@ overflow_add-front c =
     let known = c.requires.front in
     let given = c.in_ok-placed.ensures known.0 known.1 in
     let light = weight_fits laws c.args.bytes.now c.args.front.now known.0 (raw_batch_of c.args.raw.now) (within c.args.bytes.now c.args.body) given.0 c.in_ok-placed.placed known.1
-    (within_small c.args.bytes.now c.args.body c.bytes_are_small.ensures) given.2 in
+    (within_small c.args.bytes.now c.args.body (λ i. (c.type_inv.bytes i).fits)) given.2 in
     omega (arith, light)
 
 pub returns : goal.returns
@@ -24,5 +24,5 @@ returns c = λ k is.
     let laws : RowLaws = record { rows = c.read_rows_are_rows.ensures; readable = c.read_dictionaries_are_readable.ensures.known; bytes = c.read_dictionaries_have_bytes.ensures.known } in
     let given = c.in_ok-placed.ensures k is in
     batch_added laws c.args.bytes.now c.args.front.now _ k (raw_batch_of c.args.raw.now) (within c.args.bytes.now c.args.body) given.0 c.in_ok-placed.placed _ is
-    (within_small c.args.bytes.now c.args.body c.bytes_are_small.ensures) given.1 given.2
+    (within_small c.args.bytes.now c.args.body (λ i. (c.type_inv.bytes i).fits)) given.1 given.2
     (record { schema = refl; columns = refl; dictionaries = refl; batches = c.in_ok-push.ensures.items; arrays = refl; weight = refl }) refl

@@ -15,5 +15,5 @@ returns c = λ k is.
     let kept = c.in_ok-keep_array.ensures.within (length bytes) is.kept (c.in_ok-array.ensures.placed (length bytes) c.requires.fits) in
     dictionary_added (record { readable = c.read_dictionaries_are_readable.ensures.batch; bytes = c.read_dictionaries_have_bytes.ensures.batch }) bytes c.args.front.now _ k d body _
     c.lists_are_kept.ensures.0 is
-    (within_small bytes c.args.body c.bytes_are_small.ensures) read c.lists_are_kept.ensures.1
+    (within_small bytes c.args.body (λ i. (c.type_inv.bytes i).fits)) read c.lists_are_kept.ensures.1
     (record { schema = refl; columns = refl; batches = refl; weight = refl; effect = c.in_ok-keep_array.ensures.effect bytes k.dictionaries is.effect; keeps = c.in_ok-keep_array.ensures.parts; kept = kept })

@@ -15,7 +15,7 @@ use Rattle.store_changes.specs.inner.TableBuilder.{table_so_far}
 use Rattle.store_changes.specs.ReadSegment.{runs_in}
 use Rattle.store_runs.specs.Reading.{Unreads}
 use Rattle.store_changes.specs.laws.ReadTables.{reads_quiet}
-use Rattle.store_changes.proofs.ReadRows.{rows_are_read}
+use Rattle.store_changes.specs.laws.ReadRows.{rows_are_read}
 use Rattle.store_changes.proofs.reading.gather_entry.Goals as goal
 
 pub start_table-requires : goal.start_table-requires

@@ -11,7 +11,7 @@ use Rattle.store_runs.specs.Calls.{done, refused}
 use Rattle.store_changes.specs.inner.ReadRows.{ReadsRows, ReadsNext}
 use Rattle.store_changes.specs.inner.TableBuilder.{table_so_far}
 use Rattle.store_changes.specs.laws.ReadTables.{no_segment, at_place, placed_at, sound_at, unreads_step, reads_more, reads_none, image_then}
-use Rattle.store_changes.proofs.ReadRows.{no_rows, reads_none_of, reads_step}
+use Rattle.store_changes.specs.laws.ReadRows.{no_rows, reads_none_of, reads_step}
 use Rattle.store_changes.proofs.reading.read_segments.Goals as goal
 
 pub loop-place-init : goal.loop-place-init

@@ -14,7 +14,7 @@ use Rattle.store_runs.specs.Reading.{Unreads}
 use Rattle.store_changes.specs.ReadSegment.{runs_in}
 use Rattle.store_changes.specs.inner.ReadRows.{WeighsRows}
 use Rattle.store_changes.specs.laws.ReadTables.{reads_quiet}
-use Rattle.store_changes.proofs.ReadRows.{rows_are_read}
+use Rattle.store_changes.specs.laws.ReadRows.{rows_are_read}
 use Rattle.store_changes.proofs.weighing.weigh_entry.Goals as goal
 
 pub encode_schema-requires : goal.encode_schema-requires

@@ -6,7 +6,7 @@ use Rattle.commit.specs.Standing.{is_size}
 use Rattle.store_runs.specs.Calls.{done, refused}
 use Rattle.store_changes.specs.inner.ReadRows.{WeighsRows}
 use Rattle.store_changes.specs.laws.ReadTables.{no_segment, at_place, placed_at, sound_at, unreads_step, reads_more, reads_none, image_then}
-use Rattle.store_changes.proofs.ReadRows.{no_rows, reads_none_of, reads_step}
+use Rattle.store_changes.specs.laws.ReadRows.{no_rows, reads_none_of, reads_step}
 use Rattle.store_changes.proofs.weighing.weigh_segments.Goals as goal
 
 pub loop-place-init : goal.loop-place-init

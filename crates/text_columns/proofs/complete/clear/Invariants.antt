@@ -4,5 +4,5 @@ use Rattle.text_columns.proofs.complete.clear.Given as goal
 
 abbrev pub invariant-loop-i : goal.invariant-loop-i
 invariant-loop-i l = record {
-  none : (j : ℕ) (w : Option ℕ) → j < l.i → slice_get l.heavies j ≡ Some w → w ≡ None;
+  none : (j : ℕ) (w : Option ℕ) → j < l.i → slice_get l.weights j ≡ Some w → w ≡ None;
 }

@@ -10,5 +10,5 @@ abbrev pub invariant-loop-i : goal.invariant-loop-i
 invariant-loop-i l = record {
   some : 1 ≤ l.weight;
   few : l.weight ≤ 16777216;
-  half : (cs : List Column) (rows : List (List Cell)) (found : Members) → HoldMembers cs rows found l.heavies l.initial.builders → NamedHalf cs found rows l.i l.weight l.heavies l.builders;
+  half : (cs : List Column) (rows : List (List Cell)) (found : Members) → HoldMembers cs rows found l.weights l.initial.builders → NamedHalf cs found rows l.i l.weight l.weights l.builders;
 }

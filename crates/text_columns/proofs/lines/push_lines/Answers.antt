@@ -23,14 +23,14 @@ loop-left-preserved-then-is_blank c =
 pub loop-left-preserved : goal.loop-left-preserved
 loop-left-preserved c =
     let s = schema_of c.args.schema.now in
-    let taken = rw c.in-Some-2.is at c.in_ok-heavy.ensures.kept in
-    let light = rw c.in-Some-2.is at c.in_ok-heavy.ensures.few in
-    let adds = rw c.in-Some-2.is at c.in_ok-heavy.ensures.adds in
+    let taken = rw c.in-Some-2.is at c.in_ok-row_weight.ensures.kept in
+    let light = rw c.in-Some-2.is at c.in_ok-row_weight.ensures.few in
+    let adds = rw c.in-Some-2.is at c.in_ok-row_weight.ensures.adds in
     let same = c.in_ok-make_room.ensures c.if-not-branch.false in
     record {
-      few = omega (arith, c.loop-left.invariant.few, c.if-heavy-weight.false);
+      few = omega (arith, c.loop-left.invariant.few, c.if-row_weight-weight.false);
       read = λ named holds.
-          lines_more s (key_list c.args.names.now.keys) (lines_left (Some c.args.text)) (lines_left c.loop-left.left) (lines_left c.first_line.result.behind) c.loop-left.weight c.in-Some-2.heavy
+          lines_more s (key_list c.args.names.now.keys) (lines_left (Some c.args.text)) (lines_left c.loop-left.left) (lines_left c.first_line.result.behind) c.loop-left.weight c.in-Some-2.row_weight
           c.first_line.result.line.now c.make_room.new.self c.push_row.new.batches (ap lines_left c.in-Some.is ∙ c.first_line.ensures.line)
           (ap is_blank (sym c.as_bytes.ensures.value) ∙ sym c.is_blank.ensures ∙ c.if-is_blank.false) named c.requires light taken adds
           (lines_same s (lines_left (Some c.args.text)) (lines_left c.loop-left.left) c.loop-left.weight c.loop-left.batches c.make_room.new.self same (c.loop-left.invariant.read named holds));

@@ -18,7 +18,7 @@ loop-i-preserved c =
     let more =
     begun_more c.args.text.now c.args.null_text.now c.args.from c.loop-i.at c.in-Some.field.end i c.loop-i.weight c.in-Some.field.weight c.args.builders.now bs b c.push_plain_field.new.builder c.loop-i.invariant.begun
     pushed.field pushed.unquoted here pushed.keeps (sym c.goes_on.ensures ∙ c.if-not-goes_on.false) in
-    record { some = omega (arith, c.loop-i.invariant.some); few = omega (arith, c.loop-i.invariant.few, c.if-heavy-weight.false); within = more.within; begun = more }
+    record { some = omega (arith, c.loop-i.invariant.some); few = omega (arith, c.loop-i.invariant.few, c.if-cell_weight-weight.false); within = more.within; begun = more }
 
 pub returns-then-not-goes_on-clause-pushed : goal.returns-then-not-goes_on-clause-pushed
 returns-then-not-goes_on-clause-pushed c =

@@ -18,12 +18,12 @@ loop-i-preserved c =
     let here : slice_get bs i ≡ Some old = slice_get-get_or bs i old within ∙ ap Some (sym c.index-builders-i.is) in
     let inside : i < length ts = omega (arith, within, c.requires, c.loop-i.auto.builders) in
     let text : slice_get ts i ≡ Some c.record_field.result.now = slice_get-get_or ts i _ inside ∙ ap Some (sym c.record_field.ensures) in
-    let taken = rw (c.in-Some.is, ← c.index-builders-i.is) at c.in_ok-heavy.ensures in
+    let taken = rw (c.in-Some.is, ← c.index-builders-i.is) at c.in_ok-cell_weight.ensures in
     record {
       some = omega (arith, c.loop-i.invariant.some);
-      few = omega (arith, c.loop-i.invariant.few, c.if-heavy-weight.false);
+      few = omega (arith, c.loop-i.invariant.few, c.if-cell_weight-weight.false);
       half = λ cs rows keeps.
-          half_more cs c.args.null_text.now ts rows i c.loop-i.weight c.in-Some.heavy bs old c.push_field.new.self c.record_field.result.now here text taken (c.loop-i.invariant.half cs rows keeps);
+          half_more cs c.args.null_text.now ts rows i c.loop-i.weight c.in-Some.cell_weight bs old c.push_field.new.self c.record_field.result.now here text taken (c.loop-i.invariant.half cs rows keeps);
     }
 
 pub returns-clause-kept : goal.returns-clause-kept

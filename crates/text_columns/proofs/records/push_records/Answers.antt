@@ -37,21 +37,21 @@ returns-in_default c =
 
 pub loop-index-preserved : goal.loop-index-preserved
 loop-index-preserved c =
-    let taken = rw c.in-Some.is at c.in_ok-heavy.ensures.kept in
-    let light = rw c.in-Some.is at c.in_ok-heavy.ensures.few in
-    let adds = rw c.in-Some.is at c.in_ok-heavy.ensures.adds in
+    let taken = rw c.in-Some.is at c.in_ok-row_weight.ensures.kept in
+    let light = rw c.in-Some.is at c.in_ok-row_weight.ensures.few in
+    let adds = rw c.in-Some.is at c.in_ok-row_weight.ensures.adds in
     let same = c.in_ok-make_room.ensures c.if-not-branch-2.false in
     let roomy = c.make_room.new.self in
     let s = schema_of c.args.schema.now in
     let i = c.loop-index.index in
     let fields = fields_of c.read_next.new.row in
     record {
-      few = omega (arith, c.loop-index.invariant.few, c.if-heavy-weight.false);
+      few = omega (arith, c.loop-index.invariant.few, c.if-row_weight-weight.false);
       read = λ records has few holds.
           let h = read_same (ByReader c.loop-index.reader i c.args.most) s c.args.null_text.now records i c.loop-index.weight c.loop-index.batches roomy same (c.loop-index.invariant.read records has few holds) in
           let (others, whole, left) = taken_some h.left c.in_ok-read_next.field-0 fields c.read_next.new.reader (c.in_ok-read_next.ensures h.left h.stands.0) c.if-not-branch.false in
           read_more (ByReader c.loop-index.reader i c.args.most) (ByReader c.read_next.new.reader (i + 1) c.args.most) s c.args.null_text.now records others i c.loop-index.weight
-          c.in-Some.heavy roomy c.push_row.new.batches fields h whole (left, left_behind h.left others fields i c.args.most whole h.stands.1) light taken adds;
+          c.in-Some.row_weight roomy c.push_row.new.batches fields h whole (left, left_behind h.left others fields i c.args.most whole h.stands.1) light taken adds;
     }
 
 pub returns : goal.returns

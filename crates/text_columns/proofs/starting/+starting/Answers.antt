@@ -8,8 +8,8 @@ use Rattle.arrow_schema.specs.declared.types.Field.{the_lemmas as field_lemmas, 
 use Rattle.text_columns.proofs.Starts.{fixed_lists_step, fixed_null, large_lists_step, lists_step, structs_step}
 use Rattle.text_columns.proofs.starting.+starting.Goals as goal
 
-pub no_lists-returns : goal.no_lists-returns
-no_lists-returns t c =
+pub empty_lists-returns : goal.empty_lists-returns
+empty_lists-returns t c =
     let own = rw c.in-Some.is at c.in_ok-items.ensures in
     record {
       slots = _;
@@ -25,8 +25,8 @@ no_lists-returns t c =
       below = rw c.in_ok-new.ensures.ok own.1;
     }
 
-pub no_fixed_lists-returns : goal.no_fixed_lists-returns
-no_fixed_lists-returns t c =
+pub empty_fixed_lists-returns : goal.empty_fixed_lists-returns
+empty_fixed_lists-returns t c =
     let own = rw c.in-Some.is at c.in_ok-items.ensures in
     record {
       slots = _;
@@ -40,28 +40,28 @@ no_fixed_lists-returns t c =
       below = rw c.in_ok-new.ensures.ok own.1;
     }
 
-pub no_plain_cells-returns-in-List : goal.no_plain_cells-returns-in-List
-no_plain_cells-returns-in-List t c =
+pub empty_plain_column-returns-in-List : goal.empty_plain_column-returns-in-List
+empty_plain_column-returns-in-List t c =
     let kind : kind_of c.args.field.now.data_type ≡ lists (column_of c.in-List.item.value) = rw c.in-List.is (search (rules, field_lemmas)) in
-    lists_step c.args.field.now (column_of c.in-List.item.value) c.no_lists.result kind c.requires (rw c.deref.ensures at c.no_lists.ensures)
+    lists_step c.args.field.now (column_of c.in-List.item.value) c.empty_lists.result kind c.requires (rw c.deref.ensures at c.empty_lists.ensures)
 
-pub no_plain_cells-returns-in-LargeList : goal.no_plain_cells-returns-in-LargeList
-no_plain_cells-returns-in-LargeList t c =
+pub empty_plain_column-returns-in-LargeList : goal.empty_plain_column-returns-in-LargeList
+empty_plain_column-returns-in-LargeList t c =
     let kind : kind_of c.args.field.now.data_type ≡ large_lists (column_of c.in-LargeList.item.value) = rw c.in-LargeList.is (search (rules, field_lemmas)) in
-    large_lists_step c.args.field.now (column_of c.in-LargeList.item.value) c.no_lists-in-LargeList.result kind c.requires (rw c.deref-in-LargeList.ensures at c.no_lists-in-LargeList.ensures)
+    large_lists_step c.args.field.now (column_of c.in-LargeList.item.value) c.empty_lists-in-LargeList.result kind c.requires (rw c.deref-in-LargeList.ensures at c.empty_lists-in-LargeList.ensures)
 
-pub no_plain_cells-returns-in-FixedSizeList : goal.no_plain_cells-returns-in-FixedSizeList
-no_plain_cells-returns-in-FixedSizeList t c =
+pub empty_plain_column-returns-in-FixedSizeList : goal.empty_plain_column-returns-in-FixedSizeList
+empty_plain_column-returns-in-FixedSizeList t c =
     let kind : kind_of c.args.field.now.data_type ≡ fixed_lists c.in-FixedSizeList.size (column_of c.in-FixedSizeList.item.value) = rw c.in-FixedSizeList.is (search (rules, field_lemmas)) in
-    fixed_lists_step c.args.field.now c.in-FixedSizeList.size (column_of c.in-FixedSizeList.item.value) c.no_fixed_lists.result kind c.requires (rw c.deref-in-FixedSizeList.ensures at c.no_fixed_lists.ensures)
+    fixed_lists_step c.args.field.now c.in-FixedSizeList.size (column_of c.in-FixedSizeList.item.value) c.empty_fixed_lists.result kind c.requires (rw c.deref-in-FixedSizeList.ensures at c.empty_fixed_lists.ensures)
 
-pub no_plain_cells-returns-in-Struct : goal.no_plain_cells-returns-in-Struct
-no_plain_cells-returns-in-Struct t c =
+pub empty_plain_column-returns-in-Struct : goal.empty_plain_column-returns-in-Struct
+empty_plain_column-returns-in-Struct t c =
     let kind : kind_of c.args.field.now.data_type ≡ structs (columns_of (map column_of c.in-Struct.fields.items)) = rw c.in-Struct.is (search (rules, field_lemmas)) in
-    structs_step c.args.field.now (map column_of c.in-Struct.fields.items) c.no_structs.result kind c.requires (rw c.deref-in-Struct.ensures.value at c.no_structs.ensures)
+    structs_step c.args.field.now (map column_of c.in-Struct.fields.items) c.empty_structs.result kind c.requires (rw c.deref-in-Struct.ensures.value at c.empty_structs.ensures)
 
-pub no_structs-returns : goal.no_structs-returns
-no_structs-returns t c =
+pub empty_structs-returns : goal.empty_structs-returns
+empty_structs-returns t c =
     let names = rw c.in-Some-2.is at c.in_ok-names.ensures in
     record {
       slots = _;
@@ -73,12 +73,12 @@ no_structs-returns t c =
       null_weighs = rw c.deref.ensures.value at c.in-Some-nulls_weight.ensures;
       names_are = rw c.in_ok-own.ensures names.0;
       distinct = names.1;
-      unlimited = c.has_limits.ensures c.if-has_limits.false;
+      unlimited = c.have_own_limit.ensures c.if-have_own_limit.false;
       keeps = rw c.in-Some.is at c.in_ok-builders.ensures;
     }
 
-pub no_rows-loop-field-preserved : goal.no_rows-loop-field-preserved
-no_rows-loop-field-preserved t c =
+pub empty_columns-loop-field-preserved : goal.empty_columns-loop-field-preserved
+empty_columns-loop-field-preserved t c =
     let f = c.field-item.result in
     let i = c.loop-field.field-index in
     let before = take i c.args.fields.now in
@@ -91,7 +91,7 @@ no_rows-loop-field-preserved t c =
       room = omega (arith, c.push_reserved.ensures.capacity, c.loop-field.invariant.room);
     }
 
-pub no_rows-returns : goal.no_rows-returns
-no_rows-returns t c =
+pub empty_columns-returns : goal.empty_columns-returns
+empty_columns-returns t c =
     let all = take_all c.loop-field.field-index c.args.fields.now c.loop-field-test.false in
     subst (λ (fs : List Field). KeepAll (map column_of fs) [] c.loop-field.builders.items) all c.loop-field.invariant.keep

@@ -11,25 +11,25 @@ pub build_table-requires : goal.build_table-requires
 build_table-requires c =
     let s = schema_of c.args.schema.now in
     let stated = jsonl_rows_of s c.args.text.now in
-    let read = rw c.in-Some.is at c.in_ok-columns.ensures in
-    makes_rows s stated c.in-Some.columns.weight c.in-Some.columns.batches c.requires (c.rows_of_texts_are_rows.ensures.jsonl s c.args.text.now) read
+    let read = rw c.in-Some.is at c.in_ok-read.ensures in
+    makes_rows s stated c.in-Some.read.weight c.in-Some.read.batches c.requires (c.rows_of_texts_are_rows.ensures.jsonl s c.args.text.now) read
 
 pub returns : goal.returns
 returns c =
     let s = schema_of c.args.schema.now in
     let stated = jsonl_rows_of s c.args.text.now in
-    let read = rw c.in-Some.is at c.in_ok-columns.ensures in
+    let read = rw c.in-Some.is at c.in_ok-read.ensures in
     let told =
-    table_told s stated c.in-Some.columns.weight c.in-Some.columns.batches (table_of c.in_ok-table.table) c.requires (c.rows_of_texts_are_rows.ensures.jsonl s c.args.text.now) read
+    table_told s stated c.in-Some.read.weight c.in-Some.read.batches (table_of c.in_ok-table.table) c.requires (c.rows_of_texts_are_rows.ensures.jsonl s c.args.text.now) read
     c.in_ok-table.ensures.rows in
-    record { read = told.read; schema = told.schema; weight = told.weight; in_parts = c.in_ok-table.ensures.in_parts }
+    record { read = told.read; schema = told.schema; weight = told.weighs; in_parts = c.in_ok-table.ensures.in_parts }
 
 pub invariant_of-result : goal.invariant_of-result
 invariant_of-result c =
     let s = schema_of c.args.schema.now in
     let stated = jsonl_rows_of s c.args.text.now in
-    let read = rw c.in-Some.is at c.in_ok-columns.ensures in
+    let read = rw c.in-Some.is at c.in_ok-read.ensures in
     let told =
-    table_told s stated c.in-Some.columns.weight c.in-Some.columns.batches (table_of c.in_ok-table.table) c.requires (c.rows_of_texts_are_rows.ensures.jsonl s c.args.text.now) read
+    table_told s stated c.in-Some.read.weight c.in-Some.read.batches (table_of c.in_ok-table.table) c.requires (c.rows_of_texts_are_rows.ensures.jsonl s c.args.text.now) read
     c.in_ok-table.ensures.rows in
-    record { weighs = told.weight ∙ sym (ap (λ (t : PlainSchema). table_weight t (table_of c.in_ok-table.table).rows) told.schema) }
+    record { weighs = told.weighs ∙ sym (ap (λ (t : PlainSchema). table_weight t (table_of c.in_ok-table.table).rows) told.schema) }

@@ -4,5 +4,5 @@ use Rattle.text_columns.proofs.coding.Coding.push_token.Goals as goal
 
 pub returns-then-branch : goal.returns-then-branch
 returns-then-branch c =
-    token_coded (token_of c.args.token) c.in-Some.heavy c.args.self.now c.code.new.self c.args.entries.now c.code.new.entries c.clear.new.self c.push_token.new.self c.in_ok-clear.ensures
-    (rw c.in-Some.is at c.in_ok-heavy.ensures) (c.in_ok-code.ensures c.if-branch.true)
+    token_coded (token_of c.args.token) c.in-Some.weight c.args.self.now c.code.new.self c.args.entries.now c.code.new.entries c.clear.new.self c.push_token.new.self c.in_ok-clear.ensures
+    (rw c.in-Some.is at c.in_ok-weight.ensures) (c.in_ok-code.ensures c.if-branch.true)

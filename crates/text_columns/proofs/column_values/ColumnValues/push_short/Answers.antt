@@ -8,5 +8,5 @@ use Rattle.text_columns.proofs.column_values.ColumnValues.push_short.Goals as go
 
 pub returns-in-Integers : goal.returns-in-Integers
 returns-in-Integers c = λ text is.
-    subst (λ (v : ColumnValues). IfOk c.push_short.result (λ taken. IfSome taken (λ heavy. TakesText text heavy v (Integers c.in-Integers.integer c.push_short.new.values)))) (sym c.in-Integers.is)
+    subst (λ (v : ColumnValues). IfOk c.push_short.result (λ taken. IfSome taken (λ weight. TakesText text weight v (Integers c.in-Integers.integer c.push_short.new.values)))) (sym c.in-Integers.is)
     (integer_step c.in-Integers.integer text c.in-Integers.values c.push_short.new.values c.push_short.result (c.push_short.ensures text is))

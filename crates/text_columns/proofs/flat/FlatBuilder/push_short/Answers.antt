@@ -10,5 +10,5 @@ returns-then-is_null c =
 pub returns : goal.returns
 returns c =
     let new : FlatBuilder = record { nullable = c.args.self.now.nullable; valid = c.push.new.self; values = c.push_short.new.values; coding = c.push_short.new.coding } in
-    field_kept c.args.null_text.now c.args.text.now c.in-Some.heavy c.args.self.now new (sym c.is_null.ensures ∙ c.if-is_null.false) refl c.in_ok-push.ensures.items
-    (rw c.in-Some.is at (c.in_ok-heavy.ensures c.args.text.now c.requires))
+    field_kept c.args.null_text.now c.args.text.now c.in-Some.weight c.args.self.now new (sym c.is_null.ensures ∙ c.if-is_null.false) refl c.in_ok-push.ensures.items
+    (rw c.in-Some.is at (c.in_ok-weight.ensures c.args.text.now c.requires))
