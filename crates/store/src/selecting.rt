@@ -193,9 +193,41 @@ fn answer_query<D: SectorDevice>(
 
 impl<D: SectorDevice> Store<D> {
     ghost use Rattle.catalogue.specs.Edits.{entry_of};
-    ghost use Rattle.store.specs.Fits.{device_of, listed_in, is_halted};
+    ghost use Rattle.tables.specs.Tables.{Tables};
+    ghost use Rattle.store_runs.specs.Calls.{read_call, table_is, refused};
+    ghost use Rattle.store_runs.specs.Machine.{Machine};
+    ghost use Rattle.store.specs.Fits.{StoreFits, device_of, listed_in, is_halted};
+    ghost use Rattle.store.specs.Applying.{GoesOn};
     ghost use Rattle.store_runs.specs.Reading.{RefusesRead, ReadsTable};
     ghost use Rattle.store.specs.Reading.{OnlyReadsStore};
+
+    // Answers a query of the table with this name, on any store.
+    fn lines_named(
+        &mut self,
+        alloc: Global,
+        name: &str,
+        query: &Query,
+        form: RowForm,
+    ) -> Result<Result<Vec<u8>, QueryError>, Refusal>
+        ensures answers { IfOk result (λ answer. (t : PlainTable) × ReadsTable (is_halted self.old) D.tells
+            (shown_image (now (D.story (device_of self.old)))) (entry_of (listed_in self.old) name.now) t × AnswersQuery form t (query_in query.now) answer) }
+        ensures told { IfErr result (RefusesRead (is_halted self.old) D.tells (shown_image (now (D.story (device_of self.old))))
+            (entry_of (listed_in self.old) name.now)) }
+        ensures reads { OnlyReadsStore D.size D.story D.failed D.tells (ended result) self.old self.new }
+    {
+        if self.halted {
+            return Err(Refusal::Halted);
+        }
+        let opened = &self.opened;
+        match opened.catalogue.list.get(name) {
+            Some(entry) => {
+                let answer = answer_query(alloc, &mut self.device, entry, query, form);
+                self.halted = halts(&answer);
+                answer
+            }
+            None => Err(Refusal::NoTable),
+        }
+    }
 
     /// Returns a line in this form for each row that a query selects from the table with this name, or why the query is refused. Only reads. The whole
     /// table is read in either case, and one segment of it is in memory at a time.
@@ -214,6 +246,12 @@ impl<D: SectorDevice> Store<D> {
         query: &Query,
         form: RowForm,
     ) -> Result<Result<Vec<u8>, QueryError>, Refusal>
+        // On a store that represents a machine, it is the answer of the table of the settled commands, which a read returns.
+        ensures goes { IfOk result (λ answer. D.tells ≡ true → (base : Tables) (m : Machine) → StoreFits D.size D.story base m self.old
+            → (t : PlainTable) × AnswersQuery form t (query_in query.now) answer
+            × GoesOn D.size D.story D.failed base m (read_call name.now) (table_is t) self.old self.new) }
+        ensures refused { IfErr result (λ e. D.tells ≡ true → (base : Tables) (m : Machine) → StoreFits D.size D.story base m self.old
+            → GoesOn D.size D.story D.failed base m (read_call name.now) (refused e) self.old self.new) }
         // On any store, it is the answer of the table that reads show of the entry in the catalogue.
         ensures answers { IfOk result (λ answer. (t : PlainTable) × ReadsTable (is_halted self.old) D.tells
             (shown_image (now (D.story (device_of self.old)))) (entry_of (listed_in self.old) name.now) t × AnswersQuery form t (query_in query.now) answer) }
@@ -221,17 +259,10 @@ impl<D: SectorDevice> Store<D> {
             (entry_of (listed_in self.old) name.now)) }
         ensures reads { OnlyReadsStore D.size D.story D.failed D.tells (ended result) self.old self.new }
     {
-        if self.halted {
-            return Err(Refusal::Halted);
-        }
-        let opened = &self.opened;
-        match opened.catalogue.list.get(name) {
-            Some(entry) => {
-                let answer = answer_query(alloc, &mut self.device, entry, query, form);
-                self.halted = halts(&answer);
-                answer
-            }
-            None => Err(Refusal::NoTable),
+        table_laws();
+        match self.lines_named(alloc, name, query, form) {
+            Ok(answer) => Ok(answer),
+            Err(refusal) => Err(refusal),
         }
     }
 }
