@@ -5,7 +5,7 @@ ghost use Rattle.sector_dev.specs.Disk.{now, shown_image};
 ghost use Rattle.arrow_schema.specs.Limits.{IsWithinLimits};
 ghost use Rattle.arrow_schema.specs.View.{schema_of};
 ghost use Rattle.cells.specs.Cell.{PlainTable};
-ghost use Rattle.catalogue.specs.Entries.{plain_entry, is_entry, IsCatalogue};
+ghost use Rattle.catalogue.specs.Entries.{plain_entry, is_entry, IsCatalogue, runs_in_segments};
 ghost use Rattle.catalogue.specs.View.{catalogue_of};
 ghost use Rattle.commit.specs.Standing.{is_size, all_on_device};
 ghost use Rattle.query.specs.View.{query_in};
@@ -17,7 +17,6 @@ ghost use Rattle.store_changes.specs.Change.{change_of, IsPut};
 ghost use Rattle.store_runs.specs.Changes.{CanChange};
 ghost use Rattle.store_runs.specs.Deciding.{create_tests, unselected, selected_entry, decided_selection};
 ghost use Rattle.store_runs.specs.Reading.{OnlyReadsDevice, ended};
-ghost use Rattle.store_changes.specs.ReadSegment.{runs_in};
 ghost use Rattle.store.specs.inner.Saving.{IsSelected};
 ghost use Rattle.store_changes.specs.Tests.{decision_of};
 
@@ -101,7 +100,7 @@ fn save_from_entry<D: SectorDevice>(
     query: &Query,
 ) -> Result<Change, Refusal>
     requires size { is_size (D.size device.old) ≡ true }
-    requires placed { all_on_device (D.size device.old) (runs_in (plain_entry entry.now).segments) ≡ true }
+    requires placed { all_on_device (D.size device.old) (runs_in_segments (plain_entry entry.now).segments) ≡ true }
     requires sound { is_entry (plain_entry entry.now) ≡ true }
     ensures reads { OnlyReadsDevice D.size D.story D.failed D.tells (ended result) device.old device.new }
     ensures ok { IfOk result (λ change. CanChange (catalogue_of catalogue.now) (change_of change)) }

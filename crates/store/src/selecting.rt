@@ -11,13 +11,13 @@ ghost use Rattle.cells.specs.declared.limits.TheConstants.{MAX_TABLE_WEIGHT};
 ghost use Rattle.values.specs.Table.{IsTable};
 ghost use Rattle.values.specs.TableView.{table_of};
 ghost use Rattle.ipc_write.specs.Written.{schema_message};
-ghost use Rattle.catalogue.specs.Entries.{is_segment, is_entry, plain_entry};
+ghost use Rattle.catalogue.specs.Entries.{is_segment, is_entry, plain_entry, runs_in_segments};
 ghost use Rattle.commit.specs.Standing.{is_size, is_on_device, all_on_device};
 ghost use Rattle.query.specs.View.{query_in};
 ghost use Rattle.selection.specs.LinePrinter.{PlainPrinter, PrintsOf, printer_in, printed_lines, printer_after};
 ghost use Rattle.store_runs.specs.Changes.{rows_under};
 ghost use Rattle.store_runs.specs.Reading.{IsRead, Unreads, OnlyReadsDevice, ended};
-ghost use Rattle.store_changes.specs.ReadSegment.{UnreadsSegment, runs_in};
+ghost use Rattle.store_changes.specs.ReadSegment.{UnreadsSegment};
 ghost use Rattle.store_changes.specs.inner.ReadRows.{ReadsRows, ReadsNext};
 ghost use Rattle.store.specs.Selecting.{AnswersQuery};
 ghost use Rattle.store.specs.inner.Selecting.{PrintsUnder, HasLines};
@@ -113,7 +113,7 @@ fn print_segments<D: SectorDevice>(
     printer: LinePrinter,
 ) -> Result<Vec<u8>, Refusal>
     requires size { is_size (D.size device.old) ≡ true }
-    requires placed { all_on_device (D.size device.old) (runs_in segments.now) ≡ true }
+    requires placed { all_on_device (D.size device.old) (runs_in_segments segments.now) ≡ true }
     requires sound { list_all is_segment segments.now ≡ true }
     requires prints { PrintsUnder (printer_in printer) front.now }
     ensures reads { OnlyReadsDevice D.size D.story D.failed D.tells (ended result) device.old device.new }
@@ -145,7 +145,7 @@ fn print_entry<D: SectorDevice>(
     printer: LinePrinter,
 ) -> Result<Vec<u8>, Refusal>
     requires size { is_size (D.size device.old) ≡ true }
-    requires placed { all_on_device (D.size device.old) (runs_in (plain_entry entry.now).segments) ≡ true }
+    requires placed { all_on_device (D.size device.old) (runs_in_segments (plain_entry entry.now).segments) ≡ true }
     requires sound { is_entry (plain_entry entry.now) ≡ true }
     requires prints { PrintsOf (printer_in printer) (plain_entry entry.now).schema.columns }
     ensures reads { OnlyReadsDevice D.size D.story D.failed D.tells (ended result) device.old device.new }
@@ -172,7 +172,7 @@ fn answer_query<D: SectorDevice>(
     form: RowForm,
 ) -> Result<Result<Vec<u8>, QueryError>, Refusal>
     requires size { is_size (D.size device.old) ≡ true }
-    requires placed { all_on_device (D.size device.old) (runs_in (plain_entry entry.now).segments) ≡ true }
+    requires placed { all_on_device (D.size device.old) (runs_in_segments (plain_entry entry.now).segments) ≡ true }
     requires sound { is_entry (plain_entry entry.now) ≡ true }
     ensures reads { OnlyReadsDevice D.size D.story D.failed D.tells (ended result) device.old device.new }
     ensures answers { IfOk result (λ answer. (t : PlainTable) × IsRead D.tells (shown_image (now (D.story device.old))) (plain_entry entry.now) t
