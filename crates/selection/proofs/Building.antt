@@ -1,18 +1,16 @@
 -- The selection of a part more.
 use Rattle.std.specs.Prelude.{Option, Some, None}
-use Rattle.std.specs.List.{list_all}
-use Rattle.std.proofs.Common.{◌≡◌, ◌==◌, ◌-◌, ◌≤◌, ℕ, true, List, [], ◌∷◌, ◌++◌, map, length, take, drop, refl, sym, ap, subst, ◌∙◌, arith}
-use Rattle.std.proofs.lemmas.Bool.{and_from}
+use Rattle.std.proofs.Common.{◌≡◌, ◌==◌, ◌-◌, ◌≤◌, ℕ, suc, true, List, [], ◌∷◌, ◌++◌, map, length, take, drop, refl, sym, ap, subst, ◌∙◌, arith}
+use Rattle.std.proofs.lemmas.Bool.{eqb-true}
 use Rattle.std.proofs.lemmas.Grind.{flat_map-append}
 use Rattle.std.proofs.lemmas.List.{append-nil, take-take, take-append-drop}
-use Rattle.std.proofs.lemmas.List.Folds.{list_all-append}
-use Rattle.arrow_schema.specs.Column.{Columns, PlainSchema, columns_of}
+use Rattle.arrow_schema.specs.Column.{PlainSchema, columns_of}
 use Rattle.cells.specs.Cell.{Cell, PlainTable}
 use Rattle.query.specs.BoundQuery.{PlainBoundQuery, rows_held, rows_selected, limit_after, query_after}
 use Rattle.query.specs.Selection.{pick, limited}
 use Rattle.query.specs.laws.Limits.{limit_counted}
 use Rattle.selection.specs.SelectionBuilder.{PlainBuilder, builder_after, SelectsOf}
-use Rattle.values.specs.Parts.{part_rows, parts_rows, parts_table, is_batch_sound, are_parts_sound}
+use Rattle.values.specs.Parts.{part_rows, parts_rows, parts_table}
 use Rattle.values.specs.Table.{IsTable}
 use Rattle.values.specs.declared.table_part.TablePart.{TablePart}
 
@@ -49,18 +47,12 @@ part_built b rows own all limit n are joined left count =
 
 pub none_of : {X : Type 0} (xs : List X) → (length xs == 0) ≡ true → xs ≡ []
 none_of [] h = refl
-none_of (x ∷ xs) h = absurd (cc h)
+none_of (x ∷ xs) h = let no : suc (length xs) ≡ 0 = eqb-true (suc (length xs)) 0 h in absurd (omega (arith, no))
 
--- the record batches of a part more
-module _ (s : PlainSchema) (a b all : List TablePart) (t : PlainTable) (same : t.schema ≡ s) (is : t ≡ parts_table t.schema b) (joined : all ≡ a ++ b) where
-  pub more_rows : parts_rows (columns_of s.columns) all ≡ parts_rows (columns_of s.columns) a ++ t.rows
-  more_rows =
-      ap (parts_rows (columns_of s.columns)) joined
-      ∙ flat_map-append (part_rows (columns_of s.columns)) a b
-      ∙ ap (λ (rows : List (List Cell)). parts_rows (columns_of s.columns) a ++ rows) (sym (ap (λ (x : PlainTable). x.rows) is ∙ ap (λ (x : PlainSchema). parts_rows (columns_of x.columns) b) same))
-
-  pub more_sound : are_parts_sound (columns_of s.columns) a ≡ true → are_parts_sound (columns_of t.schema.columns) b ≡ true → are_parts_sound (columns_of s.columns) all ≡ true
-  more_sound own other =
-      ap (are_parts_sound (columns_of s.columns)) joined
-      ∙ list_all-append (λ (p : TablePart). list_all (is_batch_sound (columns_of s.columns) p) p.batches.items) a b
-      ∙ and_from _ _ own (subst (λ (x : PlainSchema). are_parts_sound (columns_of x.columns) b ≡ true) same other)
+-- the rows of a part more
+pub more_rows : (s : PlainSchema) (a b all : List TablePart) (t : PlainTable) → t.schema ≡ s → t ≡ parts_table t.schema b → all ≡ a ++ b
+    → parts_rows (columns_of s.columns) all ≡ parts_rows (columns_of s.columns) a ++ t.rows
+more_rows s a b all t same is joined =
+    ap (parts_rows (columns_of s.columns)) joined
+    ∙ flat_map-append (part_rows (columns_of s.columns)) a b
+    ∙ ap (λ (rows : List (List Cell)). parts_rows (columns_of s.columns) a ++ rows) (sym (ap (λ (x : PlainTable). x.rows) is ∙ ap (λ (x : PlainSchema). parts_rows (columns_of x.columns) b) same))

@@ -44,7 +44,11 @@ impl SelectionBuilder {
     ///
     /// # Errors
     /// `UnknownColumn`, `BadCondition` or `NotComparable`, by the first test that fails; `OutOfMemory` if memory is refused.
-    pub fn new(alloc: Global, schema: &Schema, query: &Query) -> Result<SelectionBuilder, QueryError>
+    pub fn new(
+        alloc: Global,
+        schema: &Schema,
+        query: &Query,
+    ) -> Result<SelectionBuilder, QueryError>
         // Rows refuse no query: this is the answer for each table of the schema.
         ensures selects { IfOk result (λ b. (t : PlainTable) → schema_of schema.now ≡ t.schema
             → selection t (query_in query.now) ≡ Ok (table_built (builder_after (builder_in b) t.rows))) }

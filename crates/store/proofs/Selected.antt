@@ -3,6 +3,7 @@ use Rattle.std.specs.Prelude.{◌≢◌, ◌⊎◌, ◌&&◌, nat_le, not, lengt
 use Rattle.std.proofs.Common.{◌≡◌, ℕ, Bool, true, false, List, [], ◌∷◌, Option, Some, None, Result, Ok, Err, inl, inr, refl, sym, ap, ◌∙◌, subst}
 use Rattle.facts.specs.Checks.{when, first_some, unless}
 use Rattle.sector_dev.specs.Disk.{Image}
+use Rattle.arrow_schema.specs.Column.{PlainSchema}
 use Rattle.cells.specs.Cell.{PlainTable}
 use Rattle.catalogue.specs.Entries.{PlainEntry, PlainCatalogue, is_name}
 use Rattle.catalogue.specs.declared.limits.TheConstants.{MAX_TABLES}

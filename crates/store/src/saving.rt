@@ -52,11 +52,7 @@ impl TakesRows for SelectionBuilder {
 }
 
 // S12: the query does not fit tables of this schema. Returns the builder of its selection.
-fn test_query(
-    alloc: Global,
-    schema: &Schema,
-    query: &Query,
-) -> Result<SelectionBuilder, Refusal>
+fn test_query(alloc: Global, schema: &Schema, query: &Query) -> Result<SelectionBuilder, Refusal>
     ensures ok { OnOk result (unselected (schema_of schema.now) (query_in query.now) ≡ None) }
     ensures selects { IfOk result (λ b. Selects (builder_in b) (schema_of schema.now) (query_in query.now)) }
     ensures err { IfErr result (λ e. (e ≡ Refusal.OutOfMemory) ⊎ (unselected (schema_of schema.now) (query_in query.now) ≡ Some e)) }
@@ -94,7 +90,11 @@ fn test_save(
 }
 
 // Returns the change that saves what was selected under a name.
-fn put_selection(alloc: Global, to: String, selected: SelectionBuilder) -> Result<Change, AllocError>
+fn put_selection(
+    alloc: Global,
+    to: String,
+    selected: SelectionBuilder,
+) -> Result<Change, AllocError>
     requires { IsTable (table_built (builder_in selected)) }
     ensures { IfOk result (λ change. IsPut (string_bytes to) (table_built (builder_in selected)) (change_of change)) }
 {

@@ -67,10 +67,8 @@ fn answer_query<D: SectorDevice>(
 {
     match LinePrinter::new(alloc, entry.schema(), query, form) {
         Ok(printer) => {
-            let start = LinesSoFar {
-                text: Vec::new(alloc),
-                printer,
-            };
+            let text = Vec::new(alloc);
+            let start = LinesSoFar { text, printer };
             match take_entry(alloc, device, entry, start) {
                 Ok(lines) => Ok(Ok(lines.text)),
                 Err(refusal) => Err(refusal),

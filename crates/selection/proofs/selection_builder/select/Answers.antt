@@ -13,9 +13,9 @@ append-requires c = record { tables = subst (SelectsOf (builder_in c.in_ok-build
 pub finish-requires : goal.finish-requires
 finish-requires c =
     let t = table_of c.args.table.now in
-    subst (λ (b : PlainBuilder). IsTable (table_built b)) (sym c.in_ok-append.ensures.ok)
-    (c.selection_is_a_table.ensures t (query_in c.args.query.now) (table_built (builder_after (builder_in c.in_ok-builder.builder) t.rows)) c.schema.ensures.kept
-    (c.in_ok-builder.ensures.selects t c.schema.ensures.schema))
+    let built = c.selection_is_a_table.ensures t (query_in c.args.query.now) (table_built (builder_after (builder_in c.in_ok-builder.builder) t.rows)) c.schema.ensures.kept
+    (c.in_ok-builder.ensures.selects t c.schema.ensures.schema) in
+    record { table = subst (λ (b : PlainBuilder). IsTable (table_built b)) (sym c.in_ok-append.ensures.ok) built }
 
 pub returns-clause-ok : goal.returns-clause-ok
 returns-clause-ok c =

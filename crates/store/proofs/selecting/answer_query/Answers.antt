@@ -13,7 +13,7 @@ pub returns-in-Ok-take_entry-clause-answers : goal.returns-in-Ok-take_entry-clau
 returns-in-Ok-take_entry-clause-answers g c =
     let found = c.in-Ok-take_entry.ensures.taken in
     let made = c.in-Ok.ensures.lines found.0 (c.schema.ensures ∙ sym found.1.schema) in
-    let none : c.new.result.items ≡ [] = search rules in
+    let none : c.new-text.result.items ≡ [] = search rules in
     (found.0, found.1, (made.0, made.1, found.2.text ∙ ap (λ (front : List ℕ). front ++ printed_lines (printer_in c.in-Ok.printer) found.0.rows) none ∙ made.2))
 
 pub returns-in-Ok-weigh_entry-clause-answers : goal.returns-in-Ok-weigh_entry-clause-answers

@@ -2,6 +2,7 @@ use Rattle.std.specs.Prelude.{Ok}
 use Rattle.std.proofs.Common.{◌≡◌, ◌++◌, [], refl, sym, ap, subst, ◌∙◌, rules}
 use Rattle.arrow_schema.specs.Column.{PlainSchema, columns_of}
 use Rattle.arrow_schema.specs.View.{schema_of}
+use Rattle.cells.specs.Cell.{PlainTable}
 use Rattle.query.specs.BoundQuery.{bound_query_in, rows_selected, selected_by}
 use Rattle.query.specs.Selection.{pick}
 use Rattle.query.specs.View.{query_in}
@@ -32,7 +33,7 @@ returns-clause-tables c =
     record {
       schema = schema;
       tables = λ rows kept.
-          let t = record { schema = s; rows = rows } in
+          let t : PlainTable = record { schema = s; rows = rows } in
           subst (λ (x : PlainSchema). IsTable (record { schema = x; rows = rows_selected q rows })) (sym schema)
           (c.selection_is_a_table.ensures t (query_in c.args.query.now) (selected_by q t) kept (c.in_ok-bound.ensures.ok t refl));
     }
