@@ -14,32 +14,32 @@ use Rattle.store_runs.specs.Reading.{Unreads}
 use Rattle.store_changes.specs.inner.ReadRows.{ReadsRows}
 use Rattle.store_changes.specs.laws.ReadRows.{rows_are_read}
 use Rattle.store_changes.specs.laws.ReadTables.{reads_quiet}
-use Rattle.store.proofs.selecting.print_entry.Goals as goal
+use Rattle.store.proofs.taking.take_entry.Goals as goal
 
 pub encode_schema-requires : goal.encode_schema-requires
 encode_schema-requires g c = subst IsWithinLimits (sym c.schema.ensures) (entry_is (plain_entry c.args.entry.now) c.requires.sound).schema
 
-pub print_segments-requires-clause-placed : goal.print_segments-requires-clause-placed
-print_segments-requires-clause-placed g c =
+pub take_segments-requires-clause-placed : goal.take_segments-requires-clause-placed
+take_segments-requires-clause-placed g c =
     let size = g.D.SectorDevice.size c.args.device.now in subst (λ (gs : List Segment). all_on_device size (runs_in_segments gs) ≡ true) (sym c.segments.ensures) c.requires.placed
 
-pub print_segments-requires-clause-sound : goal.print_segments-requires-clause-sound
-print_segments-requires-clause-sound g c =
+pub take_segments-requires-clause-sound : goal.take_segments-requires-clause-sound
+take_segments-requires-clause-sound g c =
     subst (λ (gs : List Segment). list_all is_segment gs ≡ true) (sym c.segments.ensures) (entry_is (plain_entry c.args.entry.now) c.requires.sound).segments
 
-pub print_segments-requires-clause-prints : goal.print_segments-requires-clause-prints
-print_segments-requires-clause-prints g c =
+pub take_segments-requires-clause-takes : goal.take_segments-requires-clause-takes
+take_segments-requires-clause-takes g c =
     let e = plain_entry c.args.entry.now in
-    (e.schema, (entry_is e c.requires.sound).schema, c.deref.ensures.value ∙ c.in-Ok.ensures.message ∙ ap schema_message c.schema.ensures, c.requires.prints)
+    (e.schema, (entry_is e c.requires.sound).schema, c.deref.ensures.value ∙ c.in-Ok.ensures.message ∙ ap schema_message c.schema.ensures, c.requires.takes)
 
-pub returns-in-Ok-print_segments-clause-lines : goal.returns-in-Ok-print_segments-clause-lines
-returns-in-Ok-print_segments-clause-lines g c =
+pub returns-in-Ok-take_segments-clause-taken : goal.returns-in-Ok-take_segments-clause-taken
+returns-in-Ok-take_segments-clause-taken g c =
     let D = g.D.SectorDevice in
     let image = shown_image (now (D.story c.args.device.now)) in
     let e = plain_entry c.args.entry.now in
     let within = (entry_is e c.requires.sound).schema in
     let message = c.deref.ensures.value ∙ c.in-Ok.ensures.message ∙ ap schema_message c.schema.ensures in
-    let own = c.in-Ok-print_segments.ensures.lines e.schema within message in
+    let own = c.in-Ok-take_segments.ensures.taken e.schema within message in
     let read = subst (λ (gs : List Segment). ReadsRows D.tells image e.schema gs own.0) c.segments.ensures own.1 in
     (rows_under e.schema own.0, rows_are_read c.table_laws.ensures D.tells image e (rows_under e.schema own.0) refl read, own.2)
 
@@ -50,9 +50,9 @@ returns-in-Ok-clause-unread g c =
     let e = plain_entry c.args.entry.now in
     let within = (entry_is e c.requires.sound).schema in
     let message = c.deref.ensures.value ∙ c.in-Ok.ensures.message ∙ ap schema_message c.schema.ensures in
-    let refusal = c.in-Err-print_segments.refusal in
+    let refusal = c.in-Err-take_segments.refusal in
     subst (λ (gs : List Segment). Unreads D.tells image (record { name = e.name; schema = e.schema; segments = gs; page = e.page }) refusal) c.segments.ensures
-    (c.in-Err-print_segments.ensures.unread e.schema e.name e.page within message)
+    (c.in-Err-take_segments.ensures.unread e.schema e.name e.page within message)
 
 -- without memory no call of the device is made
 pub returns-clause-reads : goal.returns-clause-reads
