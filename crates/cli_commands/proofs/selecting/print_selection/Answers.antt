@@ -22,14 +22,14 @@ returns-in-Ok-clause-told g c =
 pub returns-in-Ok-clause-reads : goal.returns-in-Ok-clause-reads
 returns-in-Ok-clause-reads g c = let D = g.D.SectorDevice in read_and_written D.story D.size D.failed D.tells _ _ c.write_whole.result c.write_whole.ensures.io c.in_ok-answer.ensures.reads
 
-pub returns-clause-told : goal.returns-clause-told
-returns-clause-told g c =
+pub returns-in-Err-clause-told : goal.returns-in-Err-clause-told
+returns-in-Err-clause-told g c =
     let found = c.in_ok-answer.ensures.answers in
     let why = subst (AnswersQuery c.args.form found.0 (query_in c.args.query.now)) c.in-Err.is found.2 in
     rw c.from.ensures (query_told _ _ _ _ _ _ found.0 c.in-Err.error found.1 why)
 
-pub returns-clause-reads : goal.returns-clause-reads
-returns-clause-reads g c = let D = g.D.SectorDevice in rw c.from.ensures (only_read D.story D.size D.failed D.tells _ _ c.in-Err.error c.in_ok-answer.ensures.reads)
+pub returns-in-Err-clause-reads : goal.returns-in-Err-clause-reads
+returns-in-Err-clause-reads g c = let D = g.D.SectorDevice in rw c.from.ensures (only_read D.story D.size D.failed D.tells _ _ c.in-Err.error c.in_ok-answer.ensures.reads)
 
 pub returns-in_err-answer-clause-told : goal.returns-in_err-answer-clause-told
 returns-in_err-answer-clause-told g c =
