@@ -58,7 +58,7 @@ impl<D: SectorDevice> Store<D> {
     /// Returns the table with this name: the rows of its segments, in order. Only reads.
     ///
     /// ```
-    /// let rows = store.read(alloc, "readings").map_err(Error::msg)?.len();
+    /// let rows = store.read(alloc, "readings")?.len();
     /// ```
     ///
     /// # Errors

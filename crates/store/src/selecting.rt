@@ -123,7 +123,7 @@ impl<D: SectorDevice> Store<D> {
     ///
     /// ```
     /// let cold = Query { columns: Vec::new(alloc), conditions: vec![in alloc; Condition::parse(alloc, "millidegrees < 0")?]?, limit: None };
-    /// let lines = store.selected_lines(alloc, "readings", &cold, RowForm::Array).map_err(Error::msg)??;
+    /// let lines = store.selected_lines(alloc, "readings", &cold, RowForm::Array)??;
     /// ```
     ///
     /// # Errors

@@ -33,7 +33,7 @@ pub keep_batches-requires-clause-within : goal.keep_batches-requires-clause-with
 keep_batches-requires-clause-within c =
     let count = picked_counted (table_of c.args.part.now) c.args.query.now.places.items c.deref-3.result.now
     (picked (goal.at.keep_batches-requires-clause-within c).In_ok-batches c.deref-3.result.now c.deref-3.ensures.value) in
-    omega (arith, count, c.in_ok-mask.ensures.mask, ap length c.deref-4.ensures.value)
+    omega (arith, count, c.in_ok-mask.ensures.size, ap length c.deref-4.ensures.value)
 
 pub keep_batches-requires-clause-few : goal.keep_batches-requires-clause-few
 keep_batches-requires-clause-few c =
