@@ -6,7 +6,7 @@ use Rattle.std.proofs.lemmas.Grind.{flat_map-append}
 use Rattle.std.proofs.lemmas.List.{append-nil, take-take, take-append-drop}
 use Rattle.arrow_schema.specs.Column.{PlainSchema, columns_of}
 use Rattle.cells.specs.Cell.{Cell, PlainTable}
-use Rattle.query.specs.BoundQuery.{PlainBoundQuery, rows_held, rows_selected, limit_after, query_after}
+use Rattle.query.specs.BoundQuery.{rows_held, rows_selected, limit_after, query_after}
 use Rattle.query.specs.Selection.{pick, limited}
 use Rattle.query.specs.laws.Limits.{limit_counted}
 use Rattle.selection.specs.SelectionBuilder.{PlainBuilder, builder_after, SelectsOf}
