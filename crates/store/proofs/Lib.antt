@@ -26,3 +26,4 @@ mod ExportAnswers
 mod Fitted
 mod KeptRuns
 mod Salvaged
+mod Heavy
