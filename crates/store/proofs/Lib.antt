@@ -27,3 +27,4 @@ mod ExportAnswers
 mod Fitted
 mod KeptRuns
 mod Salvaged
+mod Heavy
