@@ -16,7 +16,7 @@ use query::{Query, QueryError, RowForm};
 use sector_dev::SectorDevice;
 use selection::LinePrinter;
 use std::alloc::{AllocError, Global};
-use store_changes::weigh_entry;
+use store_changes::{table_laws, weigh_entry};
 use tables::Refusal;
 use values::Table;
 
