@@ -1,11 +1,12 @@
 -- How `clap` reads the arguments of the program, whatever they are.
-use Rattle.std.proofs.Common.{◌≡◌, ◌⊎◌, ◌∙◌, ◌==◌, ◌||◌, ◌+◌, ℕ, Bool, true, false, suc, refl, sym, ap, ap₂, subst, List, [], ◌∷◌, ◌++◌, length, take, drop, Option, Some, None, inl, inr, codes, is_some, eqb-true, true≢false, append_assoc, arith}
+use Rattle.std.proofs.Common.{◌≡◌, ◌⊎◌, ◌∙◌, ◌==◌, ◌+◌, ℕ, Bool, true, false, refl, sym, ap, ap₂, subst, List, [], ◌∷◌, ◌++◌, length, take, drop, Option, Some, None, inl, inr, codes, is_some, eqb-true, true≢false, append_assoc, arith, one-add}
 use Rattle.std.specs.Prelude.{slice_get, fold, encode_utf8, if◌then◌else◌, option_and_then}
 use Rattle.std.specs.List.{before_first, after_first, list_any, position_or_len}
 use Rattle.std.specs.Str.{bytes_eq, chars}
 use Rattle.std.proofs.lemmas.Slice.Eq.{bytes_eq-Decides}
 use Rattle.std.proofs.lemmas.Option.{none-some, same_Some, cond_some}
 use Rattle.std.proofs.lemmas.List.{append-nil}
+use Rattle.std.proofs.lemmas.Bool.{or_parts}
 use Rattle.clap.specs.Lexer.{strip_byte, long_of, short_of, long_of_rest, short_of_rest, name_and_value, has_byte}
 use Rattle.clap.specs.Walk.{Names, Rule, Step, Walk, idle, plain, done, value, nothing_held, walk, walk_from, walked, arg_by_long, arg_by_short, long_or_other, after_flag, long_met, short_met, bundle_step, bundle_met, settled, finished}
 use Rattle.clap.specs.Simple.{Shape, built, help_rule, filled_from, names_of, entered}
@@ -104,18 +105,11 @@ no_byte : (b : Bool) (v : Text) → (if b then Some v else None) ≡ None → b 
 no_byte true v e = absurd (none-some v (sym e))
 no_byte false v e = refl
 
-neither : (a b : Bool) → (a || b) ≡ false → (a ≡ false) × (b ≡ false)
-neither true b e = absurd (true≢false e)
-neither false b e = (refl, e)
-
-one_more : (n : ℕ) → 1 + n ≡ suc n
-one_more n = omega arith
-
 nowhere : (c : ℕ) (xs : Text) → has_byte c xs ≡ false → before_first (λ x. x == c) xs ≡ xs
 nowhere c [] e = refl
 nowhere c (x ∷ xs) e =
-    let parts = neither (x == c) (has_byte c xs) e in
-    rw parts.0 (ap (λ (n : ℕ). take n (x ∷ xs)) (one_more (position_or_len (λ y. y == c) xs)) ∙ ap (λ (ys : Text). x ∷ ys) (nowhere c xs parts.1))
+    let parts = or_parts (x == c) (has_byte c xs) e in
+    rw parts.0 (ap (λ (n : ℕ). take n (x ∷ xs)) (one-add (position_or_len (λ y. y == c) xs)) ∙ ap (λ (ys : Text). x ∷ ys) (nowhere c xs parts.1))
 
 -- the flag without a value
 help_flag : (word : Text) (p : Text × Option Text) → long_of word ≡ Some p → codes "help" ≡ p.0 → p.1 ≡ None → IsHelpFlag word
@@ -211,8 +205,8 @@ is_version _ = false
 
 lacks : (test : ErrorKind → Bool) (k : ErrorKind) → test k ≡ true → (ks : Kinds) → list_any test ks ≡ false → IsAmong k ks → ⊥
 lacks test k passes [] none h = absurd h
-lacks test k passes (x ∷ xs) none (inl e) = absurd (true≢false (sym passes ∙ ap test e ∙ (neither (test x) (list_any test xs) none).0))
-lacks test k passes (x ∷ xs) none (inr h) = lacks test k passes xs (neither (test x) (list_any test xs) none).1 h
+lacks test k passes (x ∷ xs) none (inl e) = absurd (true≢false (sym passes ∙ ap test e ∙ (or_parts (test x) (list_any test xs) none).0))
+lacks test k passes (x ∷ xs) none (inr h) = lacks test k passes xs (or_parts (test x) (list_any test xs) none).1 h
 
 pub record IsWrong (kinds : Kinds) : Type 0 where
   pub some : kinds ≡ [] → ⊥

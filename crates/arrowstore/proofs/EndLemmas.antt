@@ -1,7 +1,8 @@
 -- How a run ends, once its text is written or its arguments are reported.
-use Rattle.std.proofs.Common.{◌≡◌, ℕ, List, [], Option, refl, sym, subst, inl, inr}
+use Rattle.std.proofs.Common.{◌≡◌, ℕ, List, Option, refl, sym, subst, inl, inr}
 use Rattle.std.specs.Prelude.{◌≢◌, Some, None, Result, Ok, Err, IsOk, IsTrue, IfErr, OnOk}
 use Rattle.std.specs.Io.KnownBytes.{Appends}
+use Rattle.std.proofs.lemmas.Result.{IfErr-weaker}
 use Rattle.cli_refusals.specs.declared.hint.Hint.{Hint}
 use Rattle.cli_refusals.specs.declared.refusal.Refusal.{Refusal}
 use Rattle.cli_refusals.specs.declared.refusal.Refusal.TheVariants.{Io, OutOfMemory}
@@ -50,13 +51,8 @@ own_reported may_hint contents audience hint output output' errors errors' (Err 
   },
 )
 
--- what holds of one reason holds of another
-pub if_error : (done : Result (Unit {0}) Refusal) (P Q : Refusal → Type 0) → ((r : Refusal) → P r → Q r) → IfErr done P → IfErr done Q
-if_error (Ok x) P Q implied holds = tt
-if_error (Err e) P Q implied holds = implied e holds
-
 pub text_hints : (arguments : List Text) (hint : Option Hint) (done : Result (Unit {0}) Refusal) → IfErr done (HintsText hint) → IfErr done (MayHint arguments hint)
-text_hints arguments hint done = if_error done (HintsText hint) (MayHint arguments hint) (λ r hints. inr hints)
+text_hints arguments hint done = IfErr-weaker done (HintsText hint) (MayHint arguments hint) (λ r hints. inr hints)
 
 -- where memory is refused nothing is recoded
 pub memory_recodes : {W : Type 0} (contents : W → Option (List ℕ)) (input : Option (List ℕ)) (output output' : W) (status : Status) → status ≡ Refused OutOfMemory → output' ≡ output → Recodes contents input output output' status

@@ -11,12 +11,13 @@ recode_of_none : (name : Text) (rest : List Text) → is_of_store (name ∷ code
 unfolding is_of_store is_store_word changes_word makes_word reads_word takes_input_word reads_table_word
 recode_of_none name rest = refl
 
-pub recode_of_no_store : (arguments : List Text) → AreRecode arguments → is_of_store arguments ≡ false
+-- what comes of the word `recode`, whatever stands after it, comes of its arguments
+of_recode : {A : Type 0} (f : List Text → A) (x : A) (arguments : List Text) → AreRecode arguments → ((name : Text) (rest : List Text) → f (name ∷ codes "recode" ∷ rest) ≡ x) → f arguments ≡ x
 unfolding AreRecode
-recode_of_no_store arguments are = elim are.1 [
-  | inl alone ↦ ap is_of_store alone ∙ recode_of_none are.0 []
-  | inr ended ↦ ap is_of_store ended ∙ recode_of_none are.0 (codes "--" ∷ [])
-]
+of_recode f x arguments are always = elim are.1 [ inl alone ↦ ap f alone ∙ always are.0 [] | inr ended ↦ ap f ended ∙ always are.0 (codes "--" ∷ []) ]
+
+pub recode_of_no_store : (arguments : List Text) → AreRecode arguments → is_of_store arguments ≡ false
+recode_of_no_store arguments are = of_recode is_of_store false arguments are recode_of_none
 
 recode_of_no_own : (name : Text) (rest : List Text) → is_own (name ∷ codes "recode" ∷ rest) ≡ false
 unfolding is_own asks_version asks_refusals asks_commands is_version_word is_refusals_topic is_help_alone
@@ -25,11 +26,7 @@ recode_of_no_own name (topic ∷ []) = refl
 recode_of_no_own name (topic ∷ more ∷ rest) = refl
 
 pub recode_is_not_own : (arguments : List Text) → AreRecode arguments → is_own arguments ≡ false
-unfolding AreRecode
-recode_is_not_own arguments are = elim are.1 [
-  | inl alone ↦ ap is_own alone ∙ recode_of_no_own are.0 []
-  | inr ended ↦ ap is_own ended ∙ recode_of_no_own are.0 (codes "--" ∷ [])
-]
+recode_is_not_own arguments are = of_recode is_own false arguments are recode_of_no_own
 
 -- a word that is another one
 same_of_none : (other word : Text) (name : Text) (rest : List Text) → bytes_eq other word ≡ true → is_of_store (name ∷ other ∷ rest) ≡ false → is_of_store (name ∷ word ∷ rest) ≡ false
@@ -92,11 +89,7 @@ recode_asks_no_help name [] = refl
 recode_asks_no_help name (other ∷ rest) = refl
 
 pub recode_is_not_help : (arguments : List Text) → AreRecode arguments → ask_help_of_command arguments ≡ false
-unfolding AreRecode
-recode_is_not_help arguments are = elim are.1 [
-  | inl alone ↦ ap ask_help_of_command alone ∙ recode_asks_no_help are.0 []
-  | inr ended ↦ ap ask_help_of_command ended ∙ recode_asks_no_help are.0 (codes "--" ∷ [])
-]
+recode_is_not_help arguments are = of_recode ask_help_of_command false arguments are recode_asks_no_help
 
 no_extra_words_of_recode : (name : Text) (rest : List Text) → have_extra_words (name ∷ codes "recode" ∷ rest) ≡ false
 unfolding have_extra_words is_version_word
@@ -105,8 +98,4 @@ no_extra_words_of_recode name (other ∷ []) = refl
 no_extra_words_of_recode name (other ∷ more ∷ rest) = refl
 
 pub recode_has_no_extra_words : (arguments : List Text) → AreRecode arguments → have_extra_words arguments ≡ false
-unfolding AreRecode
-recode_has_no_extra_words arguments are = elim are.1 [
-  | inl alone ↦ ap have_extra_words alone ∙ no_extra_words_of_recode are.0 []
-  | inr ended ↦ ap have_extra_words ended ∙ no_extra_words_of_recode are.0 (codes "--" ∷ [])
-]
+recode_has_no_extra_words arguments are = of_recode have_extra_words false arguments are no_extra_words_of_recode

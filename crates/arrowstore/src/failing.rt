@@ -36,6 +36,16 @@ fn unopened(alloc: Global, error: &io::Error) -> Option<FileReason> {
     Some(FileReason::Unopened(system_text(alloc, error)?))
 }
 
+// Returns whether a request makes the file at `path`.
+fn makes(request: &StoreRequest<'_>, path: &str) -> bool {
+    match request {
+        StoreRequest::Format { path: new, .. } | StoreRequest::Copy { new, .. } => *new == path,
+        StoreRequest::Salvage { .. } | StoreRequest::Replay(_) | StoreRequest::Command { .. } => {
+            false
+        }
+    }
+}
+
 fn reason_of_opening<H: Files + AllocGlobal>(
     rt: &H,
     request: &StoreRequest<'_>,
@@ -44,6 +54,9 @@ fn reason_of_opening<H: Files + AllocGlobal>(
 ) -> Option<FileReason> {
     if error.kind() == ErrorKind::AlreadyExists {
         return Some(FileReason::Exists);
+    }
+    if makes(request, path) {
+        return Some(FileReason::Unmade(system_text(rt.alloc(), error)?));
     }
     match reason_in_place_of_store(rt, request, path) {
         Some(reason) => Some(reason),

@@ -42,6 +42,7 @@ pub(crate) fn build_column(
 }
 
 // The same, for a column of this type without a dictionary, whatever its name.
+#[tactic(auto, using(arrow_schema::specs::declared::types::Field::the_lemmas))]
 #[cycle(building)]
 fn build_kind(
     alloc: Global,

@@ -1,6 +1,6 @@
 -- What the program answers once a command is done.
-use Rattle.std.specs.Prelude.{◌≡◌, Result, Ok, Err, IfErr}
-use Rattle.std.proofs.Common.{sym, subst}
+use Rattle.std.specs.Prelude.{◌≡◌, ◌↔◌, Result, Ok, Err, IfErr}
+use Rattle.std.proofs.Common.{ap, sym, subst}
 use Rattle.tables.specs.declared.refusal.Refusal as tables
 use Rattle.cli_refusals.specs.declared.refusal.Refusal.{Refusal}
 use Rattle.cli_refusals.specs.declared.refusal.Refusal.TheVariants.{Io, Store}
@@ -12,3 +12,14 @@ follows_write done (Err e) io = io
 
 pub follows_refusal : (e : tables.Refusal) (result : Result (Unit {0}) Refusal) (refusal : Refusal) → result ≡ Err refusal → refusal ≡ Store e → Follows (Err e) result
 follows_refusal e result refusal is same = subst (Follows (Err e)) (sym is) same
+
+-- the answer that is a refusal
+abbrev refused_by : tables.Refusal → Result (Unit {0}) tables.Refusal
+refused_by e = Err e
+
+module _ (e r : tables.Refusal) (H : Type 0) where
+  pub answers_just : (e ≡ r) ↔ H → (refused_by e ≡ Err r) ↔ H
+  answers_just both = (λ (is : refused_by e ≡ Err r). both.0 (cc is), λ (h : H). ap refused_by (both.1 h))
+
+  pub just_answers : H ↔ (e ≡ r) → H ↔ (refused_by e ≡ Err r)
+  just_answers both = (λ (h : H). ap refused_by (both.0 h), λ (is : refused_by e ≡ Err r). both.1 (cc is))

@@ -1,10 +1,11 @@
 -- Steps of a compaction, one after another.
 use Rattle.std.specs.Prelude.{◌≢◌, ◌↔◌, ◌++◌, ◌*◌, ◌^◌, ◌-◌, Bool, if◌then◌else◌, Option, None, Result, Ok, Err, OnOk}
 use Rattle.std.proofs.Common.{◌≡◌, ◌∙◌, ◌<◌, ◌≤◌, ◌+◌, ℕ, suc, true, false, List, [], ◌∷◌, map, length, inl, inr, refl, ap, sym, subst, true≢false, arith}
-use Rattle.std.proofs.lemmas.Bool.{and_parts, leb-true}
+use Rattle.std.proofs.lemmas.Bool.{and_parts, leb-true, false_from_ne_true}
 use Rattle.std.proofs.lemmas.Nat.{mul-le}
 use Rattle.std.specs.Io.KnownBytes.{Appends}
-use Rattle.sector_dev.specs.Disk.{Disk, Image, Story, now, synced_image, MayLeave}
+use Rattle.std.proofs.lemmas.List.{map_push, length_push}
+use Rattle.sector_dev.specs.Disk.{Disk, Image, Story, now, synced_image}
 use Rattle.sector_dev.specs.Time.{Grows, LeavesOnly}
 use Rattle.sector_dev.specs.laws.Time.{stays, goes_on, weaken, now_has}
 use Rattle.sector_dev.specs.laws.Crash.{only_image}
@@ -37,6 +38,7 @@ use Rattle.store_runs.specs.Runs.{Goes, Run}
 use Rattle.store_runs.specs.Steps.{Step}
 use Rattle.store_runs.specs.laws.Going.{runs_joined, no_run, run_of_one}
 use Rattle.store_changes.specs.laws.Shrinking.{few_in_turn}
+use Rattle.store_changes.specs.laws.Synced.{own_image}
 use Rattle.cli_refusals.specs.declared.refusal.Refusal.{Refusal}
 use Rattle.cli_commands.specs.Compacting.{steps_text, Steps, StepsTo, StopsBy, step_calls, RunsOn, StaysWith, Compacted}
 
@@ -91,10 +93,6 @@ from_unit (Err e) = Err e
 abbrev as_step : tables.Refusal → Result Compaction tables.Refusal
 as_step r = Err r
 
-is_on : (b : Bool) → (b ≡ true → ⊥) → b ≡ false
-is_on true never = absurd (never refl)
-is_on false never = refl
-
 err_differs : {A E : Type 0} (x : A) (e : E) → Ok x ≡ Err e → ⊥
 err_differs x e is = absurd (cc is)
 
@@ -104,19 +102,6 @@ few s p count segments sectors le =
     let inner : s * p ≤ MAX_SEGMENTS * MOST_SECTORS = mul-le s p MAX_SEGMENTS MOST_SECTORS segments sectors in
     let most : s * (s * p + 1) ≤ MAX_SEGMENTS * (MAX_SEGMENTS * MOST_SECTORS + 1) = mul-le s (s * p + 1) MAX_SEGMENTS (MAX_SEGMENTS * MOST_SECTORS + 1) segments (omega (arith, inner)) in
     omega (arith, le, most)
-
-steps_count : (taken : List Compaction) (done : Compaction) → length (taken ++ done ∷ []) ≡ length taken + 1
-steps_count [] done = refl
-steps_count (t ∷ ts) done = let more = steps_count ts done in omega (arith, more)
-
-map_more : {X Y : Type 0} (f : X → Y) (xs : List X) (x : X) → map f (xs ++ x ∷ []) ≡ map f xs ++ f x ∷ []
-map_more f [] x = refl
-map_more f (y ∷ ys) x = ap (λ zs. f y ∷ zs) (map_more f ys x)
-
--- what is synced is what a stop may leave
-own_image : (d : Disk) → MayLeave d (synced_image d)
-unfolding MayLeave
-own_image d n = inl refl
 
 listed_alike : (k j : Commit) (c d : PlainCatalogue) → rules k c ≡ rules j d → c ≡ d
 listed_alike k j c d is = cc is
@@ -298,9 +283,9 @@ module _ {D : Type 0} {g : Ghosts D} where
       record {
         run =
             subst (λ (calls : List PlainCall). Run s calls (map reply_of (taken ++ done ∷ [])) m (g.story (device_of old)) (g.failed (device_of old)) m (g.story (device_of new)) (g.failed (device_of new)))
-            (sym (map_more (λ (x : Compaction). compact_call) taken done))
+            (sym (map_push (λ (x : Compaction). compact_call) taken done))
             (subst (λ (replies : List PlainReply). Run s (step_calls taken ++ compact_call ∷ []) replies m (g.story (device_of old)) (g.failed (device_of old)) m (g.story (device_of new)) (g.failed (device_of new)))
-            (sym (map_more reply_of taken done))
+            (sym (map_push reply_of taken done))
             (subst (λ (k : Machine). Run s (step_calls taken ++ compact_call ∷ []) (map reply_of taken ++ reply_of done ∷ []) m (g.story (device_of old)) (g.failed (device_of old)) k (g.story (device_of new))
             (g.failed (device_of new))) same (run_more base m goes.next taken (reply_of done) old mid new size gone goes.goes)));
         fits = subst (λ (k : Machine). StoreFits g.size g.story base k new) same goes.fits;
@@ -318,11 +303,11 @@ module _ {D : Type 0} {g : Ghosts D} where
       → (g.tells ≡ true → IsOnDisk g.size g.story mid → KeepsEachTable g.size g.story mid new)
       → each_listed (listed_in new) ≡ each_listed (listed_in mid) → SoFar (count + 1) old new
   so_far_more count old mid new done so did goes stepped shrinks halted_if halts size failures book writes written each listed =
-      let on : is_halted mid ≡ false = is_on (is_halted mid) (λ h. err_differs done refusals.Halted (halted_if.1 h)) in
-      let on_then : is_halted new ≡ false = is_on (is_halted new) (λ h. err_differs done refusals.Device ((halts on).0 h)) in
+      let on : is_halted mid ≡ false = false_from_ne_true (is_halted mid) (λ h. err_differs done refusals.Halted (halted_if.1 h)) in
+      let on_then : is_halted new ≡ false = false_from_ne_true (is_halted new) (λ h. err_differs done refusals.Device ((halts on).0 h)) in
       record {
         taken = so.taken ++ done ∷ [];
-        counted_so = steps_count so.taken done ∙ ap (λ (n : ℕ). n + 1) so.counted_so;
+        counted_so = length_push so.taken done ∙ ap (λ (n : ℕ). n + 1) so.counted_so;
         steps = steps_more old so.taken mid done new so.steps (record { did = did; stepped = stepped; shrinks = shrinks did; size = size; writes = writes; written = written did; each_table = each; listed = listed });
         size = size ∙ so.size;
         failures = failures ∙ no_failure done (g.failed (device_of mid)) ∙ so.failures;
@@ -356,7 +341,7 @@ module _ {D : Type 0} {g : Ghosts D} where
   ends_with_nothing count old mid new Merged is so goes stepped reads halted_if halts size failures book each listed = absurd (cc is)
   ends_with_nothing count old mid new Moved is so goes stepped reads halted_if halts size failures book each listed = absurd (cc is)
   ends_with_nothing count old mid new Nothing is so goes stepped reads halted_if halts size failures book each listed =
-      let on : is_halted mid ≡ false = is_on (is_halted mid) (λ h. err_differs Nothing refusals.Halted (halted_if.1 h)) in
+      let on : is_halted mid ≡ false = false_from_ne_true (is_halted mid) (λ h. err_differs Nothing refusals.Halted (halted_if.1 h)) in
       let never : is_halted old ≡ true → ⊥ = λ h. true≢false (sym h ∙ sym so.halted_so ∙ on) in (
         so.taken,
         so.counted_so,

@@ -6,7 +6,7 @@ use Rattle.std.specs.FinMap as maps
 use Rattle.std.specs.Ordering.{nat_cmp}
 use Rattle.std.specs.Cmp.Lexicographic.{slice_cmp}
 use Rattle.std.proofs.Common.{◌≡◌, ◌∙◌, ◌<◌, ◌+◌, ℕ, true, false, List, [], ◌∷◌, map, take, length, inl, inr, refl, ap, sym, subst, true≢false, append-nil, append_assoc}
-use Rattle.std.proofs.lemmas.List.{get_or-map, length-map}
+use Rattle.std.proofs.lemmas.List.{get_or-map, length-map, map_push}
 use Rattle.std.proofs.lemmas.Slice.Eq.{bytes_eq-Decides}
 use Rattle.sector_dev.specs.Disk.{Image, now, shown_image, synced_image}
 use Rattle.sector_dev.specs.declared.device.SectorDevice.{Ghosts}
@@ -122,10 +122,6 @@ taken : (s : Setting) (m : Machine) (c : PlainCommand) (wrote : Bool) (next : Ma
 unfolding Step
 taken s m c wrote next step = (step.1, step.3)
 
-map_more : {X Y : Type 0} (f : X → Y) (xs : List X) (x : X) → map f (xs ++ x ∷ []) ≡ map f xs ++ f x ∷ []
-map_more f [] x = refl
-map_more f (y ∷ ys) x = ap (λ zs. f y ∷ zs) (map_more f ys x)
-
 pub table_copied : {D E : Type 0} {g : Ghosts D} {h : Ghosts E} (a : Tables) (m : Machine) (b : Tables) (n : Machine) (name bytes : List ℕ) (from from' : Store D g) (to to' : Store E h)
     → GoesOn g.size g.story g.failed a m (export_call name) (bytes_are bytes) from from' → GoesOn h.size h.story h.failed b n (apply_call (import_stream name bytes)) done to to'
     → TableCopied a m b n name from' to to'
@@ -176,9 +172,9 @@ module _ {E : Type 0} {h : Ghosts E} where
         same = goes.same ∙ so.same;
         run =
             subst (λ (calls : List PlainCall). Run s calls (map (λ k. done) (so.commands ++ c ∷ [])) n (h.story (device_of to)) (h.failed (device_of to)) goes.next (h.story (device_of to')) (h.failed (device_of to')))
-            (sym (map_more apply_call so.commands c))
+            (sym (map_push apply_call so.commands c))
             (subst (λ (replies : List PlainReply). Run s (map apply_call so.commands ++ apply_call c ∷ []) replies n (h.story (device_of to)) (h.failed (device_of to)) goes.next (h.story (device_of to'))
-            (h.failed (device_of to'))) (sym (map_more (λ (k : PlainCommand). done) so.commands c))
+            (h.failed (device_of to'))) (sym (map_push (λ (k : PlainCommand). done) so.commands c))
             (runs_joined s (map apply_call so.commands) (apply_call c ∷ []) (map (λ k. done) so.commands) (done ∷ []) n so.next goes.next (h.story (device_of to)) (h.story (device_of mid)) (h.story (device_of to'))
             (h.failed (device_of to)) (h.failed (device_of mid)) (h.failed (device_of to')) so.run
             (run_of_one s (apply_call c) done so.next goes.next (h.story (device_of mid)) (h.story (device_of to')) (h.failed (device_of mid)) (h.failed (device_of to'))

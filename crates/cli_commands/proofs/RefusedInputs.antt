@@ -4,7 +4,7 @@ use Rattle.std.specs.Prelude.{Option, IsSome, IsErrOf, Err}
 use Rattle.catalogue.specs.Entries.{PlainEntry}
 use Rattle.text_import.specs.declared.form.TextForm.{TextForm}
 use Rattle.cli_refusals.specs.declared.refusal.Refusal.{Refusal}
-use Rattle.cli_refusals.specs.declared.refusal.Refusal.TheVariants.{Fault, TooManyBytes, Io, BadSize, BadScript, Fields, Text, Query, Opening, Store, OutOfMemory}
+use Rattle.cli_refusals.specs.declared.refusal.Refusal.TheVariants.{TooManyBytes, Io, OutOfMemory}
 use Rattle.cli_commands.specs.declared.input.TheConstants.{LARGEST_INPUT}
 use Rattle.store.specs.Input.{HasGiven, HasGivenAtMost}
 use Rattle.cli_commands.specs.Given.{UnlessTooManyBytes, IsOfInput}
@@ -17,11 +17,4 @@ pub refuses_rows : {R : Type 0} (A : Type 0) (remaining : R → Option (List ℕ
 refuses_rows A remaining form halted found old new TooManyBytes on there of many few = (on, there, many refl)
 refuses_rows A remaining form halted found old new Io on there of many few = (on, there, few)
 refuses_rows A remaining form halted found old new OutOfMemory on there of many few = (on, there, few)
-refuses_rows A remaining form halted found old new (Fault fault) on there of many few = absurd of
-refuses_rows A remaining form halted found old new BadSize on there of many few = absurd of
-refuses_rows A remaining form halted found old new (BadScript line) on there of many few = absurd of
-refuses_rows A remaining form halted found old new (Fields error) on there of many few = absurd of
-refuses_rows A remaining form halted found old new (Text refused) on there of many few = absurd of
-refuses_rows A remaining form halted found old new (Query refusal) on there of many few = absurd of
-refuses_rows A remaining form halted found old new (Opening refusal) on there of many few = absurd of
-refuses_rows A remaining form halted found old new (Store refusal) on there of many few = absurd of
+refuses_rows A remaining form halted found old new _ on there of many few = absurd of

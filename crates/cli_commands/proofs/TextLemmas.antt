@@ -1,10 +1,14 @@
 -- What a text and a query give of the table that is found.
-use Rattle.std.proofs.Common.{◌≡◌, ◌∙◌, ℕ, Bool, List, refl, ap, sym, subst}
+use Rattle.std.proofs.Common.{◌≡◌, ◌∙◌, ◌<◌, ℕ, Bool, List, refl, ap, sym, subst}
 use Rattle.std.specs.Prelude.{Option, Some, None, IsSome, false, option_map, unwrap_or, Result, Ok, Err, OnOk, IfErr}
+use Rattle.std.specs.List.{AllPass}
 use Rattle.std.specs.Io.KnownBytes.{Appends, IsAtEnd}
 use Rattle.sector_dev.specs.Disk.{Image}
 use Rattle.arrow_schema.specs.Column.{PlainSchema}
 use Rattle.cells.specs.Cell.{Cell, PlainTable}
+use Rattle.cells.specs.Row.{is_row}
+use Rattle.cells.specs.Weight.{table_weight}
+use Rattle.cells.specs.declared.limits.TheConstants.{MAX_TABLE_WEIGHT}
 use Rattle.catalogue.specs.Entries.{PlainEntry}
 use Rattle.query.specs.Query.{PlainQuery}
 use Rattle.query.specs.declared.row_form.RowForm.{RowForm}
@@ -14,12 +18,13 @@ use Rattle.store_runs.specs.Reading.{ReadsTable}
 use Rattle.cli_refusals.specs.declared.refusal.Refusal.{Refusal}
 use Rattle.cli_refusals.specs.declared.refusal.Refusal.TheVariants.{Io}
 use Rattle.text_import.specs.declared.form.TextForm.{TextForm}
+use Rattle.store.specs.Applying.{AreTooHeavy}
 use Rattle.store.specs.Input.{HasGivenAtMost}
 use Rattle.cli_commands.specs.Given.{IsWholeInput}
 use Rattle.cli_commands.specs.declared.input.TheConstants.{LARGEST_INPUT}
 use Rattle.text_import.specs.Form.{rows_of_text}
 use Rattle.text_import.specs.Part.{part_of, refused_part}
-use Rattle.text_import.specs.Refusals.{given, refused_by}
+use Rattle.text_import.specs.Refusals.{refused_by}
 use Rattle.text_import.specs.declared.part.RefusedPart.{RefusedPart}
 use Rattle.cli_refusals.specs.declared.hint.Hinted.{Hinted}
 use Rattle.cli_refusals.specs.declared.hint.Hinted.TheVariants.{Part, Table}
@@ -28,6 +33,7 @@ use Rattle.text_import.specs.declared.refusal.TextError.TheVariants as texts
 use Rattle.facts.specs.Outcomes.{Reports}
 use Rattle.cli_refusals.specs.Refusals.{text_refusal}
 use Rattle.cli_commands.specs.Printed.{schema_text, RefusesPrinting}
+use Rattle.cli_commands.specs.Changing.{Answered, Follows}
 use Rattle.cli_commands.specs.TextRows.{InputGives, IfOfText, HintsAt, IfHinted, RefusesText}
 use Rattle.query.specs.Printed.{rows_text, printed_selection}
 use Rattle.cli_commands.specs.Selecting.{QueryAnswers, RefusesQuery}
@@ -80,15 +86,22 @@ input_hints form (Some e) input s bytes (texts.Refused refused) (Some (Part part
       names = ap (λ t. refused_part form t bytes refused.number) schema ∙ hints;
     }
 
--- what is made of what is given was given
-pub made_of : {A B E : Type 0} (f : A → B) (r : Result A E) (b : B) → given f r ≡ Ok b → (a : A) × (r ≡ Ok a) × (b ≡ f a)
-made_of f (Ok a) b e = (a, refl, cc)
-made_of f (Err x) b e = absurd (cc)
+-- rows that are too heavy for its schema are so for the entry that is found
+pub heavy_for : (found : Option PlainEntry) (s : PlainSchema) (rows : List (List Cell)) → option_map (λ e. e.schema) found ≡ Some s
+    → AllPass (is_row s) rows × (MAX_TABLE_WEIGHT < table_weight s rows) → AreTooHeavy found rows
+heavy_for None s rows there heavy = tt
+heavy_for (Some e) s rows there heavy =
+    let schema : e.schema ≡ s = ap (λ o. unwrap_or o s) there in
+    subst (λ (x : PlainSchema). AllPass (is_row x) rows × (MAX_TABLE_WEIGHT < table_weight x rows)) (sym schema) heavy
 
-pub reported_of : {A B E : Type 0} (f : A → B) (r : Result A E) (o : Option E) → Reports o (given f r) → Reports o r
-reported_of f r None e = tt
-reported_of f (Ok a) (Some x) e = absurd (cc)
-reported_of f (Err y) (Some x) e = cc
+-- an answer of the store refuses no text
+pub not_of_text : (P : Result (Unit {0}) tables.Refusal → Type 0) (form : TextForm) (found : Option PlainEntry) (input : Option (List ℕ)) (result : Result (Unit {0}) Refusal) → Answered P result → IfErr result (IfOfText form found input)
+not_of_text P form found input (Ok done) answered = tt
+not_of_text P form found input (Err refusal) answered = by_answer answered.0 answered.2
+  where
+    by_answer : (answer : Result (Unit {0}) tables.Refusal) → Follows answer (Err refusal) → IfOfText form found input refusal
+    by_answer (Ok done) is = subst (IfOfText form found input) (sym is) tt
+    by_answer (Err e) is = subst (IfOfText form found input) (sym is) tt
 
 pub there_is : (found : Option PlainEntry) (s : PlainSchema) → option_map (λ e. e.schema) found ≡ Some s → IsSome found
 there_is None s is = absurd cc

@@ -1,23 +1,25 @@
 // Appends the rows of an input that is a text: CSV or JSON Lines.
-ghost use Rattle.std.specs.Prelude.{◌≡◌, ◌≢◌, true, codes, string_bytes, IfErr, IfOk, IfSome, Ok, OnOk};
+ghost use Rattle.std.specs.Prelude.{◌≡◌, ◌≢◌, true, codes, string_bytes, List, option_map, Some, IfErr, IfOk, IfSome, Ok, OnOk};
 ghost use Rattle.std.specs.Io.KnownBytes.{Appends};
+ghost use Rattle.cells.specs.Cell.{Cell};
 ghost use Rattle.catalogue.specs.Edits.{entry_of};
 ghost use Rattle.tables.specs.Commands.{append_rows};
 ghost use Rattle.tables.specs.Tables.{Tables};
-ghost use Rattle.tables.specs.View.{command_of};
 ghost use Rattle.store.specs.Applying.{GoesOn};
 ghost use Rattle.store_runs.specs.Calls.{apply_call};
 ghost use Rattle.store.specs.Fits.{StoreFits, is_halted, listed_in};
 ghost use Rattle.store_runs.specs.Machine.{Machine};
 ghost use Rattle.store_runs.specs.Reading.{ended};
-ghost use Rattle.cli_commands.specs.Changing.{AnswersCommand};
+ghost use Rattle.cli_commands.specs.Changing.{Answered, AnswersCommand};
+ghost use Rattle.arrow_schema.specs.Column.{PlainSchema};
 ghost use Rattle.arrow_schema.specs.Limits.{IsWithinLimits};
 ghost use Rattle.arrow_schema.specs.View.{schema_of};
-ghost use Rattle.facts.specs.Outcomes.{Gives, Reports};
+ghost use Rattle.facts.specs.Outcomes.{Reports};
 ghost use Rattle.text_import.specs.Form.{rows_of_text};
-ghost use Rattle.text_import.specs.Refusals.{given, refused_by};
+ghost use Rattle.text_import.specs.Refusals.{refused_by};
 ghost use Rattle.values.specs.TableView.{table_of};
 ghost use Rattle.cli_commands.specs.TextRows.{HandsRows, RefusesText, IfOfText, HintsAt, IfHinted};
+ghost use Rattle.cli_commands.specs.inner.TextRows.{AppendsRows};
 
 use crate::apply_command;
 use crate::input::read_input;
@@ -29,7 +31,9 @@ use std::io::{Read, Write};
 use store::Store;
 use tables::Command;
 use text_columns::{csv_table, jsonl_table};
-use text_import::{TextError, TextForm, refused_part, rows_of_text};
+use text_import::{
+    TextError, TextForm, are_too_heavy, refused_part, rows_of_text, rows_of_texts_are_rows,
+};
 use values::WeighedTable;
 
 // Returns the part of a refused text that is refused, or `None` if memory for it is refused.
@@ -75,22 +79,29 @@ fn read_table(
     }
 }
 
-// Returns the command that appends the rows of a text to a table. The rows are read into arrays if that is possible.
+// Returns the command that appends the rows of a text to a table, or `None` if they are too heavy for any table. The rows are read into arrays if that is
+// possible.
 fn read_command(
     alloc: Global,
     form: &TextForm<'_>,
     schema: &Schema,
     text: &[u8],
     name: String,
-) -> Result<Command, TextError>
+) -> Result<Option<Command>, TextError>
     requires { IsWithinLimits (schema_of schema.now) }
-    ensures { Gives refused_by command_of result (given (append_rows (string_bytes name)) (rows_of_text form.now (schema_of schema.now) text.now)) }
+    ensures read { IfOk result (λ found. (rows : List (List Cell)) × (rows_of_text form.now (schema_of schema.now) text.now ≡ Ok rows)
+        × AppendsRows (string_bytes name) (schema_of schema.now) rows found) }
+    ensures refused { IfErr result (λ e. Reports (refused_by e) (rows_of_text form.now (schema_of schema.now) text.now)) }
 {
     if let Some(new) = read_table(alloc, form, schema, text)? {
-        return Ok(Command::AppendTable { name, new });
+        return Ok(Some(Command::AppendTable { name, new }));
+    }
+    rows_of_texts_are_rows();
+    if are_too_heavy(alloc, form, schema, text)? {
+        return Ok(None);
     }
     let rows = rows_of_text(alloc, form, schema, text)?;
-    Ok(Command::AppendRows { name, rows })
+    Ok(Some(Command::AppendRows { name, rows }))
 }
 
 // `read_command`, which also frees the text and, if the text is refused, sets `hint` to the refused part.
@@ -101,9 +112,11 @@ fn take_command(
     text: Vec<u8>,
     name: String,
     hint: &mut Option<Hinted>,
-) -> Result<Command, TextError>
+) -> Result<Option<Command>, TextError>
     requires { IsWithinLimits (schema_of schema.now) }
-    ensures command { Gives refused_by command_of result (given (append_rows (string_bytes name)) (rows_of_text form.now (schema_of schema.now) text.items)) }
+    ensures read { IfOk result (λ found. (rows : List (List Cell)) × (rows_of_text form.now (schema_of schema.now) text.items ≡ Ok rows)
+        × AppendsRows (string_bytes name) (schema_of schema.now) rows found) }
+    ensures refused { IfErr result (λ e. Reports (refused_by e) (rows_of_text form.now (schema_of schema.now) text.items)) }
     ensures kept { OnOk result (hint.new ≡ hint.old) }
     ensures hint { IfErr result (λ error. HintsAt hint.new form.now (schema_of schema.now) text.items (refused_by error)) }
 {
@@ -113,6 +126,28 @@ fn take_command(
             *hint = refused_in(alloc, form, schema, &text, &error);
             Err(error)
         }
+    }
+}
+
+// Executes the command that appends rows to a table and writes `ok`. Without a command, the rows are too heavy for any table, and the store refuses them.
+fn append_or_refuse<D: SectorDevice, W: Write>(
+    alloc: Global,
+    store: &mut Store<D>,
+    name: &str,
+    command: Option<Command>,
+    output: &mut W,
+) -> Result<(), Refusal>
+    ensures goes { (s : PlainSchema) (rows : List (List Cell)) → option_map (λ e. e.schema) (entry_of (listed_in store.old) name.now) ≡ Some s → AppendsRows name.now s rows command
+        → D.tells ≡ true → (base : Tables) (m : Machine) → StoreFits D.size D.story base m store.old
+        → Answered (λ answer. GoesOn D.size D.story D.failed base m (apply_call (append_rows name.now rows)) (ended answer) store.old store.new) result }
+    ensures told { (s : PlainSchema) (rows : List (List Cell)) → option_map (λ e. e.schema) (entry_of (listed_in store.old) name.now) ≡ Some s → AppendsRows name.now s rows command
+        → Answered (λ answer. AnswersCommand D.size D.story D.failed D.tells (append_rows name.now rows) answer store.old store.new) result }
+    ensures written { OnOk result (Appends (W.contents output.old) (W.contents output.new) (codes "ok\n")) }
+    ensures silent { IfErr result (λ refusal. refusal ≢ Refusal.Io → output.new ≡ output.old) }
+{
+    match command {
+        Some(command) => apply_command(alloc, store, command, output),
+        None => Err(Refusal::Store(store.refuse_heavy_rows(alloc, name))),
     }
 }
 
@@ -155,7 +190,7 @@ pub fn append_text<D: SectorDevice, R: Read, W: Write>(
     *hint = None;
     let schema = store.schema(alloc, name)?;
     let text = read_input(alloc, input)?;
-    let name = String::from_str(alloc, name)?;
-    let command = take_command(alloc, form, &schema, text, name, hint)?;
-    apply_command(alloc, store, command, output)
+    let own_name = String::from_str(alloc, name)?;
+    let command = take_command(alloc, form, &schema, text, own_name, hint)?;
+    append_or_refuse(alloc, store, name, command, output)
 }

@@ -1,11 +1,12 @@
 -- What is reported of a file that can't be used.
-use Rattle.std.specs.Prelude.{ℕ, ◌++◌, ◌*◌, decimal, List, codes, string_bytes}
+use Rattle.std.specs.Prelude.{ℕ, ◌==◌, ◌++◌, ◌+◌, ◌*◌, decimal, List, codes, string_bytes, if◌then◌else◌}
 use Rattle.cli_refusals.specs.declared.failed_file.FailedFile.{FailedFile}
 use Rattle.cli_refusals.specs.declared.failed_file.FileReason.{FileReason}
 use Rattle.cli_refusals.specs.declared.failed_file.OtherLength.{OtherLength}
 use Rattle.cli_refusals.specs.declared.failed_file.FileReason.TheVariants as reasons
 use Rattle.cli_refusals.specs.declared.refusal.Refusal.{Refusal}
-use Rattle.cli_refusals.specs.declared.remedies.TheConstants.{WHOLE_FILE}
+use Rattle.cli_refusals.specs.declared.refusal.Refusal.TheVariants.{Io}
+use Rattle.cli_refusals.specs.declared.remedies.TheConstants as remedies
 use Rattle.cli_refusals.specs.Remedies.{remedy}
 
 abbrev pub path_of : FailedFile → List ℕ
@@ -28,11 +29,35 @@ reason_text reasons.NotRegular = codes "is not a regular file"
 reason_text (reasons.Length bytes) = codes "has " ++ decimal bytes ++ codes " bytes"
 reason_text (reasons.OtherLength other) = other_length_text other
 reason_text (reasons.Unopened text) = codes "cannot be opened: " ++ string_bytes text
+reason_text (reasons.Unmade text) = codes "cannot be made: " ++ string_bytes text
 reason_text (reasons.Unread text) = codes "cannot be read: " ++ string_bytes text
 reason_text (reasons.Unwritten text) = codes "cannot be written: " ++ string_bytes text
 reason_text (reasons.Unsynced text) = codes "cannot be synced: " ++ string_bytes text
 
--- what to do about a refusal for this reason: a file of another length than its store has a sentence of its own
+-- what to do about a file of another length than its store: one byte more is left by a copy that was interrupted, whose file lacks tables
+abbrev pub length_remedy : OtherLength → List ℕ
+length_remedy other = if other.bytes == other.sectors * 512 + 1 then remedies.UNFINISHED_COPY.now else remedies.LENGTH_OF_THE_STORE.now
+
+-- what to do about a file that can't be read
+abbrev pub unread_remedy : Refusal → List ℕ
+unread_remedy Io = remedies.READABLE_FILE.now
+unread_remedy refusal = remedy refusal
+
+-- what to do about a file that can't be written or synced
+abbrev pub unwritten_remedy : Refusal → List ℕ
+unwritten_remedy Io = remedies.ROOM_ON_THE_DISK.now
+unwritten_remedy refusal = remedy refusal
+
+-- what to do about a refusal for this reason
 abbrev pub reason_remedy : FileReason → Refusal → List ℕ
-reason_remedy (reasons.OtherLength other) refusal = WHOLE_FILE.now
-reason_remedy reason refusal = remedy refusal
+reason_remedy reasons.Locked refusal = remedies.WAIT.now
+reason_remedy reasons.Exists refusal = remedies.NEW_PATH.now
+reason_remedy reasons.Folder refusal = remedies.NO_FOLDER.now
+reason_remedy reasons.NotRegular refusal = remedies.NO_FOLDER.now
+reason_remedy (reasons.Length bytes) refusal = remedies.FILE_OF_A_STORE.now
+reason_remedy (reasons.OtherLength other) refusal = length_remedy other
+reason_remedy (reasons.Unopened text) refusal = remedies.PATH_AND_RIGHTS.now
+reason_remedy (reasons.Unmade text) refusal = remedies.FOLDER_OF_A_NEW_FILE.now
+reason_remedy (reasons.Unread text) refusal = unread_remedy refusal
+reason_remedy (reasons.Unwritten text) refusal = unwritten_remedy refusal
+reason_remedy (reasons.Unsynced text) refusal = unwritten_remedy refusal

@@ -12,7 +12,7 @@ use Rattle.cli_refusals.specs.Shown.{shown}
 use Rattle.cli_refusals.specs.Form.{line_form, name_form, script_line_form}
 use Rattle.cli_refusals.specs.Remedies.{remedy}
 use Rattle.cli_refusals.specs.declared.refusal.Refusal.{Refusal}
-use Rattle.cli_refusals.specs.declared.remedies.TheConstants.{NUMBER_OF_SECTORS}
+use Rattle.cli_refusals.specs.declared.remedies.TheConstants.{NUMBER_OF_SECTORS, READ_INPUT, LOOK_FIRST}
 
 -- the name of a field, and its text
 abbrev pub field_text : (name text : Option (List ℕ)) → List ℕ
@@ -61,6 +61,11 @@ abbrev pub counts_text : (whole part : List ℕ) → (parts columns : ℕ) → L
 counts_text whole part parts columns =
     codes "The " ++ whole ++ codes " has " ++ counted parts part ++ codes ", and the table " ++ counted columns (codes "column") ++ codes ". "
 
+-- the number of names of a header, of which an empty input has none
+abbrev pub header_count_text : (names columns : ℕ) → List ℕ
+header_count_text names columns =
+    if names == 0 then codes "The input has no header. " else counts_text (codes "header") (codes "name") names columns
+
 -- an array at the end of a path, with another number of items than is wanted
 abbrev pub items_text : (path : List ℕ) → (items wanted : ℕ) → List ℕ
 items_text path items wanted = codes "The field `" ++ path ++ codes "` has " ++ counted items (codes "item") ++ codes " instead of " ++ decimal wanted ++ codes ". "
@@ -90,7 +95,7 @@ line_part_text (Some (repeated_name name)) = repeated_text (shown name)
 unfoldable pub part_text : PlainPart → List ℕ
 part_text (nested_column name) = nested_text (shown name)
 part_text (header_name found wanted) = header_text (shown found) (shown wanted) ++ name_form found
-part_text (header_count names columns) = counts_text (codes "header") (codes "name") names columns
+part_text (header_count names columns) = header_count_text names columns
 part_text (record_count fields columns) = counts_text (codes "record") (codes "field") fields columns
 part_text (field name text) = field_text (shown name) (shown text)
 part_text (line part text) = line_text (shown text) ++ line_form text ++ line_part_text part
@@ -110,8 +115,10 @@ hint_text (Field name) = field_text (shown name.now) None
 hint_text (OtherField name found wanted) = other_field_text (shown name.now) (shown found.now) (shown wanted.now)
 hint_text (FieldCount fields columns) = counts_text (codes "input") (codes "field") fields columns
 
--- what to do about a refusal of which this is known: a number of sectors has a sentence of its own, and so has a file of another length
+-- what to do about a refusal of which this is known: a number of sectors, a file, the input and the output have sentences of their own
 abbrev pub remedy_of : Hint → Refusal → List ℕ
 remedy_of (Sectors number) refusal = NUMBER_OF_SECTORS.now
 remedy_of (File file) refusal = reason_remedy (reason_of file.now) refusal
+remedy_of (Input reason) refusal = READ_INPUT.now
+remedy_of (Output reason) refusal = LOOK_FIRST.now
 remedy_of hint refusal = remedy refusal

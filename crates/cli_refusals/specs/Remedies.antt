@@ -6,6 +6,8 @@ use Rattle.ipc_message.specs.declared.fault.Fault as streams
 use Rattle.ipc_message.specs.declared.fault.Fault.TheVariants as faults
 use Rattle.text_import.specs.declared.refusal.Refusal as text_refusals
 use Rattle.text_import.specs.declared.refusal.Refusal.TheVariants as texts
+use Rattle.tables.specs.declared.refusal.Limit.{Limit}
+use Rattle.tables.specs.declared.refusal.Limit.TheVariants as limits
 use Rattle.tables.specs.declared.refusal.QueryRefusal.{QueryRefusal}
 use Rattle.tables.specs.declared.refusal.QueryRefusal.TheVariants as queries
 use Rattle.tables.specs.declared.refusal.Refusal as store_refusals
@@ -46,6 +48,7 @@ text_remedy texts.Nested = remedies.GIVE_JSON_LINES.now
 text_remedy texts.AmbiguousNames = remedies.GIVE_ARRAYS.now
 text_remedy texts.NotANumber = remedies.WRITE_DIGITS.now
 text_remedy texts.Json = remedies.ROW_ON_A_LINE.now
+text_remedy texts.Width = remedies.CLOSE_QUOTATION_MARKS.now
 text_remedy _ = remedies.FIX_RECORD.now
 
 -- for a query
@@ -62,7 +65,16 @@ opening_remedy (openings.Damaged cause) = remedies.EARLIER_COPY.now
 opening_remedy openings.Device = remedies.TRY_AGAIN.now
 opening_remedy openings.OutOfMemory = remedies.MORE_MEMORY.now
 
--- for the open store; a fault and a query have their own
+-- for a limit of the open store
+unfoldable pub limit_remedy : Limit → List ℕ
+limit_remedy limits.Tables = remedies.FEWER_TABLES.now
+limit_remedy limits.Segments = remedies.FEWER_SEGMENTS.now
+limit_remedy limits.Epochs = remedies.NEW_STORE.now
+limit_remedy limits.Weight = remedies.OTHER_TABLE.now
+limit_remedy limits.Bytes = remedies.GIVE_LESS.now
+limit_remedy limits.Exports = remedies.CLOSE_AN_EXPORT.now
+
+-- for the open store; a fault, a limit and a query have their own
 unfoldable pub store_remedy : store_refusals.Refusal → List ℕ
 store_remedy stores.NoTable = remedies.NAME_OF_A_TABLE.now
 store_remedy stores.NameTaken = remedies.OTHER_NAME.now
@@ -70,7 +82,7 @@ store_remedy stores.BadName = remedies.FORM_OF_A_NAME.now
 store_remedy stores.SchemaMismatch = remedies.FIELDS_OF_THE_TABLE.now
 store_remedy (stores.Import fault) = fault_remedy fault
 store_remedy (stores.RowUnfit row) = remedies.FIX_ROW.now
-store_remedy (stores.TooMany limit) = remedies.GIVE_LESS.now
+store_remedy (stores.TooMany limit) = limit_remedy limit
 store_remedy (stores.NoRoom sectors) = remedies.MORE_ROOM.now
 store_remedy stores.Device = remedies.LOOK_AGAIN.now
 store_remedy stores.Halted = remedies.LOOK_AGAIN.now

@@ -2,11 +2,14 @@
 ghost use Rattle.std.specs.Prelude.{◌≡◌, false, IfSome};
 ghost use Rattle.std.specs.List.{list_any};
 ghost use Rattle.std.specs.Str.{chars};
-ghost use Rattle.cli_refusals.specs.FailedFile.{path_of, reason_of, reason_remedy};
+ghost use Rattle.cli_refusals.specs.FailedFile.{path_of, reason_of, length_remedy, unread_remedy, unwritten_remedy, reason_remedy};
 ghost use Rattle.cli_refusals.specs.Shown.{is_unshown};
 
 use crate::Refusal;
-use crate::remedies::WHOLE_FILE;
+use crate::remedies::{
+    FILE_OF_A_STORE, FOLDER_OF_A_NEW_FILE, LENGTH_OF_THE_STORE, NEW_PATH, NO_FOLDER,
+    PATH_AND_RIGHTS, READABLE_FILE, ROOM_ON_THE_DISK, UNFINISHED_COPY, WAIT,
+};
 use crate::shown::has_unshown;
 use std::alloc::Global;
 use std::fmt;
@@ -16,6 +19,19 @@ use std::fmt;
 pub struct OtherLength {
     pub bytes: u64,
     pub sectors: u32,
+}
+
+impl OtherLength {
+    // Returns what to do about the file, in a sentence. Until its end, a `copy` keeps its file one byte longer than its sectors.
+    fn remedy(self) -> &'static str
+        ensures { result.now ≡ length_remedy self }
+    {
+        if self.bytes == self.sectors as u64 * 512 + 1 {
+            UNFINISHED_COPY
+        } else {
+            LENGTH_OF_THE_STORE
+        }
+    }
 }
 
 impl fmt::Display for OtherLength {
@@ -50,8 +66,10 @@ pub enum FileReason {
     Length(u64),
     /// It has another length than its store.
     OtherLength(OtherLength),
-    /// It could not be opened or made, with the system's reason.
+    /// It could not be opened, with the system's reason.
     Unopened(String),
+    /// It could not be made, with the system's reason.
+    Unmade(String),
     /// It could not be read, with the system's reason.
     Unread(String),
     /// It could not be written or given its length, with the system's reason.
@@ -60,14 +78,40 @@ pub enum FileReason {
     Unsynced(String),
 }
 
+// Returns what to do about a file that can't be read. A device has the remedy of its refusal, and so has one that can't be written.
+fn unread_remedy(refusal: Refusal) -> &'static str
+    ensures { result.now ≡ unread_remedy refusal }
+{
+    match refusal {
+        Refusal::Io => READABLE_FILE,
+        _ => refusal.remedy(),
+    }
+}
+
+fn unwritten_remedy(refusal: Refusal) -> &'static str
+    ensures { result.now ≡ unwritten_remedy refusal }
+{
+    match refusal {
+        Refusal::Io => ROOM_ON_THE_DISK,
+        _ => refusal.remedy(),
+    }
+}
+
 impl FileReason {
     // Returns what to do about a refusal for this reason, in a sentence.
     pub(crate) fn remedy(&self, refusal: Refusal) -> &'static str
         ensures { result.now ≡ reason_remedy self.now refusal }
     {
         match self {
-            FileReason::OtherLength(_) => WHOLE_FILE,
-            _ => refusal.remedy(),
+            FileReason::Locked => WAIT,
+            FileReason::Exists => NEW_PATH,
+            FileReason::Folder | FileReason::NotRegular => NO_FOLDER,
+            FileReason::Length(_) => FILE_OF_A_STORE,
+            FileReason::OtherLength(other) => other.remedy(),
+            FileReason::Unopened(_) => PATH_AND_RIGHTS,
+            FileReason::Unmade(_) => FOLDER_OF_A_NEW_FILE,
+            FileReason::Unread(_) => unread_remedy(refusal),
+            FileReason::Unwritten(_) | FileReason::Unsynced(_) => unwritten_remedy(refusal),
         }
     }
 }
@@ -87,6 +131,7 @@ impl fmt::Display for FileReason {
             FileReason::Length(bytes) => write!(f, "has {bytes} bytes"),
             FileReason::OtherLength(other) => write!(f, "{other}"),
             FileReason::Unopened(text) => write!(f, "cannot be opened: {text}"),
+            FileReason::Unmade(text) => write!(f, "cannot be made: {text}"),
             FileReason::Unread(text) => write!(f, "cannot be read: {text}"),
             FileReason::Unwritten(text) => write!(f, "cannot be written: {text}"),
             FileReason::Unsynced(text) => write!(f, "cannot be synced: {text}"),

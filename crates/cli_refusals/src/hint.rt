@@ -5,7 +5,7 @@ ghost use Rattle.cli_refusals.specs.Shown.{shown};
 
 use crate::form::script_line_form;
 use crate::part_shown::{Counts, FieldShown, LineShown, OtherFieldShown, PartShown};
-use crate::remedies::NUMBER_OF_SECTORS;
+use crate::remedies::{LOOK_FIRST, NUMBER_OF_SECTORS, READ_INPUT};
 use crate::shown::shown;
 use crate::{FailedFile, Refusal, Word};
 use std::alloc::AllocError;
@@ -112,6 +112,8 @@ impl Hint<'_> {
         match self {
             Hint::Sectors(_) => NUMBER_OF_SECTORS,
             Hint::File(file) => file.reason.remedy(refusal),
+            Hint::Input(_) => READ_INPUT,
+            Hint::Output(_) => LOOK_FIRST,
             _ => refusal.remedy(),
         }
     }

@@ -3,19 +3,22 @@ ghost use Rattle.std.specs.Prelude.{◌≡◌, string_bytes, IfOk};
 ghost use Rattle.cli_refusals.specs.Page.{refusals_page};
 
 use crate::remedies::{
-    CHECK_FILES, CONVERT_COLUMN, EARLIER_COPY, FEWER_FIELDS, FEWER_ROWS, FIELDS_OF_THE_TABLE,
-    FILE_OF_A_STORE, FIX_RECORD, FIX_ROW, FORM_OF_A_CONDITION, FORM_OF_A_FIELD, FORM_OF_A_NAME,
-    GIVE_A_STREAM, GIVE_ALL, GIVE_ARRAYS, GIVE_JSON_LINES, GIVE_LESS, IMPORT_AGAIN,
-    LEAVE_OUT_MESSAGES, LINES_OF_A_SCRIPT, LITTLE_ENDIAN, LOOK_AGAIN, MORE_MEMORY, MORE_ROOM,
-    NAME_OF_A_TABLE, NAMES_FIRST, NAMES_OF_COLUMNS, NO_COMPRESSION, NUMBER_OF_SECTORS, ONE_STREAM,
-    OTHER_NAME, ROW_ON_A_LINE, SCHEMA_FIRST, SHORTER_BATCHES, SMALLER_FIELDS, TEST_FOR_NULL,
-    TRY_AGAIN, WHOLE_FILE, WRITE_AGAIN, WRITE_DIGITS, WRITE_V5,
+    CHECK_FILES, CLOSE_AN_EXPORT, CLOSE_QUOTATION_MARKS, CONVERT_COLUMN, EARLIER_COPY,
+    FEWER_FIELDS, FEWER_ROWS, FEWER_SEGMENTS, FEWER_TABLES, FIELDS_OF_THE_TABLE, FILE_OF_A_STORE,
+    FIX_RECORD, FIX_ROW, FOLDER_OF_A_NEW_FILE, FORM_OF_A_CONDITION, FORM_OF_A_FIELD,
+    FORM_OF_A_NAME, GIVE_A_STREAM, GIVE_ALL, GIVE_ARRAYS, GIVE_JSON_LINES, GIVE_LESS, IMPORT_AGAIN,
+    LEAVE_OUT_MESSAGES, LENGTH_OF_THE_STORE, LINES_OF_A_SCRIPT, LITTLE_ENDIAN, LOOK_AGAIN,
+    LOOK_FIRST, MORE_MEMORY, MORE_ROOM, NAME_OF_A_TABLE, NAMES_FIRST, NAMES_OF_COLUMNS, NEW_PATH,
+    NEW_STORE, NO_COMPRESSION, NO_FOLDER, NUMBER_OF_SECTORS, ONE_STREAM, OTHER_NAME, OTHER_TABLE,
+    PATH_AND_RIGHTS, READ_INPUT, READABLE_FILE, ROOM_ON_THE_DISK, ROW_ON_A_LINE, SCHEMA_FIRST,
+    SHORTER_BATCHES, SMALLER_FIELDS, TEST_FOR_NULL, TRY_AGAIN, UNFINISHED_COPY, WAIT, WHOLE_FILE,
+    WRITE_AGAIN, WRITE_DIGITS, WRITE_V5,
 };
 use std::alloc::{AllocError, Global};
 
 /// What each refusal means and what to do about it: strings to be joined, among them the sentences of `remedies`. The file `docs/refusals.md` has
 /// the same bytes.
-pub const REFUSALS: [&str; 91] = [
+pub const REFUSALS: [&str; 129] = [
     "# What each refusal means
 
 A refusal is one line on standard error: `refused`, a code, a name, and for some of them a detail, as in
@@ -116,17 +119,61 @@ or appended. If no advice follows a fault, the cause is the program that wrote t
   ",
     CHECK_FILES,
     "
+  If a terminal shows what failed, it gives one of these in place of that.
+  For the input: ",
+    READ_INPUT,
+    "
+  For the output: ",
+    LOOK_FIRST,
+    "
+  For a file that is locked: ",
+    WAIT,
+    "
+  For a file to be made that exists: ",
+    NEW_PATH,
+    "
+  For a file that can't be made: ",
+    FOLDER_OF_A_NEW_FILE,
+    "
+  For another file that can't be opened: ",
+    PATH_AND_RIGHTS,
+    "
+  For a file that can't be read: ",
+    READABLE_FILE,
+    "
+  For a file that can't be written or synced: ",
+    ROOM_ON_THE_DISK,
+    "
+  For a folder, a named pipe or a device that is not a disk: ",
+    NO_FOLDER,
+    "
 - G2 BadSize: a store has 16 to 4,194,304 sectors, and its file has exactly 512 bytes for each of them.
   The given number of sectors, or the length of the file, is not possible. Such a file is not a store, or
-  it was cut short or made longer, or a `copy` into it was interrupted. A folder, a named pipe, or a device
-  that is not a disk is refused in the same way, if it is to be read as a store. A terminal shows the length
-  of the file, and the length that it should have, if it begins as a store does.
+  it was cut short or made longer, or a `copy` into it was interrupted: until its end, a copy has one byte
+  more than its sectors, and may lack tables. A folder, a named pipe, or a device that is not a disk is
+  refused in the same way, if it is to be read as a store. A terminal shows the length of the file, and the
+  length that it should have, if it begins as a store does.
+  ",
+    WHOLE_FILE,
+    "
+  If a terminal shows what is refused, it gives one of these in place of that.
   For the number of sectors: ",
     NUMBER_OF_SECTORS,
     "
-  For a file:
+  For a file with one byte more than the store that it begins with:
   ",
-    WHOLE_FILE,
+    UNFINISHED_COPY,
+    "
+  For a file of another length than the store that it begins with:
+  ",
+    LENGTH_OF_THE_STORE,
+    "
+  For a file that does not begin as a store does:
+  ",
+    FILE_OF_A_STORE,
+    "
+  For a folder, a named pipe or a device that is not a disk: ",
+    NO_FOLDER,
     "
 - G3 BadScript N: `replay` cannot play line N of the script, counted from 1. Single spaces separate the
   words of a line. Either these words are not a command of a script, or a field text is refused (P).
@@ -144,19 +191,19 @@ or appended. If no advice follows a fault, the cause is the program that wrote t
   some of its bytes were changed, or it was copied while a command changed it. The causes are:
   DeviceSize: the file is shorter or longer than its store says. A terminal shows both lengths. `replay`,
   which makes a device of its own, reports this if no store can have the number of sectors of `--sectors`.
+  A file with one byte more is refused as G2 BadSize: it is never cut off, since it may lack tables.
   CatalogueRange: the place of the list of tables is past the end of the file or in its first two sectors,
   or its length is impossible.
   CatalogueUnreadable: a sector of the list of tables can't be read.
   CatalogueText: the bytes at that place are not a list of tables.
   RunRange: the place of some rows is past the end of the file or in its first two sectors.
   RunOverlap: the place of some rows overlaps that of other rows or of the list of tables.
-  If there is no earlier copy, see \"A store that does not open\" in docs/using.md.
   ",
     EARLIER_COPY,
     "
-  For a file of another length:
+  For a file of another length than its store:
   ",
-    WHOLE_FILE,
+    LENGTH_OF_THE_STORE,
     "
   For the number of sectors: ",
     NUMBER_OF_SECTORS,
@@ -196,6 +243,9 @@ appended. If no advice follows a refusal, the cause is that record.
     "
 - X2 Width N: the record has more or fewer fields than the table has columns, or an array has more or
   fewer items than its struct or its list of fixed size.
+  ",
+    CLOSE_QUOTATION_MARKS,
+    "
 - X3 NotUtf8 N: a text, or a line of JSON, is not UTF-8.
 - X4 NotANumber N: a value is not an integer, which is written as digits, with or without a `-` before
   them. Dates and timestamps are integers too. In JSON `-0`, `1.0` and integers of more than 64 bits are
@@ -211,7 +261,8 @@ appended. If no advice follows a refusal, the cause is that record.
     GIVE_JSON_LINES,
     "
 - X10 Json N: the line is not a JSON value, or it is nested more than 127 deep, or it has a number that is
-  too large for a float, or half of a surrogate pair without the other half.
+  too large for a float, or half of a surrogate pair without the other half. Within a string a tab is
+  written as `\\t`.
   ",
     ROW_ON_A_LINE,
     "
@@ -263,11 +314,24 @@ appended. If no advice follows a refusal, the cause is that record.
   ",
     FIX_ROW,
     "
-- S7 TooMany WHAT: a limit would be exceeded. Bytes: 2,147,483,647 of an input. Tables: 1,024. Segments:
-  65,536 of all tables together, of up to 4,096 rows each. Weight: 268,435,456 of a table (F28). Epochs:
-  the store has had as many changes as it can number.
-  ",
+- S7 TooMany WHAT: a limit would be exceeded.
+  Bytes: 2,147,483,647 of an input. ",
     GIVE_LESS,
+    "
+  Tables: 1,024. ",
+    FEWER_TABLES,
+    "
+  Segments: 65,536 of all tables together, of up to 4,096 rows each. ",
+    FEWER_SEGMENTS,
+    "
+  Weight: 268,435,456 of a table (F28). ",
+    OTHER_TABLE,
+    "
+  Epochs: the store has had as many changes as it can number. ",
+    NEW_STORE,
+    "
+  Exports: 64 that are open at once, which only the library opens. ",
+    CLOSE_AN_EXPORT,
     "
 - S8 NoRoom N: a change writes one or more parts. One of them needs N contiguous free sectors, and there
   were not as many. The parts before it count as used, so `info` may show a longer free run. For `copy`

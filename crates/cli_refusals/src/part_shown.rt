@@ -321,6 +321,33 @@ impl fmt::Display for Counts {
     }
 }
 
+// The number of names of a header, of which an empty input has none, and the number of columns of the table.
+#[derive(Drop)]
+struct HeaderCounts {
+    names: usize,
+    columns: usize,
+}
+
+impl fmt::Display for HeaderCounts {
+    ghost use Rattle.std.specs.Prelude.{Some};
+    ghost use Rattle.cli_refusals.specs.Hint.{header_count_text};
+
+    ghost output = { λ counts. Some (header_count_text counts.names counts.columns) };
+
+    fn fmt<W: fmt::Write>(&self, f: &mut fmt::Formatter<W>) -> fmt::Result {
+        if self.names == 0 {
+            return f.write_str("The input has no header. ");
+        }
+        let counts = Counts {
+            whole: "header",
+            part: "name",
+            parts: self.names,
+            columns: self.columns,
+        };
+        write!(f, "{counts}")
+    }
+}
+
 // A part of a line, as far as it may be shown.
 #[derive(Drop)]
 struct LinePartShown<'a> {
@@ -399,10 +426,8 @@ impl fmt::Display for PartShown<'_> {
                 write!(f, "{names}{}", name_form(found))
             }
             RefusedPart::HeaderCount { names, columns } => {
-                let counts = Counts {
-                    whole: "header",
-                    part: "name",
-                    parts: *names,
+                let counts = HeaderCounts {
+                    names: *names,
                     columns: *columns,
                 };
                 write!(f, "{counts}")

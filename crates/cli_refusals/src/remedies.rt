@@ -1,12 +1,12 @@
 // What to do about each refusal, in a sentence that the page of refusals and a terminal show.
 ghost use Rattle.std.specs.Prelude.{◌≡◌};
-ghost use Rattle.cli_refusals.specs.Remedies.{fault_remedy, fields_remedy, text_remedy, query_remedy, opening_remedy, store_remedy, remedy};
+ghost use Rattle.cli_refusals.specs.Remedies.{fault_remedy, fields_remedy, text_remedy, query_remedy, opening_remedy, limit_remedy, store_remedy, remedy};
 
 use crate::Refusal;
 use commit::OpeningRefusal;
 use field_texts::ParseError;
 use ipc_message::Fault;
-use tables::QueryRefusal;
+use tables::{Limit, QueryRefusal};
 
 // ---- F: streams
 
@@ -45,10 +45,38 @@ pub const FEWER_ROWS: &str = "Give fewer rows.";
 pub const CHECK_FILES: &str =
     "Check the path, the input and the output. If the output failed, the command may be done already: look with `tables` before you try again.";
 
+pub const READ_INPUT: &str =
+    "Check the input: give a file or a pipe that can be read, and run the command again.";
+
+pub const LOOK_FIRST: &str =
+    "Check the output. A command that changes a table may be done already: look with `tables` before you try again.";
+
+pub const WAIT: &str = "Wait until the other program is done with it, and try again.";
+
+pub const NEW_PATH: &str = "Give a path where nothing is: no file is overwritten.";
+
+pub const FOLDER_OF_A_NEW_FILE: &str =
+    "Check the path: its folder must exist, and you need the right to make files in it.";
+
+pub const PATH_AND_RIGHTS: &str = "Check the path, and your rights to the file and to its folders.";
+
+pub const READABLE_FILE: &str = "Check that it is a file that can be read, and try again.";
+
+pub const ROOM_ON_THE_DISK: &str =
+    "Check the disk, its room and any limit on the size of files, and try again.";
+
 pub const NUMBER_OF_SECTORS: &str = "Give 16 to 4194304 sectors.";
 
 pub const WHOLE_FILE: &str =
-    "Give the whole file of a store. If it was made longer, cut it off. Delete it only if it is the new file of a `copy` that was interrupted; then copy again.";
+    "Give the whole file of a store. If it is the new file of a `copy` that was interrupted, delete it and copy again.";
+
+pub const UNFINISHED_COPY: &str =
+    "If this is the new file of a `copy` that was interrupted, it lacks tables: do not cut it off, but delete it, and copy the old store again.";
+
+pub const LENGTH_OF_THE_STORE: &str =
+    "Use an earlier copy of the file. Or give a copy of it the length of its store, as by `truncate -s`, and run `check` on that.";
+
+pub const NO_FOLDER: &str = "Give the file of a store, or a disk that holds one.";
 
 pub const LINES_OF_A_SCRIPT: &str =
     "Write each line as `create NAME FIELD ..`, `import NAME FILE`, `append NAME FILE`, `rename FROM TO`, `drop NAME`, `compact`, `upgrade` or `reopen`.";
@@ -56,7 +84,8 @@ pub const LINES_OF_A_SCRIPT: &str =
 pub const FILE_OF_A_STORE: &str =
     "Give the file of a store. If a `format` or `copy` was interrupted, delete its new file and run the command again.";
 
-pub const EARLIER_COPY: &str = "Use an earlier copy of the file.";
+pub const EARLIER_COPY: &str =
+    "Use an earlier copy of the file. If there is none, see \"A store that does not open\" in docs/using.md.";
 
 pub const TRY_AGAIN: &str = "Check the disk, and try again.";
 
@@ -72,11 +101,14 @@ pub const SMALLER_FIELDS: &str =
 
 pub const FIX_RECORD: &str = "Fix the record, and append the whole text again.";
 
+pub const CLOSE_QUOTATION_MARKS: &str =
+    "Fix the record, and append the whole text again. In CSV a quotation mark that is not closed takes the lines after it into its field.";
+
 pub const WRITE_DIGITS: &str =
-    "Write an integer as digits; a date or a timestamp is the number of days or seconds, .. since 1970-01-01. Then append the whole text again.";
+    "Write an integer as digits, within 64 bits; a date or a timestamp is the number of days or seconds, .. since 1970-01-01. Then append the whole text again.";
 
 pub const ROW_ON_A_LINE: &str =
-    "Write each row on one line: `jq -c '.[]'` makes lines of one array, and `jq -c .` of values over several lines. Then append the whole text again.";
+    "Fix the line. If rows are over several lines, `jq -c .` makes a line of each, and `jq -c '.[]'` does so of one array. Then append the whole text again.";
 
 pub const NAMES_FIRST: &str =
     "Begin the text with the names of the columns, in the order that `schema` prints.";
@@ -99,7 +131,7 @@ pub const TEST_FOR_NULL: &str = "Use `is null` or `is not null` for such a colum
 
 pub const NAME_OF_A_TABLE: &str = "Give the name of a table: `tables` prints them.";
 
-pub const OTHER_NAME: &str = "Use another name, or drop the table that has it.";
+pub const OTHER_NAME: &str = "Use another name: `tables` prints those in use.";
 
 pub const FORM_OF_A_NAME: &str = "Use a name of 1 to 64 ASCII letters, digits, `_`, `-` and `.`.";
 
@@ -108,8 +140,18 @@ pub const FIELDS_OF_THE_TABLE: &str =
 
 pub const FIX_ROW: &str = "Fix the row, and append all rows again.";
 
-pub const GIVE_LESS: &str =
-    "For Bytes give less at once; for Weight start another table; for Segments use `compact`; for Tables drop some; for Epochs `copy` the store.";
+pub const GIVE_LESS: &str = "Give less at once.";
+
+pub const FEWER_TABLES: &str = "Drop a table first.";
+
+pub const FEWER_SEGMENTS: &str =
+    "Use `compact`, which joins segments, and append many rows at once.";
+
+pub const OTHER_TABLE: &str = "Start another table.";
+
+pub const NEW_STORE: &str = "Use `copy`: the new store counts from the beginning.";
+
+pub const CLOSE_AN_EXPORT: &str = "Close an export first.";
 
 pub const MORE_ROOM: &str =
     "Drop tables, use `compact`, or `copy` the store: the copy has longer free runs. If that does not help, or a `copy` is refused, give it more sectors.";
@@ -180,8 +222,8 @@ fn text_remedy(refusal: text_import::Refusal) -> &'static str
         text_import::Refusal::AmbiguousNames => GIVE_ARRAYS,
         text_import::Refusal::NotANumber => WRITE_DIGITS,
         text_import::Refusal::Json => ROW_ON_A_LINE,
-        text_import::Refusal::Width
-        | text_import::Refusal::NotUtf8
+        text_import::Refusal::Width => CLOSE_QUOTATION_MARKS,
+        text_import::Refusal::NotUtf8
         | text_import::Refusal::OutOfRange
         | text_import::Refusal::NotABool
         | text_import::Refusal::NotHex
@@ -219,6 +261,20 @@ fn opening_remedy(refusal: OpeningRefusal) -> &'static str
     }
 }
 
+#[tactic(auto, unfolding(crate::specs::Remedies::limit_remedy))]
+fn limit_remedy(limit: Limit) -> &'static str
+    ensures { result.now ≡ limit_remedy limit }
+{
+    match limit {
+        Limit::Tables => FEWER_TABLES,
+        Limit::Segments => FEWER_SEGMENTS,
+        Limit::Epochs => NEW_STORE,
+        Limit::Weight => OTHER_TABLE,
+        Limit::Bytes => GIVE_LESS,
+        Limit::Exports => CLOSE_AN_EXPORT,
+    }
+}
+
 #[tactic(auto, unfolding(crate::specs::Remedies::store_remedy))]
 fn store_remedy(refusal: tables::Refusal) -> &'static str
     ensures { result.now ≡ store_remedy refusal }
@@ -230,7 +286,7 @@ fn store_remedy(refusal: tables::Refusal) -> &'static str
         tables::Refusal::SchemaMismatch => FIELDS_OF_THE_TABLE,
         tables::Refusal::Import(fault) => fault_remedy(fault),
         tables::Refusal::RowUnfit(_) => FIX_ROW,
-        tables::Refusal::TooMany(_) => GIVE_LESS,
+        tables::Refusal::TooMany(limit) => limit_remedy(limit),
         tables::Refusal::NoRoom(_) => MORE_ROOM,
         tables::Refusal::Device | tables::Refusal::Halted => LOOK_AGAIN,
         tables::Refusal::Query(reason) => query_remedy(reason),

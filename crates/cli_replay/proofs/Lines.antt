@@ -9,6 +9,7 @@ use Rattle.facts.specs.Texts.{text_list}
 use Rattle.cli_replay.specs.declared.script.ScriptLine.{ScriptLine}
 use Rattle.cli_replay.specs.Plain.{plain_line, plain_lines}
 use Rattle.std.specs.Str.{is_utf8}
+use Rattle.std.proofs.lemmas.Option.{cond_some}
 use Rattle.cli_replay.specs.Script.{PlainLine, lines_of, ends_empty, IsLine, ReadsLine, AreLines}
 
 -- one more word
@@ -55,10 +56,6 @@ none_word : (t : Bool) (word : List ℕ) → None ≡ (if t then Some word else 
 none_word true word is = absurd cc
 none_word false word is = refl
 
-some_word : (t : Bool) (word part : List ℕ) → Some word ≡ (if t then Some part else None) → (t ≡ true) × (word ≡ part)
-some_word true word part is = (refl, cc)
-some_word false word part is = absurd cc
-
 pub refused_word : (parts : List (Bor (List ℕ))) (i : ℕ) (d : Bor (List ℕ)) (found : Option (Bor (List ℕ))) → i < length parts
     → option_map (λ (t : Bor (List ℕ)). t.now) found ≡ (if is_utf8 (get_or parts i d).now then Some (get_or parts i d).now else None) → found ≡ None
     → None ≡ (if list_all is_utf8 (text_list parts) then Some (text_list parts) else None)
@@ -78,10 +75,10 @@ word_kept parts i d words found word lt read some so_far =
     let part = (get_or parts i d).now in
     let at = get_or-map (λ (t : Bor (List ℕ)). t.now) parts i d [] lt in
     let among : i < length (text_list parts) = omega (arith, lt, length-map parts (λ (t : Bor (List ℕ)). t.now)) in
-    let is = some_word (is_utf8 part) word.now part (sym (ap (option_map (λ (t : Bor (List ℕ)). t.now)) some) ∙ read) in (
+    let is = cond_some (is_utf8 part) part word.now (sym read ∙ ap (option_map (λ (t : Bor (List ℕ)). t.now)) some) in (
       words_more (text_list parts) i among so_far.0 (ap is_utf8 at ∙ is.0),
       map-append (λ (t : Bor (List ℕ)). t.now) words (word ∷ []) ∙ ap (λ (ts : List (List ℕ)). ts ++ word.now ∷ []) so_far.1
-          ∙ ap (λ (t : List ℕ). take i (text_list parts) ++ t ∷ []) (is.1 ∙ sym at) ∙ sym (take_more (text_list parts) i [] among),
+          ∙ ap (λ (t : List ℕ). take i (text_list parts) ++ t ∷ []) (sym (at ∙ is.1)) ∙ sym (take_more (text_list parts) i [] among),
     )
 
 -- a part that is a line goes after the lines so far

@@ -3,8 +3,7 @@ use Rattle.std.proofs.Common.{◌≡◌, Bool, true, false, refl, subst}
 use Rattle.commit.specs.declared.opening_refusal.OpeningRefusal.{OpeningRefusal}
 use Rattle.commit.specs.declared.opening_refusal.OpeningRefusal.TheVariants as openings
 use Rattle.cli_refusals.specs.declared.refusal.Refusal.{Refusal}
-use Rattle.cli_refusals.specs.declared.refusal.Refusal.TheVariants.{Fault, TooManyBytes, Io, BadSize, BadScript, Fields, Text, Query, Opening, OutOfMemory}
-use Rattle.cli_refusals.specs.declared.refusal.Refusal.TheVariants as refusals_in
+use Rattle.cli_refusals.specs.declared.refusal.Refusal.TheVariants.{Opening, OutOfMemory}
 use Rattle.sector_dev.specs.declared.device.SectorDevice.{Ghosts}
 use Rattle.tables.specs.Tables.{no_tables}
 use Rattle.store.specs.declared.call.Call.TheVariants as calls_in
@@ -32,7 +31,7 @@ use Rattle.tables.specs.declared.refusal.Refusal.TheVariants as tables_in
 use Rattle.store.specs.declared.store.Store.{Store}
 use Rattle.store.specs.Listing.{RefusesTables}
 use Rattle.store.specs.Answering.{AnswersOpening, AnswersPlace}
-use Rattle.store_runs.specs.Calls.{PlainReply, tables_call, done, counts, schema_is, table_is, bytes_are, export_is, piece_is, merged, moved, nothing, already, refused}
+use Rattle.store_runs.specs.Calls.{PlainReply, tables_call, done, counts, refused}
 
 by_memory : (s : Setting) (r : OpeningRefusal) (wrote : Bool) (next : Machine) → StepOpen s resumed (shut_by r) wrote next → IsOfPlaying (Opening r)
 by_memory s openings.NotAStore wrote next step = let never : true ≡ false = step.0 in absurd (cc never)
@@ -60,21 +59,10 @@ opening_told g remaining tells device stands reply r place answered is =
 
 -- and why lines that can be played are not
 pub playing_refused : {F : Type 0} (remaining : F → Option (List ℕ)) (sectors : ℕ) (r : Refusal) → is_size sectors ≡ true → IsOfPlaying r → RefusesReplay remaining sectors r
-playing_refused remaining sectors (Fault fault) within why = absurd why
-playing_refused remaining sectors TooManyBytes within why = absurd why
-playing_refused remaining sectors Io within why = absurd why
-playing_refused remaining sectors BadSize within why = absurd why
-playing_refused remaining sectors (BadScript line) within why = absurd why
-playing_refused remaining sectors (Fields error) within why = absurd why
-playing_refused remaining sectors (Text cause) within why = absurd why
-playing_refused remaining sectors (Query refusal) within why = absurd why
-playing_refused remaining sectors (Opening openings.NotAStore) within why = absurd why
-playing_refused remaining sectors (Opening openings.AlreadyAStore) within why = absurd why
-playing_refused remaining sectors (Opening (openings.Damaged cause)) within why = absurd why
 playing_refused remaining sectors (Opening openings.Device) within why = tt
 playing_refused remaining sectors (Opening openings.OutOfMemory) within why = tt
-playing_refused remaining sectors (refusals_in.Store refusal) within why = absurd why
 playing_refused remaining sectors OutOfMemory within why = tt
+playing_refused remaining sectors _ within why = absurd why
 
 -- ---- which replies there are
 
@@ -82,17 +70,7 @@ opening_is : {D : Type 0} {g : Ghosts D} (size : D → ℕ) (story : D → Story
     → AnswersOpening size story tells device reply place → IsOfOpening reply
 opening_is size story tells device done place why = tt
 opening_is size story tells device (shut_by refusal) place why = tt
-opening_is size story tells device (counts tables) place why = absurd why
-opening_is size story tells device (schema_is schema) place why = absurd why
-opening_is size story tells device (table_is table) place why = absurd why
-opening_is size story tells device (bytes_are bytes) place why = absurd why
-opening_is size story tells device (export_is id) place why = absurd why
-opening_is size story tells device (piece_is piece) place why = absurd why
-opening_is size story tells device merged place why = absurd why
-opening_is size story tells device moved place why = absurd why
-opening_is size story tells device nothing place why = absurd why
-opening_is size story tells device already place why = absurd why
-opening_is size story tells device (refused refusal) place why = absurd why
+opening_is size story tells device _ place why = absurd why
 
 -- an opening has no other reply
 pub opening_answers : (device : ModelDevice) (reply : Reply) (place : StoreOrDevice ModelDevice ghosts)
@@ -106,37 +84,13 @@ opening_answers device reply place answered =
 only_memory : (r : tables.Refusal) → RefusesTables false r → r ≡ tables_in.OutOfMemory
 only_memory tables_in.Halted why = let never : false ≡ true = why in absurd (cc never)
 only_memory tables_in.OutOfMemory why = refl
-only_memory tables_in.NoTable why = absurd why
-only_memory tables_in.NameTaken why = absurd why
-only_memory tables_in.BadName why = absurd why
-only_memory tables_in.SchemaMismatch why = absurd why
-only_memory (tables_in.Import fault) why = absurd why
-only_memory (tables_in.RowUnfit row) why = absurd why
-only_memory (tables_in.TooMany limit) why = absurd why
-only_memory (tables_in.NoRoom sectors) why = absurd why
-only_memory tables_in.Device why = absurd why
-only_memory tables_in.NoExport why = absurd why
-only_memory (tables_in.Query reason) why = absurd why
-only_memory (tables_in.SegmentUnread place) why = absurd why
-only_memory (tables_in.SegmentDamaged place) why = absurd why
-only_memory tables_in.Read why = absurd why
-only_memory tables_in.Write why = absurd why
+only_memory _ why = absurd why
 
 listing_is : {D : Type 0} {g : Ghosts D} (size : D → ℕ) (story : D → Story) (failed : D → ℕ) (tells : Bool) (store : Store D g) (reply : PlainReply)
     (after : StoreOrDevice D g) → is_halted store ≡ false → AnswersPlace size story failed tells (places.Open store) tables_call reply after → IsOfListing reply
 listing_is size story failed tells store (counts tables) after on why = tt
 listing_is size story failed tells store (refused refusal) after on why = only_memory refusal (subst (λ (halted : Bool). RefusesTables halted refusal) on why.0)
-listing_is size story failed tells store done after on why = absurd why.0
-listing_is size story failed tells store (schema_is schema) after on why = absurd why.0
-listing_is size story failed tells store (table_is table) after on why = absurd why.0
-listing_is size story failed tells store (bytes_are bytes) after on why = absurd why.0
-listing_is size story failed tells store (export_is id) after on why = absurd why.0
-listing_is size story failed tells store (piece_is piece) after on why = absurd why.0
-listing_is size story failed tells store merged after on why = absurd why.0
-listing_is size story failed tells store moved after on why = absurd why.0
-listing_is size story failed tells store nothing after on why = absurd why.0
-listing_is size story failed tells store already after on why = absurd why.0
-listing_is size story failed tells store (shut_by refusal) after on why = absurd why.0
+listing_is size story failed tells store _ after on why = absurd why.0
 
 listed_after : {D : Type 0} {g : Ghosts D} (size : D → ℕ) (story : D → Story) (failed : D → ℕ) (tells : Bool) (device : D) (opened : PlainReply)
     (place : StoreOrDevice D g) → AnswersOpening size story tells device opened place → (listing : PlainReply) (after : StoreOrDevice D g)
@@ -144,17 +98,7 @@ listed_after : {D : Type 0} {g : Ghosts D} (size : D → ℕ) (story : D → Sto
 listed_after size story failed tells device done (places.Open store) why listing after lists = listing_is size story failed tells store listing after why.1.0 lists
 listed_after size story failed tells device done (places.Shut back) why listing after lists = absurd why.1
 listed_after size story failed tells device (shut_by refusal) place why listing after lists = tt
-listed_after size story failed tells device (counts tables) place why listing after lists = absurd why
-listed_after size story failed tells device (schema_is schema) place why listing after lists = absurd why
-listed_after size story failed tells device (table_is table) place why listing after lists = absurd why
-listed_after size story failed tells device (bytes_are bytes) place why listing after lists = absurd why
-listed_after size story failed tells device (export_is id) place why listing after lists = absurd why
-listed_after size story failed tells device (piece_is piece) place why listing after lists = absurd why
-listed_after size story failed tells device merged place why listing after lists = absurd why
-listed_after size story failed tells device moved place why listing after lists = absurd why
-listed_after size story failed tells device nothing place why listing after lists = absurd why
-listed_after size story failed tells device already place why listing after lists = absurd why
-listed_after size story failed tells device (refused refusal) place why listing after lists = absurd why
+listed_after size story failed tells device _ place why listing after lists = absurd why
 
 -- and the list of the tables after it
 pub listing_answers : (device : ModelDevice) (opened : Reply) (place : StoreOrDevice ModelDevice ghosts)

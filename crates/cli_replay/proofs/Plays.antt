@@ -1,14 +1,25 @@
 -- Lines that are played one after another.
 use Rattle.std.proofs.Common.{◌≡◌, ◌++◌, ◌∙◌, ◌∷◌, [], ℕ, Bool, true, false, List, Option, Some, None, refl, sym, ap, subst, true≢false}
+use Rattle.sector_dev.specs.View.{faults_of}
 use Rattle.sector_dev.specs.declared.device.SectorDevice.{Ghosts}
+use Rattle.sector_dev.specs.declared.model.ModelDevice.{ModelDevice}
 use Rattle.store.specs.declared.call.Call.{Call}
 use Rattle.store.specs.declared.call.StoreOrDevice.{StoreOrDevice}
 use Rattle.store_runs.specs.Calls.{PlainReply}
 use Rattle.store.specs.Places.{device_in, reply_in, replies_of}
 use Rattle.store.specs.declared.call.Reply.{Reply}
 use Rattle.std.proofs.lemmas.List.{map-append}
+use Rattle.std.specs.declared.io.impls.Empty.{Empty}
 use Rattle.store.specs.Answering.{AnswersCall}
 use Rattle.cli_replay.specs.Playing.{PlaysLine, Plays, IsPlayedLine}
+
+-- the play is over
+abbrev pub over : ModelDevice → Bool
+over d = (faults_of d).stopped
+
+-- no call reads
+abbrev pub none_left : Empty → Option (List ℕ)
+none_left reader = Some []
 
 module _ {D : Type 0} (g : Ghosts D) {R : Type 0} (is_over : D → Bool) (remaining : R → Option (List ℕ)) where
   pub plays_none : (place : StoreOrDevice D g) → Plays g is_over remaining place [] [] place

@@ -171,7 +171,7 @@ pub fn row<'a>(
 }
 
 // Reads a valid slot.
-#[tactic(auto, unfolding(crate::specs::CellAt::kind_cell, crate::specs::Texts::has_utf8_texts, crate::specs::Sound::has_sound_children))]
+#[tactic(auto, using(crate::proofs::KindParts::kind_rules), unfolding(crate::specs::CellAt::kind_cell, crate::specs::Texts::has_utf8_texts, crate::specs::Sound::has_sound_children))]
 fn valid_value<'a>(data_type: &'a DataType, view: ArrayView<'a>, i: usize) -> ValueRef<'a>
     requires sound { is_kind_sound (kind_of data_type.now) (view_array view) ≡ true }
     requires within { i < slots_in (view_array view) }

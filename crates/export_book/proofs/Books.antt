@@ -3,8 +3,9 @@ use Rattle.std.proofs.Common.{lit≤, ◌≡◌, ◌⊎◌, inl, inr, ◌≤◌,
 use Rattle.std.specs.Prelude.{nat_le, is_some, IsSome}
 use Rattle.std.specs.Option.{SomeIff}
 use Rattle.std.specs.List.{filter, AllByRecursion}
-use Rattle.std.proofs.lemmas.Bool.{cond_both, leb-false, lt-leb, ltb-true, lt-ltb, cases_lt}
+use Rattle.std.proofs.lemmas.Bool.{cond_both, lt-leb, ltb-true, lt-ltb, cases_lt}
 use Rattle.std.proofs.lemmas.List.{length-append, length-map, map-append}
+use Rattle.export_book.specs.laws.Ids.{has_room}
 use Rattle.segments.specs.declared.run.Run.{Run}
 use Rattle.segments.specs.Usages.{times_among}
 use Rattle.arrow_schema.specs.Column.{PlainSchema}
@@ -67,16 +68,6 @@ fewer_left keep (x ∷ xs) =
 
 pub new_book : IsBook no_exports
 new_book = record { few = lit≤ tt; below = tt; rising = tt; most = lit≤ tt; short = tt; once = tt }
-
--- there is room for one more
-first_false : (a b : Bool) → (a || b) ≡ false → (a ≡ false) × (b ≡ false)
-first_false true b is = absurd cc
-first_false false b is = (refl, is)
-
-pub has_room : (b : PlainBook) → is_full b ≡ false → (length b.exports < MAX_EXPORTS) × (b.next < 2 ^ 64)
-has_room b room =
-    let parts = first_false (nat_le MAX_EXPORTS (length b.exports)) (nat_le (2 ^ 64) b.next) room in
-    (leb-false MAX_EXPORTS (length b.exports) parts.0, leb-false (2 ^ 64) b.next parts.1)
 
 abbrev IsShort : PlainExport → Type 0
 IsShort e = length e.segments ≤ MAX_SEGMENTS

@@ -3,6 +3,7 @@ use Rattle.std.proofs.Common.{◌≡◌, ⊎_elim, ◌<◌, ◌+◌, ◌==◌, �
 use Rattle.std.specs.List.{find, position, position_from, AllByRecursion}
 use Rattle.std.proofs.lemmas.Bool.{cond-true, cond-false, cases_Bool, eqb-true}
 use Rattle.std.proofs.lemmas.Iterator.Adapters.{position_from-zero}
+use Rattle.std.proofs.lemmas.Option.{same_Some}
 use Rattle.export_book.specs.declared.export.OpenExport.{OpenExport}
 use Rattle.export_book.specs.Book.{PlainExport, AreRising, is_of, others_of, gave, with_given}
 use Rattle.export_book.specs.Plain.{plain_export, next_id, book_in}
@@ -57,9 +58,6 @@ module _ (id : ℕ) where
     pub is : place ≡ i + index
     pub placed : Placed es index
 
-  some_is : (a b : ℕ) → Some a ≡ Some b → a ≡ b
-  some_is a b same = cc
-
   first_placed : (e : OpenExport) (es : List OpenExport) → has_id id e ≡ true → Placed (e ∷ es) 0
   first_placed e es hits =
       let p = plain_export e in
@@ -96,7 +94,7 @@ module _ (id : ℕ) where
   placed_from (e ∷ es) i place found =
       ⊎_elim
       (λ (t : has_id id e ≡ true).
-      let here : i ≡ place = some_is i place (sym (cond-true (has_id id e) (Some i) (position_from (has_id id) (i + 1) es) t) ∙ found) in
+      let here : i ≡ place = same_Some i place (sym (cond-true (has_id id e) (Some i) (position_from (has_id id) (i + 1) es) t) ∙ found) in
       record { index = 0; is = omega (arith, here); placed = first_placed e es t })
       (λ (f : has_id id e ≡ false).
       let later = placed_from es (i + 1) place (sym (cond-false (has_id id e) (Some i) (position_from (has_id id) (i + 1) es) f) ∙ found) in

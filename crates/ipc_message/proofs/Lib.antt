@@ -6,7 +6,6 @@ mod ElementLemmas
 mod FieldLemmas
 mod HeaderLemmas
 mod HeaderTable
-mod TableLemmas
 mod NextMessageLemmas
 mod FramedLemmas
 mod Decoded

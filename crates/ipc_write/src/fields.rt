@@ -24,7 +24,7 @@ fn field_node(alloc: Global, field: &Field, next_id: &mut u64) -> Result<Node, A
 }
 
 /// Builds the children of a field of this type.
-#[tactic(auto, unfolding(crate::specs::Trees::child_nodes))]
+#[tactic(auto, using(arrow_schema::specs::declared::types::Field::the_lemmas), unfolding(crate::specs::Trees::child_nodes))]
 #[cycle(fields)]
 fn child_nodes(
     alloc: Global,

@@ -8,7 +8,6 @@ use cells::{Row, Value};
 use field_texts::parse_fields;
 use query::{Condition, Query, RowForm};
 use sector_dev::{FileDevice, ModelDevice, SectorDevice};
-use selection::push_selected_lines;
 use std::alloc::Global;
 use std::env;
 use std::io::{Read, Write};
@@ -39,10 +38,7 @@ fn below_zero<D: SectorDevice + Drop>(alloc: Global, store: &mut Store<D>) -> Re
         conditions: vec![in alloc; Condition::parse(alloc, "value < 0")?]?,
         limit: Some(10),
     };
-    let mut lines = Vec::new(alloc);
-    let table = store.read(alloc, "notes")?;
-    push_selected_lines(alloc, &mut lines, RowForm::Object, &table, &query)?;
-    Ok(lines)
+    Ok(store.selected_lines(alloc, "notes", &query, RowForm::Object)??)
 }
 
 // Each change is safe once its call has returned Ok.

@@ -1,7 +1,8 @@
 // Chooses the columns and rows of a table that a query selects.
-ghost use Rattle.std.specs.Prelude.{◌≡◌, ◌≤◌, ◌*◌, ℕ, List, Ok, Some, IfOk, IfErr, map, length, string_bytes, replicate, true};
+ghost use Rattle.std.specs.Prelude.{◌≡◌, ◌≤◌, ◌*◌, ℕ, List, Ok, Some, IfOk, IfErr, map, length, string_bytes, replicate, slice_index_or, false, true};
 ghost use Rattle.std.specs.List.{range_with_len};
 ghost use Rattle.arrow_schema.specs.View.{column_of, schema_of};
+ghost use Rattle.bitmap.specs.Bits.{bit, bytes_of};
 ghost use Rattle.cells.specs.Cell.{PlainTable};
 ghost use Rattle.values.specs.TableView.{table_of};
 ghost use Rattle.query.specs.Bound.{bound, holds};
@@ -137,14 +138,17 @@ pub fn bind_query(alloc: Global, schema: &Schema, query: &Query) -> Result<Bound
     })
 }
 
-/// Returns a bit for each row of a table, which is set if all conditions of a query hold. The query is bound to the columns of this table.
+/// Returns a bit for each row of a table, which is set if all conditions of a query hold; the bits past the last row are not set. The query is bound to
+/// the columns of this table.
 ///
 /// # Errors
 /// `AllocError` if memory is refused.
 pub fn choose_rows(alloc: Global, table: &Table, query: &BoundQuery) -> Result<Vec<u8>, AllocError>
     ensures rows { IfOk result (λ mask. (places : List ℕ) → rows_set mask.items 0 (map (pick places) (table_of table.now).rows)
         ≡ map (pick places) (rows_held (bound_query_in query.now) (table_of table.now).rows)) }
-    ensures mask { IfOk result (λ mask. length (table_of table.now).rows ≤ 8 * length mask.items) }
+    ensures bits { IfOk result (λ mask. (i : ℕ) → bit mask.items i
+        ≡ slice_index_or (map (holds_all (bound_query_in query.now).bounds) (table_of table.now).rows) i false) }
+    ensures size { IfOk result (λ mask. length mask.items ≡ bytes_of (length (table_of table.now).rows)) }
 {
     mask_of_all(alloc, table, &query.bounds)
 }

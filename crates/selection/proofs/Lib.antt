@@ -6,3 +6,4 @@ pub mod Runs
 pub mod Selected
 pub mod PrintedRows
 pub mod Printable
+pub mod Building

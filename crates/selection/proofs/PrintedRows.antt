@@ -15,14 +15,14 @@ use Rattle.query.specs.Choice.{rows_set}
 use Rattle.query.specs.ObjectLine.{lines_text}
 use Rattle.query.specs.Selection.{pick}
 use Rattle.query.specs.declared.row_form.RowForm.{RowForm}
-use Rattle.query.specs.laws.Limits.{take_both, rows_chosen}
+use Rattle.query.specs.laws.Limits.{take_both}
 use Rattle.query.specs.laws.Lines.{ArePrinted, more_printed}
 use Rattle.query.specs.laws.Readable.{table_texts, picked_texts}
 use Rattle.query.specs.laws.RowsSet.{set_append}
 use Rattle.query.specs.laws.Tests.{all_of_flat, all_both}
 use Rattle.selection.specs.declared.picked.PickedBatch.{PickedBatch}
 use Rattle.selection.specs.inner.Picked.{picked_rows, is_picked_sound, is_picked_readable}
-use Rattle.selection.proofs.Selected.{own_columns, ArePicked}
+use Rattle.selection.proofs.Selected.{own_columns, ArePicked, rows_picked}
 use Rattle.values.specs.Table.{IsTable}
 
 -- ---- batch after batch
@@ -58,6 +58,4 @@ pub rows_printed : (t : PlainTable) (q : PlainBoundQuery) (most : ℕ) (own : Li
     → pick q.places t.schema.columns ≡ map column_of own → given ≡ mask → rows_set mask 0 (map (pick q.places) t.rows) ≡ map (pick q.places) (rows_held q t.rows)
     → most ≡ unwrap_or q.limit (2 ^ 64 - 1) → length t.rows < 2 ^ 64 → take most (rows_set given 0 (flat_map (picked_rows (fields_of own)) batches)) ≡ rows_selected q t.rows
 rows_printed t q most own given mask batches are columns same held is few =
-    (λ i. take most (rows_set (same i) 0 (flat_map (picked_rows (columns_of (sym columns i))) batches)))
-    ∙ ap (λ (rows : List (List Cell)). take most (rows_set mask 0 rows)) are.rows_are
-    ∙ rows_chosen q most t.rows (rows_set mask 0 (map (pick q.places) t.rows)) held is few
+    (λ i. take most (rows_set given 0 (flat_map (picked_rows (columns_of (sym columns i))) batches))) ∙ rows_picked t q most given mask batches are same held is few

@@ -1,6 +1,6 @@
 -- The batches of the columns asked for of a table, and the runs that are kept of them.
-use Rattle.std.proofs.Common.{◌≡◌, ℕ, true, List, map, length, take, sym, ap, subst, ◌∙◌}
-use Rattle.std.specs.Prelude.{sum_by}
+use Rattle.std.proofs.Common.{◌≡◌, ◌<◌, ◌-◌, ◌^◌, ℕ, true, List, map, length, take, sym, ap, subst, ◌∙◌}
+use Rattle.std.specs.Prelude.{sum_by, unwrap_or}
 use Rattle.std.specs.List.{flat_map, list_all}
 use Rattle.std.proofs.lemmas.List.{length-map}
 use Rattle.arrow_schema.specs.Column.{Columns, columns_of, PlainSchema}
@@ -8,9 +8,10 @@ use Rattle.arrow_schema.specs.View.{column_of}
 use Rattle.arrow_schema.specs.declared.types.Field.{Field}
 use Rattle.cells.specs.Cell.{PlainTable}
 use Rattle.columns.specs.View.{fields_of}
-use Rattle.query.specs.declared.choice.Choice.{Choice}
-use Rattle.query.specs.Choice.{rows_set, chosen_table}
+use Rattle.query.specs.BoundQuery.{PlainBoundQuery, rows_held, rows_selected, selected_by}
+use Rattle.query.specs.Choice.{rows_set}
 use Rattle.query.specs.Selection.{pick}
+use Rattle.query.specs.laws.Limits.{rows_chosen}
 use Rattle.table_cut.specs.Rows.{runs_table}
 use Rattle.selection.specs.declared.kept.KeptRuns.{KeptRuns}
 use Rattle.selection.specs.declared.picked.PickedBatch.{PickedBatch}
@@ -51,17 +52,23 @@ are_picked t places parts given_parts fields given_places batches given whole so
 pub picked_counted : (t : PlainTable) (places : List ℕ) (batches : List PickedBatch) → ArePicked t places batches → sum_by (λ b. b.rows) batches ≡ length t.rows
 picked_counted t places batches are = sym (rows_counted (own_columns t places) batches) ∙ ap length are.rows_are ∙ length-map t.rows (pick places)
 
--- the runs that are kept of them have the rows that are chosen
-pub runs_are : (t : PlainTable) (choice : Choice) (s : PlainSchema) (mask : List ℕ) (batches : List PickedBatch) (k : KeptRuns) → ArePicked t choice.columns.items batches
-    → s ≡ (chosen_table choice t).schema → mask ≡ choice.mask.items
-    → ((cs : Columns) → list_all (is_picked_sound cs) batches ≡ true → AreKept cs (take choice.most (rows_set mask 0 (flat_map (picked_rows cs) batches))) k)
-    → AreKept (columns_of s.columns) (chosen_table choice t).rows k
-runs_are t choice s mask batches k are picked same_mask kept =
-    let cs : Columns = own_columns t choice.columns.items in
-    let P : Columns → Type 0 = λ c. AreKept c (chosen_table choice t).rows k in
-    subst P (ap (λ (x : PlainSchema). columns_of x.columns) (sym picked))
-    (kept_same cs _ (chosen_table choice t).rows k (λ i. take choice.most (rows_set (same_mask i) 0 (are.rows_are i))) (kept cs are.sound))
+-- what is set of them is what is selected
+pub rows_picked : (t : PlainTable) (q : PlainBoundQuery) (most : ℕ) (given mask : List ℕ) (batches : List PickedBatch) → ArePicked t q.places batches → given ≡ mask
+    → rows_set mask 0 (map (pick q.places) t.rows) ≡ map (pick q.places) (rows_held q t.rows) → most ≡ unwrap_or q.limit (2 ^ 64 - 1) → length t.rows < 2 ^ 64
+    → take most (rows_set given 0 (flat_map (picked_rows (own_columns t q.places)) batches)) ≡ rows_selected q t.rows
+rows_picked t q most given mask batches are same held is few =
+    (λ i. take most (rows_set (same i) 0 (are.rows_are i))) ∙ rows_chosen q most t.rows (rows_set mask 0 (map (pick q.places) t.rows)) held is few
 
-pub runs_table_is : (t : PlainTable) (choice : Choice) (s : PlainSchema) (k : KeptRuns) → s ≡ (chosen_table choice t).schema → AreKept (columns_of s.columns) (chosen_table choice t).rows k
-    → runs_table s k.runs.items ≡ chosen_table choice t
-runs_table_is t choice s k picked kept = (λ i. record { schema = picked i; rows = kept.rows_are i })
+-- the runs that are kept of them have the rows that are selected
+pub runs_are : (t : PlainTable) (q : PlainBoundQuery) (s : PlainSchema) (most : ℕ) (given : List ℕ) (batches : List PickedBatch) (k : KeptRuns) → ArePicked t q.places batches
+    → s ≡ (selected_by q t).schema → take most (rows_set given 0 (flat_map (picked_rows (own_columns t q.places)) batches)) ≡ rows_selected q t.rows
+    → ((cs : Columns) → list_all (is_picked_sound cs) batches ≡ true → AreKept cs (take most (rows_set given 0 (flat_map (picked_rows cs) batches))) k)
+    → AreKept (columns_of s.columns) (rows_selected q t.rows) k
+runs_are t q s most given batches k are schema rows kept =
+    let cs : Columns = own_columns t q.places in
+    let P : Columns → Type 0 = λ c. AreKept c (rows_selected q t.rows) k in
+    subst P (ap (λ (x : PlainSchema). columns_of x.columns) (sym schema)) (kept_same cs _ (rows_selected q t.rows) k rows (kept cs are.sound))
+
+pub runs_table_is : (t : PlainTable) (q : PlainBoundQuery) (s : PlainSchema) (k : KeptRuns) → s ≡ (selected_by q t).schema → AreKept (columns_of s.columns) (rows_selected q t.rows) k
+    → runs_table s k.runs.items ≡ selected_by q t
+runs_table_is t q s k schema kept = λ i. record { schema = schema i; rows = kept.rows_are i }

@@ -1,3 +1,4 @@
 pub mod LinePrinter
+pub mod SelectionBuilder
 pub mod laws
 pub mod inner

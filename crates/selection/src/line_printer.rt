@@ -1,12 +1,12 @@
 // Prints the selection of a table, whose rows come one part after another.
 ghost use Rattle.std.specs.Prelude.{◌≡◌, ◌≢◌, ◌++◌, Ok, IfOk, IfErr, OnErr, OnOk};
 ghost use Rattle.cells.specs.Cell.{PlainTable};
-ghost use Rattle.query.specs.BoundQuery as bound;
 ghost use Rattle.query.specs.Printed.{rows_text, printed_selection};
 ghost use Rattle.query.specs.View.{query_in, Reports};
 ghost use Rattle.query.specs.declared.errors.QueryError.TheVariants.{OutOfMemory};
 ghost use Rattle.values.specs.TableView.{table_of};
 
+use crate::limit::limit_after;
 use crate::picked_schema::pick_fields;
 use crate::printing::{append, can_be_printed, push_part};
 use arrow_schema::{Field, Schema};
@@ -22,16 +22,6 @@ pub struct LinePrinter {
     // The columns asked for.
     pub(crate) fields: Vec<Field>,
     pub(crate) form: RowForm,
-}
-
-// Returns what some rows leave of a limit.
-fn limit_after(limit: Option<u64>, rows: u64) -> Option<u64>
-    ensures { result ≡ bound.limit_after limit rows }
-{
-    match limit {
-        Some(most) => Some(most.saturating_sub(rows)),
-        None => None,
-    }
 }
 
 impl LinePrinter {

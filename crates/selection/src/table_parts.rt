@@ -1,9 +1,8 @@
 // The record batches of a table, which come from its stream where it is kept as rows.
-ghost use Rattle.std.specs.Prelude.{◌≡◌, true, IfOk, IfErr};
+ghost use Rattle.std.specs.Prelude.{◌≡◌, true, IfOk};
 ghost use Rattle.arrow_schema.specs.Column.{columns_of};
 ghost use Rattle.cells.specs.Cell.{PlainTable};
 ghost use Rattle.ipc_canonical.specs.Canonical.{canonical};
-ghost use Rattle.query.specs.declared.errors.QueryError.TheVariants.{OutOfMemory};
 ghost use Rattle.selection.specs.inner.TableParts.{parts_in};
 ghost use Rattle.values.specs.Parts.{are_parts_sound, parts_table};
 ghost use Rattle.values.specs.Table.{IsTable};
@@ -12,7 +11,6 @@ ghost use Rattle.values.specs.TableView.{is_in_parts, table_of};
 use ipc_canonical::canonical_means_its_table;
 use ipc_encode::encode;
 use ipc_stream::decode;
-use query::QueryError;
 use std::alloc::{AllocError, Global};
 use values::{Table, TablePart};
 
@@ -35,16 +33,18 @@ impl TableParts<'_> {
 }
 
 /// Reads a table back from its canonical stream.
-pub(crate) fn table_of_stream(alloc: Global, bytes: Vec<u8>) -> Result<Table, QueryError>
+///
+/// # Errors
+/// `AllocError` if memory is refused.
+pub(crate) fn table_of_stream(alloc: Global, bytes: Vec<u8>) -> Result<Table, AllocError>
     ensures ok { (t : PlainTable) → IsTable t → bytes.items ≡ canonical t → IfOk result (λ found. table_of found ≡ t) }
     ensures in_parts { IfOk result (λ found. is_in_parts found ≡ true) }
-    ensures refused { IfErr result (λ e. e ≡ OutOfMemory) }
 {
     canonical_means_its_table();
     match decode(alloc, bytes) {
         Ok(table) => Ok(table),
         // A canonical stream has no fault.
-        Err(_) => Err(QueryError::OutOfMemory),
+        Err(_) => Err(AllocError),
     }
 }
 
@@ -59,8 +59,6 @@ pub(crate) fn parts_of<'a>(alloc: Global, table: &'a Table) -> Result<TableParts
     // For the proof: a table is within all limits.
     let _schema = table.schema();
     let bytes = encode(alloc, table)?;
-    match table_of_stream(alloc, bytes) {
-        Ok(read) => Ok(TableParts::OfStream(read.into_parts())),
-        Err(_) => Err(AllocError),
-    }
+    let read = table_of_stream(alloc, bytes)?;
+    Ok(TableParts::OfStream(read.into_parts()))
 }

@@ -41,20 +41,10 @@ not_running halted is other = cc is
 
 halted_step : (s : Setting) (m : Machine) (call : PlainCall) (n : ℕ) → needs_store call ≡ true → m.phase ≡ shut → Step s m call (refused refusals.Halted) (nat_lt n n) m
 unfolding Step
-halted_step s m (apply_call c) n needs is = (not_running m.phase is, (not_less n, refl))
 halted_step s m format_call n needs is = absurd (cc needs)
 halted_step s m open_call n needs is = absurd (cc needs)
 halted_step s m close_call n needs is = (is, (not_less n, refl))
-halted_step s m tables_call n needs is = (not_running m.phase is, (not_less n, refl))
-halted_step s m (schema_call name) n needs is = (not_running m.phase is, (not_less n, refl))
-halted_step s m (read_call name) n needs is = (not_running m.phase is, (not_less n, refl))
-halted_step s m (export_call name) n needs is = (not_running m.phase is, (not_less n, refl))
-halted_step s m (stream_call c) n needs is = (not_running m.phase is, (not_less n, refl))
-halted_step s m (open_export_call name) n needs is = (not_running m.phase is, (not_less n, refl))
-halted_step s m (export_next_call id) n needs is = (not_running m.phase is, (not_less n, refl))
-halted_step s m (close_export_call id) n needs is = (not_running m.phase is, (not_less n, refl))
-halted_step s m compact_call n needs is = (not_running m.phase is, (not_less n, refl))
-halted_step s m upgrade_call n needs is = (not_running m.phase is, (not_less n, refl))
+halted_step s m _ n needs is = (not_running m.phase is, (not_less n, refl))
 
 -- where no store is open such a call is refused, and nothing happens
 pub refused_shut : (s : Setting) (m : Machine) (call : PlainCall) (story : Story) (failed : ℕ) → needs_store call ≡ true → m.phase ≡ shut → LeavesOnly (Allows s m) (now story)

@@ -4,7 +4,7 @@ use Rattle.std.proofs.Common.{◌≡◌, ℕ, ◌+◌, ◌-◌, ◌^◌, Bool, t
 use Rattle.sector_dev.specs.Disk.{Disk, Story, Image, now, MayLeave, shown_image, synced_image}
 use Rattle.sector_dev.specs.Time.{Grows, LeavesOnly}
 use Rattle.sector_dev.specs.laws.Crash.{only_image}
-use Rattle.sector_dev.specs.laws.Time.{stays, goes_on, weaken, now_read}
+use Rattle.sector_dev.specs.laws.Time.{goes_on, weaken, now_read}
 use Rattle.sector_dev.specs.declared.device.SectorDevice.{Ghosts}
 use Rattle.segments.specs.Usages.{IsUsedIn, SameUsages}
 use Rattle.segments.specs.laws.Usages.{or_false}
@@ -36,6 +36,7 @@ use Rattle.store.specs.Applying.{EndsAs, IsKept, IsCarryingAtEachMoment, IsCarri
 use Rattle.store_changes.specs.OnDisk.{HasDone, IsOldOrDone, IsApplying, HasCarried, IsOldOrCarried, IsTaking, IsCarrying}
 use Rattle.store_runs.specs.Carrying.{IsCarried}
 use Rattle.store_changes.specs.Verdicts.{IsVerdict, IsUndecided}
+use Rattle.store_changes.specs.laws.ReadTables.{reads_quiet}
 use Rattle.store.proofs.Asked.{still, not_running, refused_elsewhere}
 use Rattle.store.proofs.ReadsStore.{moments_read, stays_reading, halts_reading, spared_reading}
 
@@ -45,57 +46,19 @@ is_by_device by_device = true
 is_by_device _ = false
 
 failure_origin : (r : Refusal) → is_failure r ≡ is_by_device (origin_of r)
-failure_origin refusals.NoTable = refl
-failure_origin refusals.NameTaken = refl
-failure_origin refusals.BadName = refl
-failure_origin refusals.SchemaMismatch = refl
-failure_origin (refusals.Import fault) = refl
-failure_origin (refusals.RowUnfit row) = refl
-failure_origin (refusals.TooMany limits.Tables) = refl
-failure_origin (refusals.TooMany limits.Segments) = refl
-failure_origin (refusals.TooMany limits.Epochs) = refl
-failure_origin (refusals.TooMany limits.Weight) = refl
-failure_origin (refusals.TooMany limits.Bytes) = refl
-failure_origin (refusals.TooMany limits.Exports) = refl
-failure_origin (refusals.NoRoom sectors) = refl
 failure_origin refusals.Device = refl
-failure_origin refusals.Halted = refl
-failure_origin refusals.NoExport = refl
-failure_origin (refusals.Query refusal) = refl
-failure_origin (refusals.SegmentUnread segment) = refl
-failure_origin refusals.Read = refl
-failure_origin (refusals.SegmentDamaged segment) = refl
-failure_origin refusals.Write = refl
-failure_origin refusals.OutOfMemory = refl
+failure_origin (refusals.TooMany limits.Tables) = refl
+failure_origin _ = refl
 
 -- no other refusal is a failure
 pub is_device : (r : Refusal) → is_failure r ≡ true → r ≡ refusals.Device
 is_device refusals.Device h = refl
-is_device refusals.NoTable h = absurd (cc h)
-is_device refusals.NameTaken h = absurd (cc h)
-is_device refusals.BadName h = absurd (cc h)
-is_device refusals.SchemaMismatch h = absurd (cc h)
-is_device (refusals.Import fault) h = absurd (cc h)
-is_device (refusals.RowUnfit row) h = absurd (cc h)
-is_device (refusals.TooMany limit) h = absurd (cc h)
-is_device (refusals.NoRoom sectors) h = absurd (cc h)
-is_device refusals.Halted h = absurd (cc h)
-is_device refusals.NoExport h = absurd (cc h)
-is_device (refusals.Query refusal) h = absurd (cc h)
-is_device (refusals.SegmentUnread segment) h = absurd (cc h)
-is_device refusals.Read h = absurd (cc h)
-is_device (refusals.SegmentDamaged segment) h = absurd (cc h)
-is_device refusals.Write h = absurd (cc h)
-is_device refusals.OutOfMemory h = absurd (cc h)
+is_device _ h = absurd (cc h)
 
 -- a call that does not touch the device
 pub reads_nothing : {D : Type 0} {g : Ghosts D} (size : D → ℕ) (story : D → Story) (failed : D → ℕ) (tells : Bool) (reply : PlainReply) (store : Store D g) → is_device_reply reply ≡ false → OnlyReadsStore size story failed tells reply store store
 reads_nothing size story failed tells reply store quiet = record {
-  device = record {
-    same = refl;
-    moments = λ told. stays (λ (d : Disk). d ≡ now (story store.device)) (story store.device);
-    count = sym (ap (λ (b : Bool). if b then min (failed store.device + 1) (2 ^ 64 - 1) else failed store.device) quiet);
-  };
+  device = reads_quiet size story failed tells reply store.device quiet;
   kept = refl;
   book = refl;
   halts = sym (ap (λ (b : Bool). store.halted || b) quiet ∙ or_false store.halted);
@@ -287,10 +250,6 @@ ended_quiet (Err e) h = h
 pub tells_command : (s : Setting) (d : Disk) (r : Result (Unit {0}) Refusal) → TellsFound s (ended r) d
 tells_command s d (Ok unit) = tt
 tells_command s d (Err e) = tt
-
-pub err_weaker : (r : Result (Unit {0}) Refusal) (P Q : Refusal → Type 0) → ((e : Refusal) → P e → Q e) → IfErr r P → IfErr r Q
-err_weaker (Ok unit) P Q f h = tt
-err_weaker (Err e) P Q f h = f e h
 
 -- a refusal of a store that was only read
 pub read_kept : {D : Type 0} {g : Ghosts D} (size : D → ℕ) (story : D → Story) (failed : D → ℕ) (tells : Bool) (old new : Store D g) (ends : PlainReply) → OnlyReadsStore size story failed tells ends old new → IsKept old new

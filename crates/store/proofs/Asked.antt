@@ -10,7 +10,7 @@ use Rattle.tables.specs.Tables.{Tables}
 use Rattle.tables.specs.declared.refusal.Refusal.{Refusal}
 use Rattle.tables.specs.Refusals.{by_room, origin_of}
 use Rattle.store.specs.declared.store.Store.{Store}
-use Rattle.store_runs.specs.Calls.{PlainCall, apply_call, format_call, open_call, close_call, tables_call, schema_call, read_call, export_call, stream_call, open_export_call, export_next_call, close_export_call, compact_call, upgrade_call, PlainReply, refused, is_device_reply}
+use Rattle.store_runs.specs.Calls.{PlainCall, apply_call, stream_call, compact_call, upgrade_call, PlainReply, refused, is_device_reply}
 use Rattle.store_runs.specs.Machine.{Setting, Phase, running, halted, Machine, AllowsEach, pinned_by, SparesKept}
 use Rattle.store_runs.specs.Steps.{Step}
 use Rattle.store_runs.specs.Runs.{TellsFound}
@@ -36,19 +36,10 @@ told_of r e P is p = subst (λ x. IfErr x P) (sym is) p
 -- a call that is refused for another reason than room
 pub refused_elsewhere : (s : Setting) (pinned : List Run) (call : PlainCall) (r : Refusal) (before after : Disk) → origin_of r ≢ by_room → TellsRoom s pinned call (refused r) before after
 refused_elsewhere s pinned (apply_call c) r before after other = room_by (origin_of r) s.size pinned before after (CommandDecides before c) r (λ room. absurd (other room))
-refused_elsewhere s pinned format_call r before after other = tt
-refused_elsewhere s pinned open_call r before after other = tt
-refused_elsewhere s pinned close_call r before after other = tt
-refused_elsewhere s pinned tables_call r before after other = tt
-refused_elsewhere s pinned (schema_call name) r before after other = tt
-refused_elsewhere s pinned (read_call name) r before after other = tt
-refused_elsewhere s pinned (export_call name) r before after other = tt
 refused_elsewhere s pinned (stream_call c) r before after other = room_by (origin_of r) s.size pinned before after (CommandDecides before c) r (λ room. absurd (other room))
-refused_elsewhere s pinned (open_export_call name) r before after other = tt
-refused_elsewhere s pinned (export_next_call id) r before after other = tt
-refused_elsewhere s pinned (close_export_call id) r before after other = tt
 refused_elsewhere s pinned compact_call r before after other = room_by (origin_of r) s.size pinned before after (StepDecides s.size pinned before) r (λ room. absurd (other room))
 refused_elsewhere s pinned upgrade_call r before after other = room_by (origin_of r) s.size pinned before after (UpgradeDecides before) r (λ room. absurd (other room))
+refused_elsewhere s pinned _ r before after other = tt
 
 -- a step that writes nothing, of a store that stays as it is
 pub still : {D : Type 0} {g : Ghosts D} (size : D → ℕ) (story : D → Story) (failed : D → ℕ) (base : Tables) (m : Machine) (call : PlainCall) (reply : PlainReply) (store : Store D g)

@@ -2,7 +2,7 @@
 use Rattle.std.specs.Prelude.{◌≢◌, ◌⊎◌, ◌||◌, min, if◌then◌else◌, option_map, slice_get, nat_le, IsSome}
 use Rattle.std.specs.List.{filter, find}
 use Rattle.std.proofs.Common.{◌≡◌, ◌≤◌, ◌<◌, ◌+◌, ◌-◌, ◌^◌, ◌++◌, ℕ, suc, zero, Bool, true, false, not, inl, inr, ⊎_elim, List, [], ◌∷◌, Option, Some, None, Ok, length, map, refl, sym, ap, ◌∙◌, subst, arith, length-append}
-use Rattle.std.proofs.lemmas.Bool.{leb-true, leb-false}
+use Rattle.std.proofs.lemmas.Bool.{leb-true}
 use Rattle.std.proofs.lemmas.List.{length-map}
 use Rattle.sector_dev.specs.Disk.{Disk, Story, Image, now, shown_image, synced_image}
 use Rattle.sector_dev.specs.Time.{LeavesOnly}
@@ -28,7 +28,7 @@ use Rattle.pages.specs.declared.stored.StoredCatalogue.{StoredCatalogue}
 use Rattle.export_book.specs.declared.book.TheConstants.{MAX_EXPORTS}
 use Rattle.export_book.specs.Book as books
 use Rattle.export_book.specs.Book.{PlainExport, PlainBook, IsBook, is_full, open_at}
-use Rattle.export_book.specs.laws.Ids.{new_id}
+use Rattle.export_book.specs.laws.Ids.{new_id, has_room}
 use Rattle.tables.specs.declared.refusal.Limit.TheVariants as limits
 use Rattle.tables.specs.declared.refusal.Refusal.{Refusal}
 use Rattle.tables.specs.declared.refusal.Refusal.TheVariants as refusals
@@ -37,7 +37,7 @@ use Rattle.tables.specs.Tables.{Tables, table_at}
 use Rattle.tables.specs.Verdict.{after}
 use Rattle.store.specs.declared.store.Store.{Store}
 use Rattle.store_runs.specs.Calls.{PlainCall, open_export_call, export_next_call, close_export_call, PlainReply, done, export_is, piece_is, refused, is_device_reply}
-use Rattle.store_runs.specs.Machine.{Setting, Machine, Export, running, halted, tables_now, Allows, pinned_by, export_at, gave, is_of}
+use Rattle.store_runs.specs.Machine.{Setting, Machine, Export, running, tables_now, Allows, pinned_by, export_at, gave, is_of}
 use Rattle.store_runs.specs.Steps.{Step, IsExportOf}
 use Rattle.store_runs.specs.Runs.{TellsFound}
 use Rattle.store_runs.specs.Rooms.{TellsRoom}
@@ -92,15 +92,6 @@ parts_count : (s : PlainSchema) (lists : List (List (List Cell))) → length (st
 parts_count s lists = grind (arith, length-append, length-map)
 
 -- ---- a book that is not full
-
-not_either : (x y : Bool) → (x || y) ≡ false → (x ≡ false) × (y ≡ false)
-not_either true y is = absurd (cc is)
-not_either false y is = (refl, is)
-
-has_room : (b : PlainBook) → is_full b ≡ false → (length b.exports < MAX_EXPORTS) × (b.next < 2 ^ 64)
-has_room b is =
-    let both = not_either (nat_le MAX_EXPORTS (length b.exports)) (nat_le (2 ^ 64) b.next) is in
-    (leb-false MAX_EXPORTS (length b.exports) both.0, leb-false (2 ^ 64) b.next both.1)
 
 no_room : (b : PlainBook) → is_full b ≡ true → (MAX_EXPORTS ≤ length b.exports) ⊎ (2 ^ 64 ≤ b.next)
 no_room b is = by_test (nat_le MAX_EXPORTS (length b.exports)) refl is

@@ -32,7 +32,7 @@ use Rattle.pages.specs.Stored.{stored_reading, form_of, or_no_text}
 use Rattle.store.specs.Fits.{setting_of, IsFresh}
 use Rattle.store.specs.Opening.{formatting_of, TellsFormatting, IsOfFormatting}
 use Rattle.store.proofs.Asked.{not_less}
-use Rattle.store.proofs.Opened.{not_started}
+use Rattle.store.proofs.Opened.{not_started, same_allows}
 
 -- what a formatting counts, in the words of replies
 pub formatting_counts : {T : Type 0} (r : Result T FormatError) (e : FormatError) (f f' : ℕ) → r ≡ Err e → CountsFormat f f' r → f' ≡ counted (shut_by (formatting_of e)) f
@@ -172,14 +172,10 @@ module _ (size : ℕ) (version : FormatVersion) (limits : is_size size ≡ true)
     format_moments reply s0 s1 fresh allows grows =
         weaken (λ d is image may. subst (λ (k : Machine). Allows (setting_of size base) k image) (sym (no_command (may_be_done reply && has_written (now s0) d))) (allows_early fresh (now s0) d allows is image may)) grows
 
-    same_allows : (d : Disk) → LeavesOnly (Allows (setting_of size base) m) d → LeavesOnly (Allows (setting_of size base) (shut_down m)) d
-    unfolding Allows
-    same_allows d allows image may = allows image may
-
     -- after one that was refused
     pub refused_allows : (s0 s1 : Story) → (m.started ≡ false → IsFresh base m) → LeavesOnly (Allows (setting_of size base) m) (now s0) → Grows (IsEarly (now s0)) s0 s1
         → LeavesOnly (Allows (setting_of size base) (shut_down m)) (now s1)
-    refused_allows s0 s1 fresh allows grows = same_allows (now s1) (allows_early fresh (now s0) (now s1) allows (now_has {P = IsEarly (now s0)} (inl refl) grows))
+    refused_allows s0 s1 fresh allows grows = same_allows size base m (now s1) (allows_early fresh (now s0) (now s1) allows (now_has {P = IsEarly (now s0)} (inl refl) grows))
 
     -- no write began where nothing changed
     same_written : (s0 s1 : Story) → now s1 ≡ now s0 → has_written (now s0) (now s1) ≡ false

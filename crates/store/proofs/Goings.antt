@@ -2,7 +2,7 @@
 use Rattle.std.specs.Prelude.{◌≡◌, ◌≢◌, ◌⊎◌, ◌↔◌, ◌<◌, ◌+◌, ◌-◌, ◌^◌, ℕ, min, Bool, true, false, Some, Result, Ok, Err, IfErr, OnOk, refl, if◌then◌else◌}
 use Rattle.std.proofs.Common.{inl, inr, ⊎_elim, sym, ap, ◌∙◌, subst}
 use Rattle.std.proofs.lemmas.Bool.{lt-ltb, true≢false, false_from_ne_true}
-use Rattle.sector_dev.specs.Disk.{Disk, Story, Image, now, synced_image, shown_image, MayLeave}
+use Rattle.sector_dev.specs.Disk.{Disk, Story, Image, now, synced_image, shown_image}
 use Rattle.sector_dev.specs.declared.device.SectorDevice.{Ghosts}
 use Rattle.sector_dev.specs.Time.{Grows, LeavesOnly}
 use Rattle.sector_dev.specs.laws.Time.{weaken, now_has}
@@ -40,7 +40,7 @@ use Rattle.store_changes.specs.laws.Frame.{held_is, same_tables}
 use Rattle.store_changes.specs.laws.Changed.{edited_held, placed_held}
 use Rattle.store.proofs.Asked.{not_less}
 use Rattle.store.proofs.StillFits.{fits_halted, fits_unwritten}
-use Rattle.store_changes.specs.laws.Synced.{shown_is_synced}
+use Rattle.store_changes.specs.laws.Synced.{shown_is_synced, own_image}
 use Rattle.store.proofs.Roomed.{carried_out, refused_out}
 use Rattle.store.proofs.Spares.{last_moment, spares_in, exports_on}
 use Rattle.store.proofs.Carried.{new_after, is_accepted, refused_goes}
@@ -95,11 +95,6 @@ module _ (size : ℕ) (used : Run → Type 0) (k : Commit) (c : PlainCatalogue) 
           inr (held_is size image (commit_placed k c change does.text) (placed k.version c change does.places) does.stands ∙ ap held_tables (made_held is.kept does))
 
 -- ---- the machine goes on
-
--- what is synced is what a stop may leave
-own_image : (d : Disk) → MayLeave d (synced_image d)
-unfolding MayLeave
-own_image d n = inl refl
 
 memory_works : refusals.OutOfMemory ≢ refusals.Device
 memory_works is = cc is

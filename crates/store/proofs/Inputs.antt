@@ -1,25 +1,20 @@
 -- What a reader gives in two goes.
-use Rattle.std.proofs.Common.{◌≡◌, ◌∙◌, ℕ, ◌+◌, ◌-◌, ◌≤◌, List, [], ◌++◌, length, take, Option, Some, None, refl, ap, sym, append_assoc, length-append, arith}
+use Rattle.std.proofs.Common.{◌≡◌, ◌∙◌, ℕ, ◌+◌, ◌-◌, ◌≤◌, List, [], ◌++◌, length, take, Option, Some, None, refl, sym, length-append, arith}
 use Rattle.std.proofs.lemmas.List.{length-take}
 use Rattle.std.specs.Io.KnownBytes.{Consumes, Keeps}
+use Rattle.std.proofs.KnownBytes.{Consumes-trans}
 use Rattle.tables.specs.declared.refusal.Limit.TheVariants as limits
 use Rattle.tables.specs.declared.refusal.Refusal.{Refusal}
 use Rattle.tables.specs.declared.refusal.Refusal.TheVariants as refusals
 use Rattle.store.specs.Input.{HasGiven, HasGivenAtMost, RefusesInput}
 
-pub consumes_both : (a b c : Option (List ℕ)) (xs ys : List ℕ) → Consumes a b xs → Consumes b c ys → Consumes a c (xs ++ ys)
-consumes_both None b c xs ys first second = tt
-consumes_both (Some a) None c xs ys first second = absurd first
-consumes_both (Some a) (Some b) None xs ys first second = absurd second
-consumes_both (Some a) (Some b) (Some c) xs ys first second = first ∙ ap (λ zs. xs ++ zs) second ∙ sym (append_assoc xs ys c)
-
 given_both : (a b c : Option (List ℕ)) (xs : List ℕ) (n m : ℕ) → Consumes a b xs → length xs + n ≡ m → HasGiven b c n → HasGiven a c m
 given_both a b c xs n m first all given =
-    (xs ++ given.0, consumes_both a b c xs given.0 first given.1, length-append xs given.0 ∙ (let more = given.2 in omega (arith, more, all)))
+    (xs ++ given.0, Consumes-trans a b c xs given.0 first given.1, length-append xs given.0 ∙ (let more = given.2 in omega (arith, more, all)))
 
 given_both_at_most : (a b c : Option (List ℕ)) (xs : List ℕ) (n m : ℕ) → Consumes a b xs → length xs + n ≤ m → HasGivenAtMost b c n → HasGivenAtMost a c m
 given_both_at_most a b c xs n m first all given =
-    (xs ++ given.0, consumes_both a b c xs given.0 first given.1, let more = given.2 in omega (arith, more, all, length-append xs given.0))
+    (xs ++ given.0, Consumes-trans a b c xs given.0 first given.1, let more = given.2 in omega (arith, more, all, length-append xs given.0))
 
 -- an input of which something was read before is refused
 pub refused_behind : (a b c : Option (List ℕ)) (xs : List ℕ) (n m : ℕ) (e : Refusal) → Consumes a b xs → length xs + n ≡ m → RefusesInput b c n e → RefusesInput a c m e

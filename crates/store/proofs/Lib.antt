@@ -9,6 +9,7 @@ mod Answered
 mod Began
 mod ReadsStore
 mod StillFits
+mod StillSound
 mod Roomed
 mod Applied
 mod Replied
@@ -26,3 +27,4 @@ mod ExportAnswers
 mod Fitted
 mod KeptRuns
 mod Salvaged
+mod Heavy

@@ -137,7 +137,7 @@ module _ (size : ℕ) (base : Tables) (m : Machine) where
   allows_after s0 s1 shows allows (inr is) image may =
       subst (λ (x : Image). Allows (setting_of size base) m x) (sym (only_flushed (now s0) image (subst (λ (d : Disk). MayLeave d image) is may))) (allows (shown_image (now s0)) shows)
 
-  same_allows : (d : Disk) → LeavesOnly (Allows (setting_of size base) m) d → LeavesOnly (Allows (setting_of size base) (shut_down m)) d
+  pub same_allows : (d : Disk) → LeavesOnly (Allows (setting_of size base) m) d → LeavesOnly (Allows (setting_of size base) (shut_down m)) d
   unfolding Allows
   same_allows d allows image may = allows image may
 

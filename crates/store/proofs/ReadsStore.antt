@@ -1,7 +1,7 @@
 -- A call that reads a table is a call of the machine: it changes nothing, unless its device fails.
 use Rattle.std.specs.Prelude.{◌≢◌, ◌||◌, ◌&&◌, min, if◌then◌else◌}
 use Rattle.std.proofs.Common.{◌≡◌, ◌+◌, ◌-◌, ◌^◌, ℕ, Bool, true, false, List, Option, Some, None, refl, sym, ap, ◌∙◌, subst}
-use Rattle.std.proofs.lemmas.Bool.{and_right}
+use Rattle.std.proofs.lemmas.Bool.{and_right, or_right}
 use Rattle.sector_dev.specs.Disk.{Disk, Story, Image, now, MayLeave, shown_image, synced_image}
 use Rattle.sector_dev.specs.Time.{Grows, LeavesOnly, OnlyReads}
 use Rattle.sector_dev.specs.laws.Time.{weaken, now_read}
@@ -140,7 +140,7 @@ module _ {D : Type 0} {g : Ghosts D} (size : D → ℕ) (story : D → Story) (f
       let later : now (story new.device) ≡ now (story old.device) = now_read (story old.device) (story new.device) moments in
       let stood : LeavesOnly (Allows own m) (now (story new.device)) = subst (λ (d : Disk). LeavesOnly (Allows own m) d) (sym later) fits.device.allows in
       let allows : LeavesOnly (Allows own (halt call false m)) (now (story new.device)) = λ image may. stood image may in
-      let halts : new.halted ≡ true = reads.halts ∙ or_true old.halted in
+      let halts : new.halted ≡ true = reads.halts ∙ or_right old.halted true refl in
       record {
         next = halt call false m;
         same = reads.device.same;
@@ -161,10 +161,6 @@ module _ {D : Type 0} {g : Ghosts D} (size : D → ℕ) (story : D → Story) (f
           sound = λ on. absurd (cc on);
         };
       }
-    where
-      or_true : (b : Bool) → (b || true) ≡ true
-      or_true true = refl
-      or_true false = refl
 
   -- ---- what it answers
 
@@ -224,20 +220,8 @@ module _ {D : Type 0} {g : Ghosts D} (size : D → ℕ) (story : D → Story) (f
       by_refusal h e found refusals.Device u reads = halts_reading call (step refusals.Device (halt call false m) (on h, refl, refl)) reads
       by_refusal h e found refusals.OutOfMemory u reads = stays_reading call (refused refusals.OutOfMemory) (refused refusals.OutOfMemory) refl refl tt (elsewhere_told refusals.OutOfMemory (λ is. cc is)) (step refusals.OutOfMemory m (on h, (refl, refl))) reads
       by_refusal h e found (refusals.SegmentUnread place) u reads = absurd (no_segment h e place found (u.1 told))
-      by_refusal h e found refusals.NoTable u reads = absurd u
-      by_refusal h e found refusals.NameTaken u reads = absurd u
-      by_refusal h e found refusals.BadName u reads = absurd u
-      by_refusal h e found refusals.SchemaMismatch u reads = absurd u
-      by_refusal h e found (refusals.Import fault) u reads = absurd u
-      by_refusal h e found (refusals.RowUnfit row) u reads = absurd u
-      by_refusal h e found (refusals.TooMany limit) u reads = absurd u
-      by_refusal h e found (refusals.NoRoom sectors) u reads = absurd u
-      by_refusal h e found refusals.Halted u reads = absurd u
-      by_refusal h e found refusals.NoExport u reads = absurd u
-      by_refusal h e found (refusals.Query refusal) u reads = absurd u
-      by_refusal h e found refusals.Read u reads = absurd u
       by_refusal h e found (refusals.SegmentDamaged place) u reads = absurd (no_damage h e place found (u.1 told))
-      by_refusal h e found refusals.Write u reads = absurd u
+      by_refusal h e found _ u reads = absurd u
 
       by_state : (h : Bool) (o : Option PlainEntry) → old.halted ≡ h → entry_of (listed_in old) name ≡ o → RefusesRead h tells (shown_image (now (story old.device))) o r → GoesOn size story failed base m call (refused r) old new
       by_state true o h found u = is_halted h u
@@ -249,39 +233,9 @@ module _ {D : Type 0} {g : Ghosts D} (size : D → ℕ) (story : D → Story) (f
 pub read_step : (s : Setting) (m : Machine) (name : List ℕ) (q : Refusal) (next : Machine) → RefusesAs s m (read_call name) name q next → Step s m (read_call name) (refused q) false next
 unfolding Step
 read_step s m name refusals.NoTable next h = h
-read_step s m name refusals.NameTaken next h = h
-read_step s m name refusals.BadName next h = h
-read_step s m name refusals.SchemaMismatch next h = h
-read_step s m name (refusals.Import fault) next h = h
-read_step s m name (refusals.RowUnfit row) next h = h
-read_step s m name (refusals.TooMany limit) next h = h
-read_step s m name (refusals.NoRoom sectors) next h = h
-read_step s m name refusals.Device next h = h
-read_step s m name refusals.Halted next h = h
-read_step s m name refusals.NoExport next h = h
-read_step s m name (refusals.Query refusal) next h = h
-read_step s m name (refusals.SegmentUnread place) next h = h
-read_step s m name refusals.Read next h = h
-read_step s m name (refusals.SegmentDamaged place) next h = h
-read_step s m name refusals.Write next h = h
-read_step s m name refusals.OutOfMemory next h = h
+read_step s m name _ next h = h
 
 pub export_step : (s : Setting) (m : Machine) (name : List ℕ) (q : Refusal) (next : Machine) → RefusesAs s m (export_call name) name q next → Step s m (export_call name) (refused q) false next
 unfolding Step
 export_step s m name refusals.NoTable next h = h
-export_step s m name refusals.NameTaken next h = h
-export_step s m name refusals.BadName next h = h
-export_step s m name refusals.SchemaMismatch next h = h
-export_step s m name (refusals.Import fault) next h = h
-export_step s m name (refusals.RowUnfit row) next h = h
-export_step s m name (refusals.TooMany limit) next h = h
-export_step s m name (refusals.NoRoom sectors) next h = h
-export_step s m name refusals.Device next h = h
-export_step s m name refusals.Halted next h = h
-export_step s m name refusals.NoExport next h = h
-export_step s m name (refusals.Query refusal) next h = h
-export_step s m name (refusals.SegmentUnread place) next h = h
-export_step s m name refusals.Read next h = h
-export_step s m name (refusals.SegmentDamaged place) next h = h
-export_step s m name refusals.Write next h = h
-export_step s m name refusals.OutOfMemory next h = h
+export_step s m name _ next h = h

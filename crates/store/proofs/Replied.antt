@@ -11,7 +11,7 @@ use Rattle.store.specs.declared.store.Store.{Store}
 use Rattle.store.specs.declared.call.Call.{Call}
 use Rattle.store.specs.declared.call.StoreOrDevice.{StoreOrDevice}
 use Rattle.store.specs.declared.call.StoreOrDevice.TheVariants as places
-use Rattle.store_runs.specs.Calls.{PlainCall, needs_store, apply_call, format_call, open_call, close_call, tables_call, schema_call, read_call, export_call, stream_call, open_export_call, export_next_call, close_export_call, compact_call, upgrade_call, PlainReply, done, refused, is_device_reply, counted}
+use Rattle.store_runs.specs.Calls.{PlainCall, needs_store, format_call, open_call, stream_call, PlainReply, done, refused, is_device_reply, counted}
 use Rattle.store.specs.Listing.{RefusesTables, RefusesSchema}
 use Rattle.store.specs.Reading.{OnlyReadsStore}
 use Rattle.store_runs.specs.Reading.{ended}
@@ -44,20 +44,9 @@ module _ {D : Type 0} {g : Ghosts D} (size : D → ℕ) (story : D → Story) (f
 
   -- what needs a store is refused where none is open
   pub refuses_shut : (device : D) (call : PlainCall) → needs_store call ≡ true → Answers {g = g} size story failed tells (places.Shut device) call (refused refusals.Halted) (places.Shut device)
-  refuses_shut device (apply_call c) needs = record { answers = (refl, refl); same = refl; count = refl }
   refuses_shut device format_call needs = absurd (cc needs)
   refuses_shut device open_call needs = absurd (cc needs)
-  refuses_shut device close_call needs = record { answers = (refl, refl); same = refl; count = refl }
-  refuses_shut device tables_call needs = record { answers = (refl, refl); same = refl; count = refl }
-  refuses_shut device (schema_call name) needs = record { answers = (refl, refl); same = refl; count = refl }
-  refuses_shut device (read_call name) needs = record { answers = (refl, refl); same = refl; count = refl }
-  refuses_shut device (export_call name) needs = record { answers = (refl, refl); same = refl; count = refl }
-  refuses_shut device (stream_call c) needs = record { answers = (refl, refl); same = refl; count = refl }
-  refuses_shut device (open_export_call name) needs = record { answers = (refl, refl); same = refl; count = refl }
-  refuses_shut device (export_next_call id) needs = record { answers = (refl, refl); same = refl; count = refl }
-  refuses_shut device (close_export_call id) needs = record { answers = (refl, refl); same = refl; count = refl }
-  refuses_shut device compact_call needs = record { answers = (refl, refl); same = refl; count = refl }
-  refuses_shut device upgrade_call needs = record { answers = (refl, refl); same = refl; count = refl }
+  refuses_shut device _ needs = record { answers = (refl, refl); same = refl; count = refl }
 
   -- one call more
   pub answers_more : (calls : List PlainCall) (replies : List PlainReply) (call : PlainCall) (reply : PlainReply) (first old new : StoreOrDevice D g)

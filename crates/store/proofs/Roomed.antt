@@ -1,6 +1,6 @@
 -- A call ends by what stood on the disk when it began: its commit, its catalogue and the runs that they use.
 use Rattle.std.specs.Prelude.{◌≢◌, ◌↔◌, ◌||◌, List, nat_lt, false, refl}
-use Rattle.std.proofs.Common.{◌≡◌, ℕ, Bool, true, Result, Ok, Err, ap, ◌∙◌, sym, subst, lt-ltb}
+use Rattle.std.proofs.Common.{◌≡◌, ℕ, Bool, true, Result, Err, ap, ◌∙◌, sym, subst, lt-ltb}
 use Rattle.sector_dev.specs.Disk.{Disk, Story, now, shown_image, synced_image}
 use Rattle.sector_dev.specs.declared.device.SectorDevice.{Ghosts}
 use Rattle.segments.specs.declared.run.Run.{Run}
@@ -12,7 +12,7 @@ use Rattle.commit.specs.laws.Fit.{times_some}
 use Rattle.commit.specs.Standing.{rules, standing, used_runs}
 use Rattle.tables.specs.declared.refusal.Refusal.{Refusal}
 use Rattle.tables.specs.declared.refusal.Refusal.TheVariants as refusals
-use Rattle.tables.specs.Refusals.{Origin, by_tables, by_room, by_memory, by_device, by_halt, elsewhere, origin_of}
+use Rattle.tables.specs.Refusals.{Origin, by_room, by_device, origin_of}
 use Rattle.tables.specs.Tables.{Tables}
 use Rattle.store.specs.declared.store.Store.{Store}
 use Rattle.store_runs.specs.Machine.{Machine, pinned_by}
@@ -30,12 +30,8 @@ use Rattle.store_changes.specs.laws.Synced.{shown_is_synced}
 -- it is carried out if there was no room
 pub room_by : (o : Origin) (size : ℕ) (pinned : List Run) (before after : Disk) (Decides : Commit → PlainCatalogue → PlainChange → Type 0) (r : Refusal)
     → (o ≡ by_room → IsCarriedOut size pinned before after Decides (Err r)) → RoomFrom o size pinned before after Decides r
-room_by by_tables size pinned before after Decides r ended = tt
 room_by by_room size pinned before after Decides r ended = ended refl
-room_by by_memory size pinned before after Decides r ended = tt
-room_by by_device size pinned before after Decides r ended = tt
-room_by by_halt size pinned before after Decides r ended = tt
-room_by elsewhere size pinned before after Decides r ended = tt
+room_by _ size pinned before after Decides r ended = tt
 
 -- a run is pinned where it is listed
 pins_are : (pinned : List Run) (run : Run) → nat_lt 0 (times_among pinned run) ≡ is_among pinned run

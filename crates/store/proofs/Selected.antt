@@ -1,8 +1,9 @@
 -- A query that is saved: what is answered of it, where its tests are made before the table is read.
-use Rattle.std.specs.Prelude.{◌≢◌, ◌⊎◌, ◌&&◌, nat_le, not, length, IfSome, IfErr, OnOk}
-use Rattle.std.proofs.Common.{◌≡◌, ℕ, Bool, true, false, List, [], ◌∷◌, Option, Some, None, Result, Ok, Err, inl, inr, refl, sym, ap, subst}
+use Rattle.std.specs.Prelude.{◌≢◌, ◌⊎◌, ◌&&◌, nat_le, not, length, IfSome}
+use Rattle.std.proofs.Common.{◌≡◌, ℕ, Bool, true, false, List, [], ◌∷◌, Option, Some, None, Result, Ok, Err, inl, inr, refl, sym, ap, ◌∙◌, subst}
 use Rattle.facts.specs.Checks.{when, first_some, unless}
 use Rattle.sector_dev.specs.Disk.{Image}
+use Rattle.arrow_schema.specs.Column.{PlainSchema}
 use Rattle.cells.specs.Cell.{PlainTable}
 use Rattle.catalogue.specs.Entries.{PlainEntry, PlainCatalogue, is_name}
 use Rattle.catalogue.specs.declared.limits.TheConstants.{MAX_TABLES}
@@ -12,17 +13,17 @@ use Rattle.query.specs.Selection.{selection}
 use Rattle.query.specs.View.{Reports}
 use Rattle.query.specs.declared.errors.QueryError.{QueryError}
 use Rattle.query.specs.declared.errors.QueryError.TheVariants as errors
+use Rattle.selection.specs.SelectionBuilder.{PlainBuilder, builder_after, table_built}
 use Rattle.tables.specs.Refusals.{query_refusal, select_refusal}
 use Rattle.tables.specs.Verdict.{bad_name, of_query, empty_table}
 use Rattle.tables.specs.declared.refusal.Limit.TheVariants as limits
 use Rattle.tables.specs.declared.refusal.Refusal.{Refusal}
 use Rattle.tables.specs.declared.refusal.Refusal.TheVariants as refusals
 use Rattle.store_runs.specs.Calls.{is_failure}
-use Rattle.store_runs.specs.Changes.{PlainChange}
-use Rattle.store_runs.specs.Deciding.{has_entry, taken_in, full_in, create_tests, unselected, selected_entry, decided_selection, entry_selected, IsSaved}
+use Rattle.store_runs.specs.Changes.{PlainChange, put}
+use Rattle.store_runs.specs.Deciding.{has_entry, taken_in, full_in, create_tests, unselected, selected_entry, pieces_put, decided_selection, entry_selected, IsSaved}
 use Rattle.store_runs.specs.Reading.{IsRead, Unreads}
-use Rattle.store.specs.inner.Saving.{IsSelected}
-use Rattle.store_changes.specs.Tests.{Tests}
+use Rattle.store.specs.inner.Saving.{IsSelected, Selects}
 
 -- ---- no test tells that the store is halted, or that its device failed
 
@@ -37,7 +38,7 @@ by_when : (b : Bool) (r : Refusal) → IsOn r → IfSome (when b r) IsOn
 by_when true r on = on
 by_when false r on = tt
 
-create_on : (c : PlainCatalogue) (name : List ℕ) (r : Refusal) → create_tests c name ≡ Some r → IsOn r
+pub create_on : (c : PlainCatalogue) (name : List ℕ) (r : Refusal) → create_tests c name ≡ Some r → IsOn r
 create_on c name r is =
     by_first (bad_name name) (taken_in c name ∷ full_in c name ∷ []) r (by_when (not (is_name name)) refusals.BadName (λ is. cc is, refl))
     (by_first (taken_in c name) (full_in c name ∷ []) r (by_when (has_entry c name) refusals.NameTaken (λ is. cc is, refl))
@@ -77,10 +78,9 @@ module _ (c : PlainCatalogue) (to : List ℕ) (query : PlainQuery) (e : PlainEnt
     pub not_read : (r : Refusal) → tests ≡ None → Unreads tells image e r → IsSelected tells image to query (selected_entry c to query e) (Err r)
     not_read r none unread = inr (inl (record { entry = e; tested = ap entry_selected (passed none); refusal = r; told = refl; unread = unread }))
 
-    pub selected : (standing : PlainTable) (d : Result PlainChange Refusal) → tests ≡ None → IsRead tells image e standing → (d ≡ Err refusals.OutOfMemory) ⊎ (d ≡ decided_selection to query standing)
+    pub selected : (standing : PlainTable) (d : Result PlainChange Refusal) → tests ≡ None → IsRead tells image e standing → d ≡ decided_selection to query standing
         → IsSelected tells image to query (selected_entry c to query e) d
-    selected standing d none read (inl memory) = inl memory
-    selected standing d none read (inr is) = inr (inr (subst (λ (x : Result PlainEntry Refusal). IsSaved tells image to query x d) (sym (passed none)) (standing, read, is)))
+    selected standing d none read is = inr (inr (subst (λ (x : Result PlainEntry Refusal). IsSaved tells image to query x d) (sym (passed none)) (standing, read, is)))
 
 -- ---- a selection that is not made
 
@@ -89,13 +89,6 @@ select_quiet errors.UnknownColumn = (refl, λ is. cc is)
 select_quiet errors.BadCondition = (refl, λ is. cc is)
 select_quiet errors.NotComparable = (refl, λ is. cc is)
 select_quiet errors.OutOfMemory = (refl, λ is. cc is)
-
-pub select_told : {A : Type 0} (s : Result PlainTable queries.SelectionRefusal) (e : QueryError) (f : PlainTable → Result A Refusal) → Reports e s
-    → (select_refusal e ≡ refusals.OutOfMemory) ⊎ (of_query s f ≡ Err (select_refusal e))
-select_told s errors.UnknownColumn f told = inr (ap (λ (x : Result PlainTable queries.SelectionRefusal). of_query x f) told)
-select_told s errors.BadCondition f told = inr (ap (λ (x : Result PlainTable queries.SelectionRefusal). of_query x f) told)
-select_told s errors.NotComparable f told = inr (ap (λ (x : Result PlainTable queries.SelectionRefusal). of_query x f) told)
-select_told s errors.OutOfMemory f told = inl refl
 
 pub select_untold : (s : Result PlainTable queries.SelectionRefusal) (e : QueryError) → Reports e s
     → (select_refusal e ≡ refusals.OutOfMemory) ⊎ (test_of s ≡ Some (select_refusal e))
@@ -106,15 +99,19 @@ select_untold s errors.OutOfMemory told = inl refl
 
 -- ---- the tests of the query, and then those of the name
 
-pub create_quiet : (c : PlainCatalogue) (name : List ℕ) (r : Result (Unit {0}) Refusal) → Tests r (create_tests c name) → IfErr r (λ e. is_failure e ≡ false)
-create_quiet c name (Ok unit) test = tt
-create_quiet c name (Err e) test = (create_on c name e test).1
+pub both_pass : (u t : Option Refusal) → u ≡ None → t ≡ None → first_some (u ∷ t ∷ []) ≡ None
+both_pass u t none test = λ i. first_some (none i ∷ test i ∷ [])
 
-module _ (u t : Option Refusal) (none : u ≡ None) where
-  pub both_pass : (r : Result (Unit {0}) Refusal) → Tests r t → OnOk r (first_some (u ∷ t ∷ []) ≡ None)
-  both_pass (Ok unit) test = λ i. first_some (none i ∷ test i ∷ [])
-  both_pass (Err e) test = tt
+pub later_tells : (u t : Option Refusal) (e : Refusal) → u ≡ None → t ≡ Some e → first_some (u ∷ t ∷ []) ≡ Some e
+later_tells u t e none test = λ i. first_some (none i ∷ test i ∷ [])
 
-  pub later_tells : (r : Result (Unit {0}) Refusal) → Tests r t → IfErr r (λ e. (e ≡ refusals.OutOfMemory) ⊎ (first_some (u ∷ t ∷ []) ≡ Some e))
-  later_tells (Ok unit) test = tt
-  later_tells (Err e) test = inr (λ i. first_some (none i ∷ test i ∷ []))
+-- ---- what was selected of the rows that were read
+
+pub built_selected : (start b : PlainBuilder) (s : PlainSchema) (query : PlainQuery) (standing : PlainTable) → Selects start s query → s ≡ standing.schema → b ≡ builder_after start standing.rows
+    → selection standing query ≡ Ok (table_built b)
+built_selected start b s query standing is same has = is.answers standing same ∙ ap (λ (x : PlainBuilder). Ok (table_built x)) (sym has)
+
+pub decided_built : (to : List ℕ) (query : PlainQuery) (standing table : PlainTable) (change : PlainChange) → selection standing query ≡ Ok table → change ≡ pieces_put (put to table.schema) table
+    → Ok change ≡ decided_selection to query standing
+decided_built to query standing table change made is =
+    ap Ok is ∙ sym (ap (λ (s : Result PlainTable queries.SelectionRefusal). of_query s (λ (x : PlainTable). Ok (pieces_put (put to x.schema) x))) made)

@@ -37,15 +37,11 @@ use Rattle.store.specs.Reading.{OnlyReadsStore}
 use Rattle.store.specs.Applying.{GoesOn, EndsAs, IsKept, IsCarryingAtEachMoment, IsCarriedOnDisk}
 use Rattle.store_changes.specs.OnDisk.{HasCarried, IsOldOrCarried, IsCarrying}
 use Rattle.store_changes.specs.laws.Frame.{held_is, same_tables}
+use Rattle.store_changes.specs.laws.Synced.{own_image}
 use Rattle.store.proofs.Asked.{not_less, refused_elsewhere}
 use Rattle.store.proofs.StillFits.{fits_halted, fits_unwritten}
 use Rattle.store.proofs.ReadsStore.{moments_read, spared_reading}
 use Rattle.store.proofs.Spares.{spares_in, exports_on}
-
--- what is synced is what a stop may leave
-own_image : (d : Disk) → MayLeave d (synced_image d)
-unfolding MayLeave
-own_image d n = inl refl
 
 -- a call that changes no table: it is in doubt at no moment, and where it is refused the machine stays or is halted
 pub record Staying (call : PlainCall) : Type 0 where

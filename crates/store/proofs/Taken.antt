@@ -1,5 +1,5 @@
 -- A command whose bytes come from a reader is a call of the machine: it is that command, or a read failed.
-use Rattle.std.specs.Prelude.{◌≢◌, ◌<◌, ◌+◌, not, length, IfSome, is_some}
+use Rattle.std.specs.Prelude.{◌≢◌, ◌<◌, ◌+◌, not, length, IfSome}
 use Rattle.std.proofs.Common.{◌≡◌, ◌∷◌, [], ℕ, Bool, true, false, List, Option, Some, None, Result, Ok, Err, inl, inr, refl, sym, ap, ◌∙◌, subst, arith, length-append}
 use Rattle.std.proofs.lemmas.Bool.{true≢false, lt-ltb}
 use Rattle.facts.specs.Checks.{when, first_some, unless}
@@ -221,13 +221,3 @@ module _ {D : Type 0} {g : Ghosts D} (size : D → ℕ) (story : D → Story) (f
     goes = λ told base m fits. subst (λ (k : PlainCommand). GoesOn size story failed base m (stream_call k) (ended result) store new) is (as_stream size story failed tells c base m store new result (goes told base m fits));
     takes = inl (subst (λ (k : PlainCommand). Applies size story tells store k result new) is applies);
   }
-
--- ---- an entry that a test found
-
-pub entry_there : (found : Option PlainEntry) → is_some found ≡ true → (e : PlainEntry) × (found ≡ Some e)
-entry_there (Some e) is = (e, refl)
-entry_there None is = absurd (cc is)
-
-pub entry_absent : (found : Option PlainEntry) → is_some found ≡ false → found ≡ None
-entry_absent (Some e) is = absurd (cc is)
-entry_absent None is = refl

@@ -1,10 +1,15 @@
 -- How commands are decided and carried out, and the state after each call of an open store.
-use Rattle.std.specs.Prelude.{◌≡◌, ◌⊎◌, ◌<◌, ℕ, Bool, Result, Ok, Err}
+use Rattle.std.specs.Prelude.{◌≡◌, ◌⊎◌, ◌<◌, ℕ, Bool, List, Option, None, Some, Result, Ok, Err}
+use Rattle.std.specs.List.{AllPass}
 use Rattle.sector_dev.specs.Disk.{Image, Story, now, shown_image, synced_image}
 use Rattle.sector_dev.specs.Time.{Grows, LeavesOnly, OnlyReads}
 use Rattle.sector_dev.specs.declared.device.SectorDevice.{Ghosts}
 use Rattle.segments.specs.Usages.{IsUsedIn, SameUsages}
-use Rattle.catalogue.specs.Entries.{PlainCatalogue}
+use Rattle.cells.specs.Cell.{Cell}
+use Rattle.cells.specs.Row.{is_row}
+use Rattle.cells.specs.Weight.{table_weight}
+use Rattle.cells.specs.declared.limits.TheConstants.{MAX_TABLE_WEIGHT}
+use Rattle.catalogue.specs.Entries.{PlainEntry, PlainCatalogue}
 use Rattle.commit.specs.declared.sector.Commit.{Commit}
 use Rattle.commit.specs.Standing.{rules, standing}
 use Rattle.pages.specs.Stored.{stored_reading}
@@ -37,6 +42,11 @@ pub record IsApplied {D : Type 0} {g : Ghosts D} (size : D → ℕ) (story : D �
 -- a refusal leaves the commit, the catalogue and the use of each run as they were
 abbrev pub IsKept : {D : Type 0} {g : Ghosts D} → (old new : Store D g) → Type 0
 IsKept old new = (commit_of new ≡ commit_of old) × (listed_in new ≡ listed_in old) × SameUsages old.opened.map.entries new.opened.map.entries
+
+-- rows of which each fits the table of this entry, if there is one, but which are together too heavy for any table
+abbrev pub AreTooHeavy : Option PlainEntry → List (List Cell) → Type 0
+AreTooHeavy None rows = Unit {0}
+AreTooHeavy (Some e) rows = AllPass (is_row e.schema) rows × (MAX_TABLE_WEIGHT < table_weight e.schema rows)
 
 -- ---- what lies on the disk
 

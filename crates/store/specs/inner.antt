@@ -1,3 +1,4 @@
 pub mod Saving
 pub mod Selecting
 pub mod Salvaging
+pub mod Taking

@@ -1,2 +1,3 @@
 pub mod Exported
 pub mod Upgraded
+pub mod Taking

@@ -34,6 +34,7 @@ mod saving;
 mod selecting;
 mod store;
 mod summary;
+mod taking;
 mod upgrading;
 
 pub use beginning::{crashed_devices_are_left, devices_fit, left_devices_fit, new_devices_fit};

@@ -58,7 +58,7 @@ impl<D: SectorDevice> Store<D> {
     /// Returns the table with this name: the rows of its segments, in order. Only reads.
     ///
     /// ```
-    /// let rows = store.read(alloc, "readings").map_err(Error::msg)?.len();
+    /// let rows = store.read(alloc, "readings")?.len();
     /// ```
     ///
     /// # Errors
@@ -85,13 +85,8 @@ impl<D: SectorDevice> Store<D> {
         }
     }
 
-    /// Reads the table with this name segment by segment, keeps none, and returns its weight: what its values and rows count towards the limit of a table
-    /// (`MAX_TABLE_WEIGHT` of `cells`). Only reads.
-    ///
-    /// # Errors
-    /// As [`Store::read`].
-    pub fn weigh(&mut self, alloc: Global, name: &str) -> Result<u64, Refusal>
-        // It is the weight of the table that reads show. Each refusal has one reason, the same as for a read of the table.
+    // Weighs the table with this name, on any store.
+    fn weigh_named(&mut self, alloc: Global, name: &str) -> Result<u64, Refusal>
         ensures found { IfOk result (λ weight. (t : PlainTable) × ReadsTable (is_halted self.old) D.tells
             (shown_image (now (D.story (device_of self.old)))) (entry_of (listed_in self.old) name.now) t × (weight ≡ table_weight t.schema t.rows)) }
         ensures told { IfErr result (RefusesRead (is_halted self.old) D.tells (shown_image (now (D.story (device_of self.old))))
@@ -109,6 +104,32 @@ impl<D: SectorDevice> Store<D> {
                 weight
             }
             None => Err(Refusal::NoTable),
+        }
+    }
+
+    /// Reads the table with this name segment by segment, keeps none, and returns its weight: what its values and rows count towards the limit of a table
+    /// (`MAX_TABLE_WEIGHT` of `cells`). Only reads.
+    ///
+    /// # Errors
+    /// As [`Store::read`].
+    pub fn weigh(&mut self, alloc: Global, name: &str) -> Result<u64, Refusal>
+        // On a store that represents a machine, it is the weight of the table of the settled commands, which a read returns.
+        ensures goes { IfOk result (λ weight. D.tells ≡ true → (base : Tables) (m : Machine) → StoreFits D.size D.story base m self.old
+            → (t : PlainTable) × (weight ≡ table_weight t.schema t.rows)
+            × GoesOn D.size D.story D.failed base m (read_call name.now) (table_is t) self.old self.new) }
+        ensures refused { IfErr result (λ e. D.tells ≡ true → (base : Tables) (m : Machine) → StoreFits D.size D.story base m self.old
+            → GoesOn D.size D.story D.failed base m (read_call name.now) (refused e) self.old self.new) }
+        // On any store, it is the weight of the table that reads show. Each refusal has one reason, the same as for a read of the table.
+        ensures found { IfOk result (λ weight. (t : PlainTable) × ReadsTable (is_halted self.old) D.tells
+            (shown_image (now (D.story (device_of self.old)))) (entry_of (listed_in self.old) name.now) t × (weight ≡ table_weight t.schema t.rows)) }
+        ensures told { IfErr result (RefusesRead (is_halted self.old) D.tells (shown_image (now (D.story (device_of self.old))))
+            (entry_of (listed_in self.old) name.now)) }
+        ensures reads { OnlyReadsStore D.size D.story D.failed D.tells (ended result) self.old self.new }
+    {
+        table_laws();
+        match self.weigh_named(alloc, name) {
+            Ok(weight) => Ok(weight),
+            Err(refusal) => Err(refusal),
         }
     }
 }

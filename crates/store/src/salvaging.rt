@@ -7,11 +7,11 @@ ghost use Rattle.arrow_schema.specs.Column.{PlainSchema};
 ghost use Rattle.arrow_schema.specs.Limits.{IsWithinLimits};
 ghost use Rattle.arrow_schema.specs.View.{schema_of};
 ghost use Rattle.ipc_write.specs.Written.{schema_message, end_of_stream};
-ghost use Rattle.catalogue.specs.Entries.{is_segment, is_entry, plain_entry};
+ghost use Rattle.catalogue.specs.Entries.{is_segment, is_entry, plain_entry, runs_in_segments};
 ghost use Rattle.commit.specs.Standing.{is_size, is_on_device, all_on_device};
 ghost use Rattle.store_runs.specs.Reading.{OnlyReadsDevice, ended};
 ghost use Rattle.store.specs.Salvaging.{Salvages, BreaksOff, plain_left};
-ghost use Rattle.store_changes.specs.ReadSegment.{FailsReading, runs_in};
+ghost use Rattle.store_changes.specs.ReadSegment.{FailsReading};
 ghost use Rattle.store.specs.inner.Salvaging.{is_of_segment, FailsWriting, FindsMessages, SalvagesOne, SalvagesEach};
 
 use crate::Store;
@@ -120,7 +120,7 @@ fn salvage_segments<D: SectorDevice, W: Write>(
     writer: &mut W,
 ) -> Result<Vec<LeftOut>, Refusal>
     requires size { is_size (D.size device.old) ≡ true }
-    requires placed { all_on_device (D.size device.old) (runs_in segments.now) ≡ true }
+    requires placed { all_on_device (D.size device.old) (runs_in_segments segments.now) ≡ true }
     requires sound { list_all is_segment segments.now ≡ true }
     ensures reads { OnlyReadsDevice D.size D.story D.failed D.tells (ended result) device.old device.new }
     ensures salvaged { IfOk result (λ left. (s : PlainSchema) → IsWithinLimits s → front.now ≡ schema_message s
@@ -177,7 +177,7 @@ fn salvage_entry<D: SectorDevice, W: Write>(
     writer: &mut W,
 ) -> Result<Vec<LeftOut>, Refusal>
     requires size { is_size (D.size device.old) ≡ true }
-    requires placed { all_on_device (D.size device.old) (runs_in (plain_entry entry.now).segments) ≡ true }
+    requires placed { all_on_device (D.size device.old) (runs_in_segments (plain_entry entry.now).segments) ≡ true }
     requires sound { is_entry (plain_entry entry.now) ≡ true }
     ensures reads { OnlyReadsDevice D.size D.story D.failed D.tells (ended result) device.old device.new }
     ensures salvaged { IfOk result (λ left. Salvages D.tells (shown_image (now (D.story device.old))) (plain_entry entry.now)

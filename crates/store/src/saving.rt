@@ -1,94 +1,104 @@
-// Saves the selection of a query as a table of its own.
-ghost use Rattle.std.specs.Prelude.{◌≡◌, ◌≢◌, ◌⊎◌, ◌∷◌, [], true, false, None, Some, Err, IfOk, IfErr, OnOk, string_bytes};
+// Saves the selection of a query as a table of its own. One segment of the table that it selects from is kept at a time.
+ghost use Rattle.std.specs.Prelude.{◌≡◌, ◌≢◌, ◌⊎◌, ◌∷◌, [], true, false, None, Some, IfOk, IfErr, OnOk, string_bytes};
 ghost use Rattle.facts.specs.Checks.{first_some};
 ghost use Rattle.sector_dev.specs.Disk.{now, shown_image};
-ghost use Rattle.arrow_schema.specs.Limits.{IsWithinLimits};
 ghost use Rattle.arrow_schema.specs.View.{schema_of};
-ghost use Rattle.cells.specs.Cell.{PlainTable};
-ghost use Rattle.catalogue.specs.Entries.{plain_entry, is_entry, IsCatalogue};
+ghost use Rattle.catalogue.specs.Entries.{plain_entry, is_entry, IsCatalogue, runs_in_segments};
 ghost use Rattle.catalogue.specs.View.{catalogue_of};
 ghost use Rattle.commit.specs.Standing.{is_size, all_on_device};
 ghost use Rattle.query.specs.View.{query_in};
+ghost use Rattle.selection.specs.SelectionBuilder.{builder_in, table_built};
 ghost use Rattle.tables.specs.Commands.{save_as};
 ghost use Rattle.values.specs.Table.{IsTable};
-ghost use Rattle.values.specs.TableView.{table_of};
 ghost use Rattle.store_runs.specs.Calls.{is_failure};
 ghost use Rattle.store_changes.specs.Change.{change_of, IsPut};
 ghost use Rattle.store_runs.specs.Changes.{CanChange};
-ghost use Rattle.store_runs.specs.Deciding.{create_tests, unselected, selected_entry, decided_selection};
+ghost use Rattle.store_runs.specs.Deciding.{create_tests, unselected, selected_entry};
 ghost use Rattle.store_runs.specs.Reading.{OnlyReadsDevice, ended};
-ghost use Rattle.store_changes.specs.ReadSegment.{runs_in};
-ghost use Rattle.store.specs.inner.Saving.{IsSelected};
+ghost use Rattle.store.specs.inner.Saving.{IsSelected, Selects};
 ghost use Rattle.store_changes.specs.Tests.{decision_of};
 
 use crate::Store;
 use crate::reading::halts;
+use crate::taking::{TakesRows, take_entry};
 use arrow_schema::Schema;
 use catalogue::{Catalogue, TableEntry, counts_after_changes};
 use ipc_encode::pieces_are_tables;
 use query::{Query, selection_is_a_table};
 use sector_dev::SectorDevice;
-use selection::select;
-use std::alloc::Global;
-use store_changes::{Change, put_table, read_entry, test_create, without_rows};
+use selection::SelectionBuilder;
+use std::alloc::{AllocError, Global};
+use store_changes::{Change, put_table, test_create};
 use tables::Refusal;
 use values::Table;
 
-// S12: the query does not fit tables of this schema.
-fn test_query(alloc: Global, schema: &Schema, query: &Query) -> Result<(), Refusal>
-    requires { IsWithinLimits (schema_of schema.now) }
+impl TakesRows for SelectionBuilder {
+    ghost use Rattle.selection.specs.SelectionBuilder.{SelectsOf, builder_in};
+    ghost use Rattle.store.specs.inner.Saving.{HasSelected};
+    ghost use Rattle.store.specs.laws.Taking.{none_selected};
+
+    ghost takes = { λ b s. SelectsOf (builder_in b) s };
+
+    ghost has_taken = { HasSelected };
+
+    fn take(self, alloc: Global, next: &Table) -> Result<Self, AllocError> {
+        let mut builder = self;
+        builder.append(alloc, next)?;
+        Ok(builder)
+    }
+
+    ghost begins = { none_selected };
+}
+
+// S12: the query does not fit tables of this schema. Returns the builder of its selection.
+fn test_query(alloc: Global, schema: &Schema, query: &Query) -> Result<SelectionBuilder, Refusal>
     ensures ok { OnOk result (unselected (schema_of schema.now) (query_in query.now) ≡ None) }
+    ensures selects { IfOk result (λ b. Selects (builder_in b) (schema_of schema.now) (query_in query.now)) }
     ensures err { IfErr result (λ e. (e ≡ Refusal.OutOfMemory) ⊎ (unselected (schema_of schema.now) (query_in query.now) ≡ Some e)) }
     ensures no_device { IfErr result (λ e. is_failure e ≡ false) }
 {
-    let table = without_rows(alloc, schema)?;
-    match select(alloc, &table, query) {
-        Ok(_) => Ok(()),
+    match SelectionBuilder::new(alloc, schema, query) {
+        Ok(builder) => Ok(builder),
         Err(error) => Err(Refusal::from(error)),
     }
 }
 
-// Tests whether a selection of a table of this schema can be saved under a name.
+// Tests whether a selection of a table of this schema can be saved under a name, and returns its builder.
 fn test_save(
     alloc: Global,
     catalogue: &Catalogue,
     schema: &Schema,
     to: &str,
     query: &Query,
-) -> Result<(), Refusal>
-    requires { IsWithinLimits (schema_of schema.now) }
+) -> Result<SelectionBuilder, Refusal>
     ensures ok { OnOk result
         (first_some (unselected (schema_of schema.now) (query_in query.now) ∷ create_tests (catalogue_of catalogue.now) to.now ∷ []) ≡ None) }
+    ensures selects { IfOk result (λ b. Selects (builder_in b) (schema_of schema.now) (query_in query.now)) }
     ensures err { IfErr result (λ e. (e ≡ Refusal.OutOfMemory)
         ⊎ (first_some (unselected (schema_of schema.now) (query_in query.now) ∷ create_tests (catalogue_of catalogue.now) to.now ∷ []) ≡ Some e)) }
     ensures kept { OnOk result (IsCatalogue (catalogue_of catalogue.now)) }
     ensures no_device { IfErr result (λ e. is_failure e ≡ false) }
 {
     match test_query(alloc, schema, query) {
-        Ok(()) => test_create(catalogue, to),
+        Ok(builder) => match test_create(catalogue, to) {
+            Ok(()) => Ok(builder),
+            Err(refusal) => Err(refusal),
+        },
         Err(refusal) => Err(refusal),
     }
 }
 
-// Returns the change that saves the selection of a table under a name.
+// Returns the change that saves what was selected under a name.
 fn put_selection(
     alloc: Global,
     to: String,
-    standing: &Table,
-    query: &Query,
-) -> Result<Change, Refusal>
-    requires { IsTable (table_of standing.now) }
-    ensures put { IfOk result (λ change. (t : PlainTable) × IsTable t × IsPut (string_bytes to) t (change_of change)) }
-    ensures answers { (decision_of result ≡ Err Refusal.OutOfMemory)
-        ⊎ (decision_of result ≡ decided_selection (string_bytes to) (query_in query.now) (table_of standing.now)) }
-    ensures no_device { IfErr result (λ e. is_failure e ≡ false) }
-    ensures not_halted { IfErr result (λ e. e ≢ Refusal.Halted) }
+    selected: SelectionBuilder,
+) -> Result<Change, AllocError>
+    requires { IsTable (table_built (builder_in selected)) }
+    ensures { IfOk result (λ change. IsPut (string_bytes to) (table_built (builder_in selected)) (change_of change)) }
 {
-    selection_is_a_table();
-    match select(alloc, standing, query) {
-        Ok(table) => Ok(put_table(alloc, to, table)?),
-        Err(error) => Err(Refusal::from(error)),
-    }
+    let table = selected.finish(alloc)?;
+    put_table(alloc, to, table)
 }
 
 // Makes all tests of a saved query in order, and then reads the table of the entry.
@@ -101,7 +111,7 @@ fn save_from_entry<D: SectorDevice>(
     query: &Query,
 ) -> Result<Change, Refusal>
     requires size { is_size (D.size device.old) ≡ true }
-    requires placed { all_on_device (D.size device.old) (runs_in (plain_entry entry.now).segments) ≡ true }
+    requires placed { all_on_device (D.size device.old) (runs_in_segments (plain_entry entry.now).segments) ≡ true }
     requires sound { is_entry (plain_entry entry.now) ≡ true }
     ensures reads { OnlyReadsDevice D.size D.story D.failed D.tells (ended result) device.old device.new }
     ensures ok { IfOk result (λ change. CanChange (catalogue_of catalogue.now) (change_of change)) }
@@ -111,9 +121,13 @@ fn save_from_entry<D: SectorDevice>(
 {
     counts_after_changes();
     pieces_are_tables();
+    selection_is_a_table();
     match test_save(alloc, catalogue, entry.schema(), &to, query) {
-        Ok(()) => match read_entry(alloc, device, entry) {
-            Ok(standing) => put_selection(alloc, to, &standing, query),
+        Ok(builder) => match take_entry(alloc, device, entry, builder) {
+            Ok(selected) => match put_selection(alloc, to, selected) {
+                Ok(change) => Ok(change),
+                Err(_) => Err(Refusal::OutOfMemory),
+            },
             Err(refusal) => Err(refusal),
         },
         Err(refusal) => Err(refusal),

@@ -13,7 +13,7 @@ use Rattle.catalogue.specs.laws.Digests.{digested_count}
 use Rattle.catalogue.specs.laws.Kept.{entry_stands}
 use Rattle.store_changes.specs.declared.change.Edit.{Edit}
 use Rattle.store_changes.specs.declared.change.Edit.TheVariants as edits
-use Rattle.store_runs.specs.Changes.{PlainEdit, put, extend, move, remove, exchange, digest, new_entry, page_instead, edited, name_edited, IsEdit}
+use Rattle.store_runs.specs.Changes.{PlainEdit, put, exchange, new_entry, page_instead, edited, name_edited, IsEdit}
 use Rattle.store_changes.specs.Change.{edit_of}
 use Rattle.store_changes.specs.Prepared.{CanGive}
 use Rattle.store_changes.specs.laws.Edited.{segments_at, instead_sound, put_count, more_count, moved_count, removed_count, exchange_count, at_found, segments_within}
@@ -83,12 +83,9 @@ extend_is_few c edit name segments is can stands =
 -- what is taken out of the entry that is found
 pub can_give : (c : PlainCatalogue) (edit : PlainEdit) (streams : List (List ℕ)) (name : List ℕ) (e : PlainEntry) → IsEdit c edit streams → name_edited edit ≡ Some name → entry_of c name ≡ Some e → CanGive edit e
 can_give c (put name schema) streams other e can named found = can.1
-can_give c (extend name) streams other e can named found = tt
-can_give c (move from to) streams other e can named found = tt
-can_give c (remove name) streams other e can named found = tt
 can_give c (exchange name place count) streams other e can named found =
     let own : name ≡ other = cc named in
     let both : Some can.0 ≡ Some e = sym can.1 ∙ ap (entry_of c) own ∙ found in
     let same : can.0 ≡ e = cc both in
     subst (λ (x : PlainEntry). place + count ≤ length x.segments) same can.2
-can_give c (digest digests) streams other e can named found = tt
+can_give c _ streams other e can named found = tt

@@ -1,10 +1,11 @@
 -- What is found on the way of a step, in the words of the image that it began with.
-use Rattle.std.specs.Prelude.{◌≡◌, ◌⊎◌, ◌≤◌, ◌<◌, ◌+◌, ◌&&◌, ℕ, zero, suc, Bool, true, false, nat_lt, nat_le, nat_eq, List, [], ◌∷◌, length, map, drop, slice_get, get_or, Option, Some, None, option_map, refl, if◌then◌else◌}
+use Rattle.std.specs.Prelude.{◌≡◌, ◌⊎◌, ◌≤◌, ◌<◌, ◌+◌, ◌&&◌, ℕ, suc, Bool, true, false, nat_lt, nat_le, nat_eq, List, [], ◌∷◌, length, map, drop, slice_get, get_or, Option, Some, None, option_map, refl, if◌then◌else◌}
 use Rattle.std.proofs.Common.{inl, inr, ⊎_elim, sym, ap, ◌∙◌, subst, arith, length-drop}
-use Rattle.std.proofs.lemmas.Bool.{ltb-true, ltb-false, leb-true, eqb-true, eqb-false, le-leb, lt-leb, and_parts}
+use Rattle.std.proofs.lemmas.Bool.{ltb-true, ltb-false, leb-true, eqb-true, eqb-false, le-leb, lt-leb, and_parts, cases_lt}
 use Rattle.std.proofs.lemmas.List.{length-map}
-use Rattle.std.proofs.lemmas.Option.{slice_get_within, slice_get-map, slice_get_read}
+use Rattle.std.proofs.lemmas.Option.{slice_get_within, slice_get-map, slice_get_read, same_Some}
 use Rattle.std.specs.List.{list_all}
+use Rattle.std.proofs.lemmas.List.Sums.{AllPass-from_list_all}
 use Rattle.sector_dev.specs.Disk.{Image}
 use Rattle.segments.specs.declared.run.Run.{Run}
 use Rattle.cells.specs.Cell.{Cell, PlainTable}
@@ -12,7 +13,7 @@ use Rattle.table_cut.specs.Cut.{pieces}
 use Rattle.catalogue.specs.declared.entry.Segment.{Segment}
 use Rattle.catalogue.specs.declared.entry.TableEntry.{TableEntry}
 use Rattle.catalogue.specs.declared.limits.TheConstants.{MAX_SEGMENT_ROWS}
-use Rattle.catalogue.specs.Entries.{PlainEntry, PlainCatalogue, plain_entry, is_segment, is_entry, runs_of, IsCatalogue}
+use Rattle.catalogue.specs.Entries.{PlainEntry, PlainCatalogue, plain_entry, is_segment, is_entry, runs_of, IsCatalogue, runs_in_segments}
 use Rattle.catalogue.specs.laws.Kept.{entry_is}
 use Rattle.catalogue.specs.laws.Changed.{found_passes}
 use Rattle.commit.specs.Standing.{is_on_device, all_on_device}
@@ -26,7 +27,7 @@ use Rattle.store_runs.specs.Compacting.{pair_of, StaysTwo, FirstStay, AllStay, I
 use Rattle.store_changes.specs.Finding.{UnreadsIn, later_of, IsLastIn, StandsIn, IsLastOf}
 use Rattle.store_changes.specs.laws.Digests.{copy_then, have_then}
 use Rattle.store_changes.specs.laws.ReadTables.{runs_on_device}
-use Rattle.store_changes.specs.laws.StepParts.{at_name, segment_passes, segment_placed}
+use Rattle.store_changes.specs.laws.StepParts.{at_name, passes_at, segment_placed}
 use Rattle.store_changes.specs.laws.StepChanges.{parts_of_segment, pieces_some_rows}
 
 -- ---- as it was shown at first
@@ -91,10 +92,7 @@ module _ (tells : Bool) (a b : Image) (same : tells ≡ true → b ≡ a) where
 -- ---- the first n, and one more
 
 pub below_or_at : (j i : ℕ) → j < i + 1 → (j < i) ⊎ (j ≡ i)
-below_or_at zero zero lt = inr refl
-below_or_at zero (suc i) lt = inl (omega arith)
-below_or_at (suc j) zero lt = absurd (omega (arith, lt))
-below_or_at (suc j) (suc i) lt = ⊎_elim (λ (less : j < i). inl (omega (arith, less))) (λ (is : j ≡ i). inr (ap suc is)) (below_or_at j i (omega (arith, lt)))
+below_or_at j i lt = ⊎_elim (λ (less : j < i). inl less) (λ (over : i ≤ j). inr (omega (arith, over, lt))) (cases_lt j i)
 
 pub stays_more : (tells : Bool) (image : Image) (e : PlainEntry) (count : ℕ) → FirstStay tells image e count → StaysTwo tells image e count → FirstStay tells image e (count + 1)
 stays_more tells image e count stay next place lt within =
@@ -103,10 +101,7 @@ stays_more tells image e count stay next place lt within =
 pub all_more : (tells : Bool) (image : Image) (c : PlainCatalogue) (count : ℕ) (x : PlainEntry) → slice_get c count ≡ Some x → AllStay tells image c count → FirstStay tells image x (length x.segments) → AllStay tells image c (count + 1)
 all_more tells image c count x at stay next number e lt found =
     ⊎_elim (λ (less : number < count). stay number e less found)
-    (λ (is : number ≡ count).
-    let both : Some x ≡ Some e = sym at ∙ ap (slice_get c) (sym is) ∙ found in
-    let same : x ≡ e = cc both in
-    subst (λ (y : PlainEntry). FirstStay tells image y (length y.segments)) same next)
+    (λ (is : number ≡ count). subst (λ (y : PlainEntry). FirstStay tells image y (length y.segments)) (same_Some x e (sym at ∙ ap (slice_get c) (sym is) ∙ found)) next)
     (below_or_at number count lt)
 
 -- ---- the last segment
@@ -167,7 +162,7 @@ last_is c last ((e, at, there), most) = (e, record { found = at; at = there; mos
 
 -- where it lies
 pub last_sound : (c : PlainCatalogue) → IsCatalogue c → (last : Last) → IsLastOf c (length c) (Some last) → is_segment last.segment ≡ true
-last_sound c k last ((e, at, there), most) = segment_passes e.segments last.place last.segment (entry_is e (found_passes is_entry c e.name e k.entries (at_name c last.table e k.order at))).segments there
+last_sound c k last ((e, at, there), most) = passes_at is_segment e.segments last.place last.segment (entry_is e (found_passes is_entry c e.name e k.entries (at_name c last.table e k.order at))).segments there
 
 pub last_placed : (size : ℕ) (c : PlainCatalogue) → IsCatalogue c → all_on_device size (runs_of c) ≡ true → (last : Last) → IsLastOf c (length c) (Some last) → is_on_device size last.segment.place.run ≡ true
 last_placed size c k on last ((e, at, there), most) = segment_placed size e.segments last.place last.segment (runs_on_device size c e.name e on (at_name c last.table e k.order at)) there
@@ -182,12 +177,19 @@ some_sectors size run on =
     let more = and_parts (nat_le 2 run.start) (nat_le 1 run.count && nat_le (run.start + run.count) size) on in
     leb-true 1 run.count (and_parts (nat_le 1 run.count) (nat_le (run.start + run.count) size) more.1).0
 
-pub one_entry : (c : PlainCatalogue) (number : ℕ) (x e : PlainEntry) → slice_get c number ≡ Some x → slice_get c number ≡ Some e → x ≡ e
-one_entry c number x e a b = let both : Some x ≡ Some e = sym a ∙ b in cc both
-
 -- an entry of the code
 pub item_at : (entries : List TableEntry) (place : ℕ) (item : TableEntry) → place < length entries → item ≡ get_or entries place item → slice_get (map plain_entry entries) place ≡ Some (plain_entry item)
 item_at entries place item lt is = slice_get-map plain_entry entries place ∙ ap (option_map plain_entry) (slice_get_read entries (length entries) place item refl lt is)
+
+module _ (entries : List TableEntry) (place : ℕ) (item : TableEntry) (lt : place < length entries) (is : item ≡ get_or entries place item) (k : IsCatalogue (map plain_entry entries)) where
+  pub item_sound : is_entry (plain_entry item) ≡ true
+  item_sound = passes_at is_entry (map plain_entry entries) place (plain_entry item) k.entries (item_at entries place item lt is)
+
+  pub item_placed : (size later : ℕ) → later ≡ size → all_on_device size (runs_of (map plain_entry entries)) ≡ true → all_on_device later (runs_in_segments (plain_entry item).segments) ≡ true
+  item_placed size later same on =
+      let listed = map plain_entry entries in
+      subst (λ (n : ℕ). all_on_device n (runs_in_segments (plain_entry item).segments) ≡ true) (sym same)
+      (runs_on_device size listed (plain_entry item).name (plain_entry item) on (at_name listed place (plain_entry item) k.order (item_at entries place item lt is)))
 
 pub unread_in : (tells : Bool) (image : Image) (c : PlainCatalogue) (number : ℕ) (e : PlainEntry) (r : Refusal) → slice_get c number ≡ Some e → AllStay tells image c number → UnreadsIn tells image e r → UnreadsInPairs tells image c r
 unread_in tells image c number e r at others (place, within, before, (few, unread)) =
@@ -195,9 +197,10 @@ unread_in tells image c number e r at others (place, within, before, (few, unrea
 
 -- the rows of two segments are few
 pub few_at : (segments : List Segment) (i : ℕ) (d : Segment) → list_all is_segment segments ≡ true → i < length segments → (get_or segments i d).rows ≤ MAX_SEGMENT_ROWS
-few_at [] i d all lt = absurd (omega (arith, lt))
-few_at (g ∷ gs) zero d all lt = let parts = parts_of_segment g (and_parts (is_segment g) (list_all is_segment gs) all).0 in leb-true g.rows MAX_SEGMENT_ROWS (and_parts (nat_le 1 g.rows) (nat_le g.rows MAX_SEGMENT_ROWS) parts.2).1
-few_at (g ∷ gs) (suc i) d all lt = few_at gs i d (and_parts (is_segment g) (list_all is_segment gs) all).1 (omega (arith, lt))
+few_at segments i d all lt =
+    let g = get_or segments i d in
+    let parts = parts_of_segment g (AllPass-from_list_all is_segment segments all i d lt) in
+    leb-true g.rows MAX_SEGMENT_ROWS (and_parts (nat_le 1 g.rows) (nat_le g.rows MAX_SEGMENT_ROWS) parts.2).1
 
 -- the first piece has all rows just where there is no other one
 pub one_is : (within : List (List Cell) → Bool) (rows first : List (List Cell)) (n : ℕ) → pieces within rows ≡ first ∷ pieces within (drop n rows) → n ≤ length rows → nat_eq n (length rows) ≡ nat_le (length (pieces within rows)) 1

@@ -129,10 +129,7 @@ reads_at c (append_stream name bytes) e is =
 reads_at c (append_rows name rows) e is =
     record { name = name; there = added_at e (given_rows rows) (λ own a test. (given_is own rows a test).entry) (entry_of c name) is; reads = refl }
 reads_at c (save_as from to query) e is = record { name = from; there = selected_at e (λ own. first_some (unselected own.schema query ∷ create_tests c to ∷ [])) (entry_of c from) is; reads = refl }
-reads_at c (create name schema) e is = absurd (cc is)
-reads_at c (import_stream name bytes) e is = absurd (cc is)
-reads_at c (rename from to) e is = absurd (cc is)
-reads_at c (drop_table name) e is = absurd (cc is)
+reads_at c _ e is = absurd (cc is)
 
 -- a table that is held is not read only where the device fails, or memory is refused
 module _ (laws : LawsBelow) (image : Image) (c : PlainCatalogue) (t : Tables) (catalogue : IsCatalogue c) (held : tables_held image c ≡ Some t) (name : List ℕ) (e : PlainEntry) (there : entry_of c name ≡ Some e) where
@@ -142,22 +139,10 @@ module _ (laws : LawsBelow) (image : Image) (c : PlainCatalogue) (t : Tables) (c
   why_unread (refusals.SegmentUnread place) u =
       let has = entry_has image c t held name e there in
       absurd (unread_not_held laws.tables image e place has.0 (entry_is e (found_passes is_entry c name e catalogue.entries there)).schema (u.1 refl) has.1)
-  why_unread refusals.NoTable u = absurd u
-  why_unread refusals.NameTaken u = absurd u
-  why_unread refusals.BadName u = absurd u
-  why_unread refusals.SchemaMismatch u = absurd u
-  why_unread (refusals.Import fault) u = absurd u
-  why_unread (refusals.RowUnfit row) u = absurd u
-  why_unread (refusals.TooMany limit) u = absurd u
-  why_unread (refusals.NoRoom sectors) u = absurd u
-  why_unread refusals.Halted u = absurd u
-  why_unread refusals.NoExport u = absurd u
-  why_unread (refusals.Query refusal) u = absurd u
-  why_unread refusals.Read u = absurd u
   why_unread (refusals.SegmentDamaged place) u =
       let has = entry_has image c t held name e there in
       absurd (damaged_not_held laws.tables image e place has.0 (entry_is e (found_passes is_entry c name e catalogue.entries there)).schema (u.1 refl) has.1)
-  why_unread refusals.Write u = absurd u
+  why_unread _ u = absurd u
 
 not_read : LawsBelow → (image : Image) (c : PlainCatalogue) (t : Tables) (command : PlainCommand) (d : Result PlainChange Refusal) → IsCatalogue c → tables_held image c ≡ Some t
     → IsNotRead true image (entry_read c command) d → IsUndecided command d

@@ -1,7 +1,6 @@
 -- Reading a single segment.
-use Rattle.std.specs.Prelude.{◌≡◌, ℕ, Bool, true, false, List, map}
+use Rattle.std.specs.Prelude.{◌≡◌, ℕ, Bool, true, false, List}
 use Rattle.sector_dev.specs.Disk.{Image}
-use Rattle.segments.specs.declared.run.Run.{Run}
 use Rattle.arrow_schema.specs.Column.{PlainSchema}
 use Rattle.cells.specs.Cell.{Cell}
 use Rattle.catalogue.specs.declared.entry.Segment.{Segment}
@@ -25,7 +24,3 @@ abbrev pub FailsReading : Refusal → Type 0
 FailsReading refusals.Device = Unit {0}
 FailsReading refusals.OutOfMemory = Unit {0}
 FailsReading _ = ⊥
-
--- the runs of segments
-abbrev pub runs_in : List Segment → List Run
-runs_in segments = map (λ (s : Segment). s.place.run) segments

@@ -5,7 +5,7 @@ ghost use Rattle.sector_dev.specs.Disk.{now, shown_image};
 ghost use Rattle.cells.specs.Cell.{Cell};
 ghost use Rattle.cells.specs.Weight.{table_weight};
 ghost use Rattle.catalogue.specs.Edits.{entry_of};
-ghost use Rattle.catalogue.specs.Entries.{plain_entry, is_entry, PlainCatalogue};
+ghost use Rattle.catalogue.specs.Entries.{plain_entry, is_entry, PlainCatalogue, runs_in_segments};
 ghost use Rattle.commit.specs.Standing.{is_size, all_on_device};
 ghost use Rattle.values.specs.Table.{IsTable};
 ghost use Rattle.values.specs.TableView.{table_of};
@@ -15,7 +15,6 @@ ghost use Rattle.store_runs.specs.Changes.{CanChange, rows_under};
 ghost use Rattle.store_runs.specs.Deciding.{decided_extension};
 ghost use Rattle.store_runs.specs.Reading.{OnlyReadsDevice, ended};
 ghost use Rattle.store_changes.specs.Appending.{added_to, IsAppended};
-ghost use Rattle.store_changes.specs.ReadSegment.{runs_in};
 ghost use Rattle.store_changes.specs.Tests.{Tests, decision_of};
 
 use crate::change::{Change, Edit, NewSegments, SegmentRows};
@@ -82,7 +81,7 @@ pub fn append_to_entry<D: SectorDevice>(
     new: NewRows,
 ) -> Result<Change, Refusal>
     requires size { is_size (D.size device.old) ≡ true }
-    requires placed { all_on_device (D.size device.old) (runs_in (plain_entry entry.now).segments) ≡ true }
+    requires placed { all_on_device (D.size device.old) (runs_in_segments (plain_entry entry.now).segments) ≡ true }
     requires sound { is_entry (plain_entry entry.now) ≡ true }
     ensures reads { OnlyReadsDevice D.size D.story D.failed D.tells (ended result) device.old device.new }
     ensures ok { IfOk result (λ change. (c : PlainCatalogue) → entry_of c (string_bytes name) ≡ Some (plain_entry entry.now)

@@ -4,11 +4,10 @@ ghost use Rattle.std.specs.List.{list_all};
 ghost use Rattle.sha2.specs.Sha256.{sha256};
 ghost use Rattle.sector_dev.specs.Disk.{now, shown_image};
 ghost use Rattle.cells.specs.Cell.{PlainTable};
-ghost use Rattle.catalogue.specs.Entries.{PlainEntry, plain_entry, is_segment, is_entry, runs_of, IsCatalogue};
+ghost use Rattle.catalogue.specs.Entries.{PlainEntry, plain_entry, is_segment, is_entry, runs_of, IsCatalogue, runs_in_segments};
 ghost use Rattle.commit.specs.Standing.{is_size, all_on_device};
 ghost use Rattle.store_runs.specs.Reading.{IsRead, Unreads, OnlyReadsDevice, ended};
 ghost use Rattle.store_runs.specs.Digesting.{segments_of, AreDigests, StopsReading};
-ghost use Rattle.store_changes.specs.ReadSegment.{runs_in};
 ghost use Rattle.store_changes.specs.inner.Digesting.{LacksCopy};
 
 use crate::reading::read_bytes;
@@ -32,7 +31,7 @@ fn segment_digests<D: SectorDevice>(
     segments: &[Segment],
 ) -> Result<Vec<[u8; 32]>, Refusal>
     requires size { is_size (D.size device.old) ≡ true }
-    requires placed { all_on_device (D.size device.old) (runs_in segments.now) ≡ true }
+    requires placed { all_on_device (D.size device.old) (runs_in_segments segments.now) ≡ true }
     requires sound { list_all is_segment segments.now ≡ true }
     ensures reads { OnlyReadsDevice D.size D.story D.failed D.tells (ended result) device.old device.new }
     ensures found { IfOk result (λ digests. AreDigests D.tells (shown_image (now (D.story device.old))) segments.now digests.items) }
@@ -58,7 +57,7 @@ fn entry_digests<D: SectorDevice>(
     entry: &TableEntry,
 ) -> Result<Vec<[u8; 32]>, Refusal>
     requires size { is_size (D.size device.old) ≡ true }
-    requires placed { all_on_device (D.size device.old) (runs_in (plain_entry entry.now).segments) ≡ true }
+    requires placed { all_on_device (D.size device.old) (runs_in_segments (plain_entry entry.now).segments) ≡ true }
     requires sound { is_entry (plain_entry entry.now) ≡ true }
     ensures reads { OnlyReadsDevice D.size D.story D.failed D.tells (ended result) device.old device.new }
     ensures read { IfOk result (λ digests. (table : PlainTable) × IsRead D.tells (shown_image (now (D.story device.old))) (plain_entry entry.now) table) }

@@ -33,5 +33,4 @@ pub use laws::{
 pub use new_rows::NewRows;
 pub use preparing::{Prepared, prepare, settle};
 pub use reading::{read_entry, read_next_segment, read_segment};
-pub use table_builder::without_rows;
 pub use weighing::weigh_entry;

@@ -3,14 +3,13 @@ ghost use Rattle.std.specs.Prelude.{◌≡◌, ◌≤◌, ◌+◌, true, nat_le,
 ghost use Rattle.sector_dev.specs.Disk.{now, shown_image};
 ghost use Rattle.cells.specs.declared.limits.TheConstants.{MAX_PIECE_ROWS};
 ghost use Rattle.values.specs.TableView.{table_of};
-ghost use Rattle.catalogue.specs.Entries.{plain_entry, is_entry, row_count, runs_of, IsCatalogue};
+ghost use Rattle.catalogue.specs.Entries.{plain_entry, is_entry, row_count, runs_of, IsCatalogue, runs_in_segments};
 ghost use Rattle.commit.specs.Standing.{is_size, all_on_device};
 ghost use Rattle.store_changes.specs.Change.{change_of};
 ghost use Rattle.store_runs.specs.Changes.{exchange};
 ghost use Rattle.store_runs.specs.Deciding.{pieces_put};
 ghost use Rattle.store_runs.specs.Reading.{IsRead, OnlyReadsDevice, ended};
 ghost use Rattle.store_runs.specs.Compacting.{pair_of, is_one_piece, UnreadsPair, UnreadsInPairs};
-ghost use Rattle.store_changes.specs.ReadSegment.{runs_in};
 ghost use Rattle.store_changes.specs.Finding.{IsPair, FindsIn, UnreadsFew, UnreadsIn, FindsPair};
 
 use crate::change::{Change, Edit, NewSegments, SegmentRows};
@@ -63,7 +62,7 @@ fn read_pair<D: SectorDevice>(
     place: usize,
 ) -> Result<Table, Refusal>
     requires size { is_size (D.size device.old) ≡ true }
-    requires placed { all_on_device (D.size device.old) (runs_in (plain_entry entry.now).segments) ≡ true }
+    requires placed { all_on_device (D.size device.old) (runs_in_segments (plain_entry entry.now).segments) ≡ true }
     requires sound { is_entry (plain_entry entry.now) ≡ true }
     requires within { place + 2 ≤ length (plain_entry entry.now).segments }
     ensures reads { OnlyReadsDevice D.size D.story D.failed D.tells (ended result) device.old device.new }
@@ -89,7 +88,7 @@ fn joined_at<D: SectorDevice>(
     place: usize,
 ) -> Result<Option<Table>, Refusal>
     requires size { is_size (D.size device.old) ≡ true }
-    requires placed { all_on_device (D.size device.old) (runs_in (plain_entry entry.now).segments) ≡ true }
+    requires placed { all_on_device (D.size device.old) (runs_in_segments (plain_entry entry.now).segments) ≡ true }
     requires sound { is_entry (plain_entry entry.now) ≡ true }
     requires within { place + 2 ≤ length (plain_entry entry.now).segments }
     ensures reads { OnlyReadsDevice D.size D.story D.failed D.tells (ended result) device.old device.new }
@@ -140,7 +139,7 @@ fn first_pair_of<D: SectorDevice>(
     entry: &TableEntry,
 ) -> Result<Option<Change>, Refusal>
     requires size { is_size (D.size device.old) ≡ true }
-    requires placed { all_on_device (D.size device.old) (runs_in (plain_entry entry.now).segments) ≡ true }
+    requires placed { all_on_device (D.size device.old) (runs_in_segments (plain_entry entry.now).segments) ≡ true }
     requires sound { is_entry (plain_entry entry.now) ≡ true }
     ensures reads { OnlyReadsDevice D.size D.story D.failed D.tells (ended result) device.old device.new }
     ensures found { IfOk result (FindsIn D.tells (shown_image (now (D.story device.old))) (plain_entry entry.now)) }

@@ -10,13 +10,13 @@ ghost use Rattle.values.specs.TableView.{table_of, is_in_parts};
 ghost use Rattle.cells.specs.Weight.{table_weight};
 ghost use Rattle.ipc_write.specs.Written.{schema_message};
 ghost use Rattle.segments.specs.declared.extent.Extent.{Extent};
-ghost use Rattle.catalogue.specs.Entries.{is_segment, is_entry, plain_entry};
+ghost use Rattle.catalogue.specs.Entries.{is_segment, is_entry, plain_entry, runs_in_segments};
 ghost use Rattle.commit.specs.Standing.{is_size, is_on_device, all_on_device};
 ghost use Rattle.store_runs.specs.Held.{is_undamaged, rows_in_bytes};
 ghost use Rattle.store_runs.specs.Reading.{IsCopy, LacksBytes, HasRead, LacksRows, IsRead, Unreads, OnlyReadsDevice, ended};
 ghost use Rattle.store_changes.specs.inner.ReadRows.{ReadsRows, ReadsNext};
 ghost use Rattle.store_changes.specs.inner.TableBuilder.{table_so_far};
-ghost use Rattle.store_changes.specs.ReadSegment.{UnreadsSegment, runs_in};
+ghost use Rattle.store_changes.specs.ReadSegment.{UnreadsSegment};
 
 use crate::laws::table_laws;
 use crate::table_builder::TableBuilder;
@@ -221,7 +221,7 @@ fn read_segments<D: SectorDevice>(
     segments: &[Segment],
 ) -> Result<TableBuilder, Refusal>
     requires size { is_size (D.size device.old) ≡ true }
-    requires placed { all_on_device (D.size device.old) (runs_in segments.now) ≡ true }
+    requires placed { all_on_device (D.size device.old) (runs_in_segments segments.now) ≡ true }
     requires sound { list_all is_segment segments.now ≡ true }
     requires limits { IsWithinLimits (table_so_far empty).schema }
     requires message { front.now ≡ schema_message (table_so_far empty).schema }
@@ -272,7 +272,7 @@ fn gather_entry<D: SectorDevice>(
     entry: &TableEntry,
 ) -> Result<TableBuilder, Refusal>
     requires size { is_size (D.size device.old) ≡ true }
-    requires placed { all_on_device (D.size device.old) (runs_in (plain_entry entry.now).segments) ≡ true }
+    requires placed { all_on_device (D.size device.old) (runs_in_segments (plain_entry entry.now).segments) ≡ true }
     requires sound { is_entry (plain_entry entry.now) ≡ true }
     ensures reads { OnlyReadsDevice D.size D.story D.failed D.tells (ended result) device.old device.new }
     ensures table { IfOk result (λ g. IsRead D.tells (shown_image (now (D.story device.old))) (plain_entry entry.now) (table_so_far g)) }
@@ -300,7 +300,7 @@ pub fn read_entry<D: SectorDevice>(
     entry: &TableEntry,
 ) -> Result<Table, Refusal>
     requires size { is_size (D.size device.old) ≡ true }
-    requires placed { all_on_device (D.size device.old) (runs_in (plain_entry entry.now).segments) ≡ true }
+    requires placed { all_on_device (D.size device.old) (runs_in_segments (plain_entry entry.now).segments) ≡ true }
     requires sound { is_entry (plain_entry entry.now) ≡ true }
     ensures reads { OnlyReadsDevice D.size D.story D.failed D.tells (ended result) device.old device.new }
     ensures table { IfOk result (λ t. IsRead D.tells (shown_image (now (D.story device.old))) (plain_entry entry.now) (table_of t)) }

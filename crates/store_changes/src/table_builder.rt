@@ -8,7 +8,6 @@ ghost use Rattle.cells.specs.declared.limits.TheConstants.{MAX_TABLE_WEIGHT};
 ghost use Rattle.values.specs.Parts.{parts_table, are_parts_sound};
 ghost use Rattle.values.specs.Table.{IsTable};
 ghost use Rattle.values.specs.TableView.{table_of, is_in_parts};
-ghost use Rattle.tables.specs.Verdict.{empty_table};
 
 use arrow_schema::Schema;
 use std::alloc::{AllocError, Global};
@@ -76,15 +75,4 @@ impl TableBuilder {
         let TableBuilder { schema, parts, .. } = self;
         Table::from_parts(alloc, schema, parts)
     }
-}
-
-/// Returns a table of this schema without rows.
-///
-/// # Errors
-/// `AllocError` if memory was refused.
-pub fn without_rows(alloc: Global, schema: &Schema) -> Result<Table, AllocError>
-    requires { IsWithinLimits (schema_of schema.now) }
-    ensures { IfOk result (λ t. table_of t ≡ empty_table (schema_of schema.now)) }
-{
-    TableBuilder::empty(alloc, schema.copy(alloc)?).finish(alloc)
 }

@@ -10,11 +10,11 @@ ghost use Rattle.cells.specs.declared.limits.TheConstants.{MAX_TABLE_WEIGHT};
 ghost use Rattle.values.specs.Table.{IsTable};
 ghost use Rattle.ipc_write.specs.Written.{schema_message};
 ghost use Rattle.segments.specs.declared.extent.Extent.{Extent};
-ghost use Rattle.catalogue.specs.Entries.{is_segment, is_entry, plain_entry};
+ghost use Rattle.catalogue.specs.Entries.{is_segment, is_entry, plain_entry, runs_in_segments};
 ghost use Rattle.commit.specs.Standing.{is_size, is_on_device, all_on_device};
 ghost use Rattle.store_runs.specs.Changes.{rows_under};
 ghost use Rattle.store_runs.specs.Reading.{IsRead, Unreads, OnlyReadsDevice, ended};
-ghost use Rattle.store_changes.specs.ReadSegment.{UnreadsSegment, runs_in};
+ghost use Rattle.store_changes.specs.ReadSegment.{UnreadsSegment};
 ghost use Rattle.store_changes.specs.inner.ReadRows.{WeighsRows, WeighsNext};
 
 use crate::laws::table_laws;
@@ -63,7 +63,7 @@ fn weigh_segments<D: SectorDevice>(
     segments: &[Segment],
 ) -> Result<u64, Refusal>
     requires size { is_size (D.size device.old) ≡ true }
-    requires placed { all_on_device (D.size device.old) (runs_in segments.now) ≡ true }
+    requires placed { all_on_device (D.size device.old) (runs_in_segments segments.now) ≡ true }
     requires sound { list_all is_segment segments.now ≡ true }
     ensures reads { OnlyReadsDevice D.size D.story D.failed D.tells (ended result) device.old device.new }
     ensures weight { IfOk result (λ w. (s : PlainSchema) → IsWithinLimits s → front.now ≡ schema_message s
@@ -91,7 +91,7 @@ pub fn weigh_entry<D: SectorDevice>(
     entry: &TableEntry,
 ) -> Result<u64, Refusal>
     requires size { is_size (D.size device.old) ≡ true }
-    requires placed { all_on_device (D.size device.old) (runs_in (plain_entry entry.now).segments) ≡ true }
+    requires placed { all_on_device (D.size device.old) (runs_in_segments (plain_entry entry.now).segments) ≡ true }
     requires sound { is_entry (plain_entry entry.now) ≡ true }
     ensures reads { OnlyReadsDevice D.size D.story D.failed D.tells (ended result) device.old device.new }
     ensures weight { IfOk result (λ w. (table : PlainTable) × IsRead D.tells (shown_image (now (D.story device.old))) (plain_entry entry.now) table

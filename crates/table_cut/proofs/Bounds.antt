@@ -324,8 +324,3 @@ pub one_sound : (field : Field) (n : ℕ) (arrays : Arrays) → are_sound (field
 unfolding are_sound
 one_sound field n arrays sound =
     (and_parts (is_sound (column_of field) (first_array arrays)) _ (and_parts (nat_le n (slots_in (first_array arrays))) _ sound).1).0
-
-pub some_item : {X : Type 0} (xs : List X) (i : ℕ) (x : X) (rest : List X) → drop i xs ≡ x ∷ rest → 0 < length xs
-some_item [] zero x rest is = cc
-some_item [] (suc i) x rest is = cc
-some_item (y ∷ ys) i x rest is = omega arith

@@ -1,8 +1,8 @@
 -- Rows have at most one value each in a dictionary that stands below no list.
-use Rattle.std.specs.Prelude.{Option, Some, None, is_some, slice_get, option_to_list, ◌||◌}
+use Rattle.std.specs.Prelude.{Option, Some, None, is_some, slice_get, option_to_list}
 use Rattle.std.specs.List.{list_all, flat_map}
 use Rattle.std.proofs.Common.{◌≡◌, ◌≤◌, ◌+◌, ◌∷◌, [], ℕ, Bool, true, false, List, map, length, refl, ap, ◌∙◌, arith, length-append}
-use Rattle.std.proofs.lemmas.Bool.{and_from, or_parts, le-leb, leb-true, not-false}
+use Rattle.std.proofs.lemmas.Bool.{and_from, or_from, or_parts, le-leb, leb-true, not-false}
 use Rattle.std.proofs.lemmas.List.Folds.{list_all-append}
 use Rattle.std.proofs.lemmas.List.{length-map}
 use Rattle.arrow_schema.specs.Column.{Index, Kind, Column, Columns, PlainSchema, columns_of, lists, large_lists, fixed_lists, structs, column, no_column, and_column}
@@ -71,16 +71,13 @@ own_free values None free = refl
 own_free None (Some i) free = free
 own_free (Some n) (Some i) free = rw (any_within (entry_limit i) n free) refl
 
-or_false : (a b : Bool) → a ≡ false → b ≡ false → (a || b) ≡ false
-or_false a b h k = rw (h, k) refl
-
 mutual
   unfolding is_limited is_kind_limited is_any_limited can_fill can_kind_fill can_any_fill
 
   column_free : (values : Option ℕ) (c : Column) → is_limited c ≡ false → can_fill values c ≡ false
   column_free values (column name nullable kind dictionary pairs) free =
       let both = or_parts (has_limit dictionary) (is_kind_limited kind) free in
-      or_false _ _ (own_free values dictionary both.0) (below_free values kind both.1)
+      or_from _ _ (own_free values dictionary both.0) (below_free values kind both.1)
 
   below_free : (values : Option ℕ) (k : Kind) → is_kind_limited k ≡ false → can_kind_fill values k ≡ false
   below_free values (lists item) free = column_free None item free
@@ -93,7 +90,7 @@ mutual
   all_free values no_column free = refl
   all_free values (and_column c cs) free =
       let both = or_parts (is_limited c) (is_any_limited cs) free in
-      or_false _ _ (column_free values c both.0) (all_free values cs both.1)
+      or_from _ _ (column_free values c both.0) (all_free values cs both.1)
 
 limited_by : (n : ℕ) (cs : Columns) (b : Bool) → is_any_limited cs ≡ b → can_rows_fill n cs ≡ true → b ≡ true
 limited_by n cs true is filled = refl

@@ -3,7 +3,7 @@ use Rattle.std.specs.Prelude.{◌&&◌, nat_le, not, slice_get, option_to_list, 
 use Rattle.std.specs.List.{flat_map, list_all, range_with_len}
 use Rattle.std.proofs.Common.{◌≡◌, ℕ, zero, suc, ◌+◌, ◌<◌, ◌≤◌, Bool, true, false, List, [], ◌∷◌, ◌++◌, map, length, drop, take, get_or, length-append, inl, inr, refl, sym, ap, subst, ◌∙◌, arith}
 use Rattle.std.proofs.lemmas.Bool.{and_parts, and_from, cases_lt, le-leb, lt-leb, not-true}
-use Rattle.std.proofs.lemmas.List.{map-append, take-append-drop, take-map}
+use Rattle.std.proofs.lemmas.List.{map-append, take-append-drop, take-map, take-take}
 use Rattle.std.proofs.lemmas.List.Folds.{list_all-append}
 use Rattle.std.proofs.lemmas.List.FromFn.{length-map-range_with_len}
 use Rattle.std.proofs.lemmas.List.Concat.{flat_map-append}
@@ -35,7 +35,6 @@ use Rattle.table_cut.specs.inner.Columns.{arrays_from_place, array_at, rows_from
 use Rattle.table_cut.specs.inner.Fit.{is_flat, are_flat, column_fits, entries_fit, fit_with, is_column_coded, HasRoomFor, IsCounted, AreCounted}
 use Rattle.table_cut.specs.inner.Room.{AreRunsOf}
 use Rattle.table_cut.proofs.ColumnLemmas.{arrays_next, rows_first, rows_others, is_sound_from_place, sound_own}
-use Rattle.table_cut.proofs.RoomLemmas.{front_of_front}
 
 -- ---- one column
 
@@ -292,7 +291,7 @@ grown old xs a b le =
     let more = ap (with_entries old) (take-append-drop a (take b xs)) in
     let split = entries_append old (take a (take b xs)) (drop a (take b xs)) in
     let grow = entries_grow (with_entries old (take a (take b xs))) (drop a (take b xs)) in
-    let front = ap (λ (ys : List Cell). length (with_entries old ys)) (front_of_front a b xs le) in
+    let front = ap (λ (ys : List Cell). length (with_entries old ys)) (take-take a b xs le) in
     omega (arith, ap length more, ap length split, grow, front)
 
 -- what fits at a number fits below it, and what does not fit does not fit above

@@ -1,7 +1,7 @@
 -- Where a piece ends.
 use Rattle.std.specs.Prelude.{nat_le, sum_by}
 use Rattle.std.specs.List.{range_with_len, list_all}
-use Rattle.std.proofs.Common.{◌≡◌, ◌≢◌, ◌⊎◌, inl, inr, ℕ, zero, suc, ◌+◌, ◌-◌, ◌<◌, ◌≤◌, true, false, List, [], ◌∷◌, ◌++◌, map, length, drop, set, refl, sym, ap, ◌∙◌, arith, length-append}
+use Rattle.std.proofs.Common.{◌≡◌, ◌≢◌, ◌⊎◌, inl, inr, ℕ, zero, suc, ◌+◌, ◌-◌, ◌<◌, ◌≤◌, true, false, List, [], ◌∷◌, ◌++◌, map, length, refl, sym, ap, ◌∙◌, arith, length-append}
 use Rattle.std.proofs.lemmas.Bool.{and_parts, and_from, leb-true, le-leb, lt-leb}
 use Rattle.std.proofs.lemmas.List.Sums.{sum_by-append, sum_by-cons}
 use Rattle.std.proofs.Math.Bool.{and-false}
@@ -97,10 +97,3 @@ pub run_full : (s : PlainSchema) (piece : List (List Cell)) (arrays : Arrays) (f
     → IsPastLimits s piece (row_at (columns_of s.columns) arrays (from + k))
     → IsFull s piece (map (row_at (columns_of s.columns) arrays) (range_with_len (from + k) (n - k)) ++ more)
 run_full s piece arrays from n k more lt full = first_full s piece arrays (from + k) (n - k) more (omega arith) full
-
-pub drop_set : {X : Type 0} (xs : List X) (i : ℕ) (x : X) → i < length xs → drop i (set xs i x) ≡ x ∷ drop (i + 1) xs
-drop_set [] i x lt = absurd (omega arith)
-drop_set (y ∷ ys) zero x lt = refl
-drop_set (y ∷ ys) (suc i) x lt =
-    let e : suc i + 1 ≡ suc (i + 1) = omega arith in
-    rw e (drop_set ys i x (omega arith))

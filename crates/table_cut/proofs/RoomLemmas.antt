@@ -2,7 +2,7 @@
 use Rattle.std.specs.List.{list_all, range_with_len}
 use Rattle.std.proofs.Common.{◌≡◌, ℕ, zero, suc, ◌+◌, ◌<◌, ◌≤◌, Bool, true, false, List, [], ◌∷◌, ◌++◌, map, length, take, drop, get_or, refl, sym, ap, ◌∙◌, arith, append_assoc}
 use Rattle.std.proofs.lemmas.Bool.{and_parts, and_from, lt-ltb}
-use Rattle.std.proofs.lemmas.List.{take-append-drop, take_all}
+use Rattle.std.proofs.lemmas.List.{take-append-drop, take-take, take_all}
 use Rattle.std.proofs.lemmas.List.Folds.{list_all-append}
 use Rattle.std.proofs.lemmas.List.Sums.{sum_by-append}
 use Rattle.arrays.specs.Bytes.{are_bytes, have_bytes}
@@ -39,17 +39,11 @@ rows_of_first s left own others k is are =
 
 -- ---- the front of a run
 
-pub front_of_front : {X : Type 0} (k t : ℕ) (xs : List X) → k ≤ t → take k (take t xs) ≡ take k xs
-front_of_front zero t xs le = refl
-front_of_front (suc k) zero xs le = absurd (omega arith)
-front_of_front (suc k) (suc t) [] le = refl
-front_of_front {X = X} (suc k) (suc t) (x ∷ xs) le = ap (λ (ys : List X). x ∷ ys) (front_of_front k t xs (omega arith))
-
 pub lighter_front : (s : PlainSchema) (rows : List (List Cell)) (k t : ℕ) → k ≤ t → table_weight s (take k rows) ≤ table_weight s (take t rows)
 lighter_front s rows k t le =
     let whole = ap (table_weight s) (take-append-drop k (take t rows)) in
     let both = sum_by-append (row_weight s) (take k (take t rows)) (drop k (take t rows)) in
-    let own = ap (table_weight s) (front_of_front k t rows le) in
+    let own = ap (table_weight s) (take-take k t rows le) in
     omega (arith, both, whole, own)
 
 -- the room for rows of the front of a run, as room for rows of that run
@@ -63,7 +57,7 @@ pub front_room : (s : PlainSchema) (before : List (List Cell)) (run most : RowRu
 front_room s before run most t k len rows arrays from room =
     let cs : Columns = columns_of s.columns in
     let le : k ≤ t = omega (arith, room.within, len) in
-    let same : take k (run_rows cs run) ≡ take k (run_rows cs most) = sym (ap (take k) rows ∙ front_of_front k t (run_rows cs run) le) in
+    let same : take k (run_rows cs run) ≡ take k (run_rows cs most) = sym (ap (take k) rows ∙ take-take k t (run_rows cs run) le) in
     record {
       within = le;
       fits = ap (λ (xs : List (List Cell)). dictionaries_fit s (before ++ xs)) same ∙ room.fits;

@@ -2,7 +2,7 @@
 use Rattle.std.specs.List.{range_with_len}
 use Rattle.std.proofs.Common.{◌≡◌, ℕ, ◌+◌, ◌-◌, ◌<◌, ◌≤◌, true, List, ◌++◌, map, length, take, drop, get_or, set, sym, ap, subst, ◌∙◌, arith, append_assoc, length-append}
 use Rattle.std.proofs.lemmas.Bool.{and_parts}
-use Rattle.std.proofs.lemmas.List.{take-append-drop, length-take-le, take_all}
+use Rattle.std.proofs.lemmas.List.{drop-set, take-append-drop, length-take-le, take_all}
 use Rattle.std.proofs.lemmas.List.Concat.{flat_map-cons}
 use Rattle.std.proofs.lemmas.List.Sums.{sum_by-append}
 use Rattle.facts.specs.laws.Lists.{drop-item}
@@ -16,7 +16,7 @@ use Rattle.columns.specs.declared.array.Dictionary.{Dictionary}
 use Rattle.columns.specs.declared.array.PlacedArray.{PlacedArray}
 use Rattle.table_cut.specs.declared.row_run.RowRun.{RowRun}
 use Rattle.table_cut.specs.Rows.{arrays_of_run, run_rows, runs_rows, is_run_sound, are_runs_sound}
-use Rattle.table_cut.proofs.PieceLemmas.{IsFull, IsPastLimits, run_full, drop_set}
+use Rattle.table_cut.proofs.PieceLemmas.{IsFull, IsPastLimits, run_full}
 use Rattle.table_cut.proofs.RowLemmas.{rows_after}
 use Rattle.table_cut.specs.laws.Runs.{run_size}
 
@@ -66,7 +66,7 @@ taken_front cs items next run all before new k lt is whole taken =
 pub left_after : (cs : Columns) (items : List RowRun) (next : ℕ) (run remaining : RowRun) (k : ℕ) → next < length items → run_rows cs remaining ≡ drop k (run_rows cs run)
     → runs_rows cs (drop next (set items next remaining)) ≡ drop k (run_rows cs run) ++ runs_rows cs (drop (next + 1) items)
 left_after cs items next run remaining k lt is =
-    ap (runs_rows cs) (drop_set items next remaining lt)
+    ap (runs_rows cs) (drop-set items next remaining lt)
     ∙ flat_map-cons (run_rows cs) remaining (drop (next + 1) items)
     ∙ ap (λ (xs : List (List Cell)). xs ++ runs_rows cs (drop (next + 1) items)) is
 

@@ -11,6 +11,7 @@ use Rattle.cells.specs.Dictionary.{Holding, own_holding, has_few_entries, holdin
 use Rattle.cells.specs.laws.Entries.{entries_append}
 use Rattle.table_cut.specs.inner.Seen.{LimitedCells, held_of, entries_held, with_all, are_within}
 
+-- `append-nil` by a name that an attribute can have
 pub append_none : {A : Type 0} (xs : List A) → xs ++ [] ≡ xs
 append_none xs = append-nil xs
 

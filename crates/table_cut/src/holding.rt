@@ -96,7 +96,7 @@ fn hold_field<'a>(
     hold_below(alloc, held, &field.data_type, cells)
 }
 
-#[tactic(auto, unfolding(cells::specs::Dictionary::holdings_below))]
+#[tactic(auto, using(arrow_schema::specs::declared::types::Field::the_lemmas), unfolding(cells::specs::Dictionary::holdings_below))]
 #[cycle(holdings)]
 fn hold_below<'a>(
     alloc: Global,

@@ -70,7 +70,7 @@ fn shares_entries(
     }
 }
 
-#[tactic(auto, unfolding(arrays::specs::Shared::SharesBelow))]
+#[tactic(auto, using(arrow_schema::specs::declared::types::Field::the_lemmas), unfolding(arrays::specs::Shared::SharesBelow))]
 #[cycle(shared)]
 fn shares_below(
     data_type: &DataType,

@@ -29,7 +29,7 @@ fn weight(field: &Field, value: ValueRef<'_>) -> u64
     type_weight(&field.data_type, value)
 }
 
-#[tactic(auto, unfolding(cells::specs::Weight::kind_weight))]
+#[tactic(auto, using(arrow_schema::specs::declared::types::Field::the_lemmas), unfolding(cells::specs::Weight::kind_weight))]
 #[cycle(weight)]
 fn type_weight(data_type: &DataType, value: ValueRef<'_>) -> u64
     ensures { result ≡ capped_weight (kind_weight (kind_of data_type.now) (borrowed_cell value.entry)) }

@@ -13,6 +13,8 @@ mod dictionaries;
 #[cfg(test)]
 mod dictionary_batches;
 #[cfg(test)]
+mod heavy_texts;
+#[cfg(test)]
 mod made;
 #[cfg(test)]
 mod messages;

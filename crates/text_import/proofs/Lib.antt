@@ -9,3 +9,4 @@ pub mod PartLemmas
 pub mod ExplainedParts
 pub mod CauseLemmas
 pub mod ValuePartLemmas
+pub mod WeightLemmas

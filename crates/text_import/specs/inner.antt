@@ -1,2 +1,4 @@
 pub mod Capped
+pub mod Lines
 pub mod Names
+pub mod Weight

@@ -184,7 +184,7 @@ pub(crate) fn hex_cell(alloc: Global, field: &Field, digits: &[u8]) -> Result<Va
     }
 }
 
-#[tactic(auto, unfolding(crate::specs::Flat::cell_of_text, cells::specs::Fit::fits_kind))]
+#[tactic(auto, using(arrow_schema::specs::declared::types::Field::the_lemmas), unfolding(crate::specs::Flat::cell_of_text, cells::specs::Fit::fits_kind))]
 fn typed_cell(alloc: Global, field: &Field, text: &[u8]) -> Result<Value, CellError>
     ensures { Gives refusal_of cell result (cell_of_text (kind_of_column (column_of field.now)) text.now) }
 {
@@ -207,7 +207,7 @@ fn typed_cell(alloc: Global, field: &Field, text: &[u8]) -> Result<Value, CellEr
 }
 
 // Parses a field of a CSV record.
-#[tactic(auto, unfolding(crate::specs::Flat::field_cell))]
+#[tactic(auto, using(arrow_schema::specs::declared::types::Field::the_lemmas), unfolding(crate::specs::Flat::field_cell))]
 pub(crate) fn field_cell(
     alloc: Global,
     field: &Field,

@@ -60,7 +60,12 @@ pub(crate) fn line_value(alloc: Global, line: &[u8]) -> Result<Value, CellError>
     }
 }
 
-fn line_row(alloc: Global, schema: &Schema, limited: bool, line: &[u8]) -> Result<Row, CellError>
+pub(crate) fn line_row(
+    alloc: Global,
+    schema: &Schema,
+    limited: bool,
+    line: &[u8],
+) -> Result<Row, CellError>
     requires { limited ≡ is_any_limited (columns_of (schema_of schema.now).columns) }
     ensures { Gives refusal_of row_of result (line_row (schema_of schema.now) line.now) }
 {

@@ -2,7 +2,8 @@
 //!
 //! [`csv_rows`] and [`jsonl_rows`], or [`rows_of_text`] for either form, return the rows of a text, or the first refusal with the number of its
 //! record. The crate `csv` splits a text into records, and `serde_json` reads the values of its lines; how these become cells is defined in `specs/`
-//! and proved exactly, for every text. [`refused_part`] returns the part of a text that is refused.
+//! and proved exactly, for every text. [`refused_part`] returns the part of a text that is refused. [`are_too_heavy`] returns whether the rows of a text are
+//! too heavy for one table, and keeps none of them.
 //!
 //! ```
 //! let fields = field_texts::parse_fields(alloc, &["a:int32?", "s:utf8"])?;
@@ -17,6 +18,7 @@ mod flat;
 mod form;
 mod jsonl;
 mod laws;
+mod lines;
 mod objects;
 mod part;
 mod records;
@@ -24,6 +26,7 @@ mod refusal;
 mod rows;
 mod texts;
 mod value_part;
+mod weight;
 
 pub use flat::{spelled_boolean, spelled_integer};
 pub use form::{TextForm, rows_of_text};
@@ -34,3 +37,4 @@ pub use records::{csv_records, csv_rows, numbered_row, read_next, record_field};
 pub use refusal::{Refusal, Refused, TextError};
 pub use texts::text_of;
 pub use value_part::{Reason, ValuePart};
+pub use weight::are_too_heavy;

@@ -260,7 +260,7 @@ fn cell_in(alloc: Global, field: &Field, value: &Json) -> Result<Value, CellErro
     }
 }
 
-#[tactic(auto, unfolding(crate::specs::Objects::kind_in))]
+#[tactic(auto, using(arrow_schema::specs::declared::types::Field::the_lemmas), unfolding(crate::specs::Objects::kind_in))]
 #[cycle(cells)]
 pub(crate) fn typed_in(alloc: Global, field: &Field, value: &Json) -> Result<Value, CellError>
     ensures { Gives refusal_of cell result (kind_in (kind_of_column (column_of field.now)) (view value.now)) }

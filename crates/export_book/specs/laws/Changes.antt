@@ -2,6 +2,7 @@
 use Rattle.std.proofs.Common.{◌≡◌, ◌<◌, ◌+◌, ◌++◌, ℕ, not, map, List, [], ◌∷◌, Some, refl, sym, ap, subst, ◌∙◌, inl, inr, arith}
 use Rattle.std.specs.List.{find, AllByRecursion}
 use Rattle.std.proofs.lemmas.Bool.{cond_both, cond-true, cond-false, cases_Bool, eqb-true}
+use Rattle.std.proofs.lemmas.Option.{same_Some}
 use Rattle.segments.specs.declared.run.Run.{Run}
 use Rattle.segments.specs.Usages.{times_among}
 use Rattle.segments.specs.laws.Usages.{times_both}
@@ -38,9 +39,6 @@ module _ (run : Run) where
       cond-true (not (is_of id x)) (x ∷ others_of id xs) (others_of id xs) (ap not (other_id id x (λ same. omega (arith, more, same))))
       ∙ ap (λ (es : List PlainExport). x ∷ es) (others_kept id xs behind.1)
 
-  some_is : (x e : PlainExport) → Some x ≡ Some e → x ≡ e
-  some_is x e same = cc
-
   one_less : (id : ℕ) (es : List PlainExport) (e : PlainExport) → AreRising es → find (is_of id) es ≡ Some e
       → times_kept (others_of id es) + times_among (runs_in_segments e.segments) run ≡ times_kept es
   one_less id [] e rising found = absurd cc
@@ -49,7 +47,7 @@ module _ (run : Run) where
       elim (cases_Bool (is_of id x)) [
         | inl t ↦
             let same : x.id ≡ id = eqb-true x.id id t in
-            let here : x ≡ e = some_is x e (sym (cond-true (is_of id x) (Some x) (find (is_of id) xs) t) ∙ found) in
+            let here : x ≡ e = same_Some x e (sym (cond-true (is_of id x) (Some x) (find (is_of id) xs) t) ∙ found) in
             let left : others_of id (x ∷ xs) ≡ xs =
             cond-false (not (is_of id x)) (x ∷ rest) rest (ap not t) ∙ others_kept id xs (subst (λ (n : ℕ). AllByRecursion (λ (o : PlainExport). n < o.id) xs) same rising.0) in
             omega (arith, ap times_kept left, ap (λ (y : PlainExport). times_among (runs_in_segments y.segments) run) here, times_both (runs_in_segments x.segments) (runs_kept xs) run)

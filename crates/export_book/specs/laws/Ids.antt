@@ -1,10 +1,12 @@
 -- The id of an export is used only once.
-use Rattle.std.proofs.Common.{◌≡◌, ◌≢◌, ◌≤◌, ◌<◌, ◌+◌, ◌++◌, ◌==◌, inl, inr, ℕ, Bool, true, false, cond, not, map, List, [], ◌∷◌, Option, Some, None, refl, ap, ◌∙◌, arith}
+use Rattle.std.proofs.Common.{◌≡◌, ◌≢◌, ◌≤◌, ◌<◌, ◌+◌, ◌++◌, ◌==◌, inl, inr, ℕ, Bool, true, false, cond, not, map, List, [], ◌∷◌, Option, Some, None, refl, ap, ◌∙◌, arith, length, ◌^◌}
 use Rattle.std.specs.List.{filter, find, AllByRecursion}
-use Rattle.std.proofs.lemmas.Bool.{cond_both, cond-true, cond-false, eq-eqb, eqb-true, false_from_ne_true}
+use Rattle.std.proofs.lemmas.Bool.{cond_both, cond-true, cond-false, eq-eqb, eqb-true, false_from_ne_true, leb-false, or_parts}
+use Rattle.std.specs.Prelude.{nat_le}
+use Rattle.export_book.specs.declared.book.TheConstants.{MAX_EXPORTS}
 use Rattle.arrow_schema.specs.Column.{PlainSchema}
 use Rattle.catalogue.specs.declared.entry.Segment.{Segment}
-use Rattle.export_book.specs.Book.{PlainExport, PlainBook, IsBook, is_of, open_at, with_open, gave}
+use Rattle.export_book.specs.Book.{PlainExport, PlainBook, IsBook, is_of, open_at, with_open, gave, is_full}
 use Rattle.export_book.specs.Steps.{IsStep, AreSteps}
 
 -- an export with another id
@@ -20,6 +22,12 @@ none_of id (e ∷ es) below =
 -- the next id is that of no open export
 pub new_id : (b : PlainBook) → IsBook b → open_at b b.next ≡ None
 new_id b is = none_of b.next b.exports is.below
+
+-- there is room for one more
+pub has_room : (b : PlainBook) → is_full b ≡ false → (length b.exports < MAX_EXPORTS) × (b.next < 2 ^ 64)
+has_room b room =
+    let parts = or_parts (nat_le MAX_EXPORTS (length b.exports)) (nat_le (2 ^ 64) b.next) room in
+    (leb-false MAX_EXPORTS (length b.exports) parts.0, leb-false (2 ^ 64) b.next parts.1)
 
 -- ---- the next id
 

@@ -12,7 +12,7 @@ use Rattle.catalogue.specs.Entries.{runs_in_segments}
 use Rattle.store_runs.specs.Machine.{Export}
 use Rattle.store.specs.Exported.{IsExportable, AreExportable}
 use Rattle.store.specs.Fits.{ExportFits, ExportsFit}
-use Rattle.store_changes.specs.laws.Frame.{in_left, in_right}
+use Rattle.pages.specs.laws.Local.{in_left, in_right}
 use Rattle.store_changes.specs.laws.Spared.{same_each}
 
 -- the runs that a book keeps are those of the machine's exports

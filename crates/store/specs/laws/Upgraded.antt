@@ -24,7 +24,8 @@ use Rattle.store_runs.specs.Digesting.{segments_of, AreDigests}
 use Rattle.store_changes.specs.laws.Digests.{rows_undamaged}
 use Rattle.store_changes.specs.laws.ExchangedRuns.{run_of}
 use Rattle.store.specs.laws.Exported.{in_either}
-use Rattle.store_changes.specs.laws.Frame.{held_as, named_table, tables_by_table, HoldsAlike, in_left, in_right, sectors_of}
+use Rattle.pages.specs.laws.Local.{in_left, in_right}
+use Rattle.store_changes.specs.laws.Frame.{held_as, named_table, tables_by_table, HoldsAlike, sectors_of}
 
 -- ---- the number of digests, and of their bytes
 

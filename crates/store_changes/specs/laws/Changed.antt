@@ -9,6 +9,7 @@ use Rattle.std.specs.Str.{bytes_eq}
 use Rattle.std.specs.Ordering.{match_ordering}
 use Rattle.std.specs.Cmp.{tied_itself}
 use Rattle.std.specs.FinMap as maps
+use Rattle.std.proofs.lemmas.Option.{same_Some}
 use Rattle.sector_dev.specs.Disk.{Image}
 use Rattle.arrow_schema.specs.Column.{PlainSchema}
 use Rattle.cells.specs.Cell.{Cell, PlainTable}
@@ -93,9 +94,6 @@ bytes_same a b = (bytes_eq-Decides a b).0
 
 bytes_differ : (a b : List ℕ) → bytes_eq a b ≡ false → a ≢ b
 bytes_differ a b other same = let is : bytes_eq a b ≡ true = (bytes_eq-Decides a b).1 same in cc (other, is)
-
-some_table : (a b : PlainTable) → Some a ≡ Some b → a ≡ b
-some_table a b is = cc
 
 module _ (image : Image) where
   -- the tables of an entry and of the others
@@ -213,7 +211,7 @@ module _ (image : Image) where
       → Makes t (extend name) streams counts new → HoldsStreams image segments streams counts → tables_held image (with_more c name segments) ≡ Some new
   held_extended c t new name segments streams counts is (e, found) (table, at, (rows, read, made, becomes)) holds =
       let own = entry_has image c t is name e found in
-      let stood : own.0 ≡ table = some_table own.0 table (sym own.2 ∙ at) in
+      let stood : own.0 ≡ table = same_Some own.0 table (sym own.2 ∙ at) in
       let has = held_has image e own.0 own.1 in
       let schema : table.schema ≡ e.schema = ap (λ (x : PlainTable). x.schema) (sym stood ∙ has.2) in
       let old : rows_held e.schema e.segments image ≡ Some table.rows = has.1 ∙ ap (λ (x : PlainTable). Some x.rows) (sym has.2 ∙ stood) in
@@ -228,7 +226,7 @@ module _ (image : Image) where
       → tables_held image (renamed c from to) ≡ Some new
   held_moved c t new from to rises is (e, found) (table, at, becomes) =
       let own = entry_has image c t is from e found in
-      let stood : own.0 ≡ table = some_table own.0 table (sym own.2 ∙ at) in
+      let stood : own.0 ≡ table = same_Some own.0 table (sym own.2 ∙ at) in
       ap (λ (o : Option PlainEntry). tables_held image (elim o [ None ↦ c | Some x ↦ with_entry (without c from) (named to x) ])) found
       ∙ held_with (without c from) (without_table t from) (named to e) table (held_without c t from rises is) (own.1 ∙ ap Some stood)
       ∙ ap Some (sym becomes)

@@ -106,10 +106,7 @@ edited_count c edit a b same = count_alike (edited c edit a) (edited c edit b) (
 given_alike : (edit : PlainEdit) (e : PlainEntry) (a b : List Segment) → length a ≡ length b → given_by edit a e ≡ given_by edit b e
 given_alike (put name schema) e a b same = ap (λ (o : Option Extent). page_lost e.page o ++ map run_of e.segments) (over_alike e schema a b same)
 given_alike (extend name) e a b same = ap (page_lost e.page) (behind_alike e.page a b same)
-given_alike (move from to) e a b same = refl
-given_alike (remove name) e a b same = refl
-given_alike (exchange name place count) e a b same = refl
-given_alike (digest ds) e a b same = refl
+given_alike _ e a b same = refl
 
 pub given_up_alike : (c : PlainCatalogue) (edit : PlainEdit) (a b : List Segment) → length a ≡ length b → given_up c edit a ≡ given_up c edit b
 given_up_alike c edit a b same = by_name (name_edited edit)

@@ -6,7 +6,6 @@ use Rattle.std.proofs.lemmas.Bool.{and_parts, eqb-true}
 use Rattle.sector_dev.specs.Disk.{Image}
 use Rattle.segments.specs.Sectors.{sector_count}
 use Rattle.segments.specs.laws.ReadBack.{same_bytes}
-use Rattle.segments.specs.declared.run.Run.{Run}
 use Rattle.arrow_schema.specs.Column.{PlainSchema}
 use Rattle.cells.specs.Cell.{Cell, PlainTable}
 use Rattle.catalogue.specs.declared.entry.Segment.{Segment}
@@ -18,19 +17,11 @@ use Rattle.commit.specs.Standing.{rules, standing, InSome}
 use Rattle.tables.specs.Tables.{Tables, no_tables}
 use Rattle.store_runs.specs.Held.{rows_in_segment, segment_rows, joined_rows, rows_held, table_of_rows, table_held, with_held, tables_held, rows_or_unknown, rows_known, HeldTable, held_entry, each_held, held_of, held_by}
 use Rattle.pages.specs.Stored.{stored_reading}
+use Rattle.pages.specs.laws.Local.{in_left, in_right}
 
 -- a table of this entry with these rows
 abbrev pub held_as : PlainEntry → List (Option (List Cell)) → HeldTable
 held_as e known = record { name = e.name; schema = e.schema; rows = known }
-
-pub in_left : (rs ss : List Run) (n : ℕ) → InSome rs n → InSome (rs ++ ss) n
-in_left [] ss n none = absurd none
-in_left (r ∷ rs) ss n (inl here) = inl here
-in_left (r ∷ rs) ss n (inr later) = inr (in_left rs ss n later)
-
-pub in_right : (rs ss : List Run) (n : ℕ) → InSome ss n → InSome (rs ++ ss) n
-in_right [] ss n some = some
-in_right (r ∷ rs) ss n some = inr (in_right rs ss n some)
 
 -- the sectors of a segment are those that its bytes need
 pub sectors_of : (segment : Segment) → is_segment segment ≡ true → segment.place.run.count ≡ sector_count segment.place.bytes

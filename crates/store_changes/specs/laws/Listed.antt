@@ -3,7 +3,7 @@ use Rattle.std.specs.Prelude.{◌≡◌, ℕ, suc, true, List, [], ◌∷◌, �
 use Rattle.std.specs.List.{sum_by}
 use Rattle.std.proofs.Common.{sym, ap, subst, ◌∙◌, arith}
 use Rattle.std.proofs.lemmas.Bool.{and_parts}
-use Rattle.std.proofs.lemmas.List.{length-append}
+use Rattle.std.proofs.lemmas.List.{length-append, nil_from_length}
 use Rattle.std.proofs.lemmas.List.Sums.{sum_by-cons}
 use Rattle.std.proofs.lemmas.Cmp.{nat_list_cmp_total}
 use Rattle.std.specs.declared.cmp.Ordering.TheVariants.{Less}
@@ -64,13 +64,9 @@ put_first image (e ∷ es) name table (x ∷ xs) first held =
     let less : slice_cmp nat_cmp name x.0 ≡ Less = ap (slice_cmp nat_cmp name) held.0 ∙ less_is (slice_cmp nat_cmp name e.name) first in
     rw less refl
 
-no_entries : (xs : List (List ℕ × PlainTable)) → length xs ≡ 0 → xs ≡ []
-no_entries [] none = refl
-no_entries (x ∷ xs) none = absurd (omega arith)
-
 entries_held : (image : Image) (c : PlainCatalogue) (t : Tables) → ascends (names_of c) ≡ true → tables_held image c ≡ Some t → AreHeld image c (maps.entries t)
 unfolding tables_held
-entries_held image [] t rises is = let empty : t ≡ no_tables = cc is in ap maps.entries empty ∙ no_entries (maps.entries no_tables) (sym (maps.len-entries no_tables) ∙ maps.len-empty (slice_cmp nat_cmp) PlainTable)
+entries_held image [] t rises is = let empty : t ≡ no_tables = cc is in ap maps.entries empty ∙ nil_from_length (maps.entries no_tables) (sym (maps.len-entries no_tables) ∙ maps.len-empty (slice_cmp nat_cmp) PlainTable)
 entries_held image (e ∷ es) t rises is = by_parts (table_held image e) (tables_held image es) refl refl is (λ u r. entries_held image es u parts.1 r)
   where
     parts : (comes_before e.name (names_of es) ≡ true) × (ascends (names_of es) ≡ true)

@@ -121,13 +121,10 @@ bytes_quiet bytes = by_when _ (refusals.TooMany limits.Bytes) (record { device =
 -- what is answered of such a command
 module _ (tells : Bool) (image : Image) (c : PlainCatalogue) where
   no_entry : (command : PlainCommand) (e : PlainEntry) → reads_device command ≡ false → entry_read c command ≡ Some e → ⊥
-  no_entry (create name schema) e still read = cc read
-  no_entry (import_stream name bytes) e still read = cc read
   no_entry (append_stream name bytes) e still read = cc still
   no_entry (append_rows name rows) e still read = cc still
   no_entry (save_as from to query) e still read = cc still
-  no_entry (rename from to) e still read = cc read
-  no_entry (drop_table name) e still read = cc read
+  no_entry _ e still read = cc read
 
   by_decision : (command : PlainCommand) (d : Result PlainChange Refusal) → reads_device command ≡ false → IsDecided tells image c command d → IfErr d IsQuiet
   by_decision (create name schema) d still is =
@@ -137,14 +134,12 @@ module _ (tells : Bool) (image : Image) (c : PlainCatalogue) where
       subst (λ (x : Result PlainChange Refusal). IfErr x IsQuiet) (sym is)
       (quietly (import_tests name bytes) (of_meaning (meaning supported_codes bytes) (decided_table c name)) (first_quiet (bad_name name ∷ too_many_bytes bytes ∷ []) (bad_quiet name, (bytes_quiet bytes, tt)))
       (of_means (meaning supported_codes bytes) (decided_table c name) (λ t. quietly (full_in c name) (Ok (pieces_put (put name t.schema) t)) (full_quiet c name) tt)))
-  by_decision (append_stream name bytes) d still is = absurd (cc still)
-  by_decision (append_rows name rows) d still is = absurd (cc still)
-  by_decision (save_as from to query) d still is = absurd (cc still)
   by_decision (rename from to) d still is =
       subst (λ (x : Result PlainChange Refusal). IfErr x IsQuiet) (sym is)
       (quietly (rename_tests c from to) (Ok (names_changed (move from to))) (first_quiet (missing_in c from ∷ bad_name to ∷ taken_in c to ∷ []) (missing_quiet c from, (bad_quiet to, (taken_quiet c to, tt)))) tt)
   by_decision (drop_table name) d still is =
       subst (λ (x : Result PlainChange Refusal). IfErr x IsQuiet) (sym is) (quietly (missing_in c name) (Ok (names_changed (remove name))) (missing_quiet c name) tt)
+  by_decision _ d still is = absurd (cc still)
 
   answered : (command : PlainCommand) (d : Result PlainChange Refusal) → reads_device command ≡ false → IsAnswered tells image c command d → IfErr d IsQuiet
   answered command d still (inl memory) = subst (λ (x : Result PlainChange Refusal). IfErr x IsQuiet) (sym memory) memory_quiet

@@ -1,14 +1,13 @@
 -- What is read of a table: its segments one after another, and the table that they make.
-use Rattle.std.specs.Prelude.{◌&&◌, slice_get, get_or, sum_by, min, if◌then◌else◌, Result, Ok, Err, IfErr}
+use Rattle.std.specs.Prelude.{slice_get, get_or, sum_by, min, if◌then◌else◌, Result, Ok, Err, IfErr}
 use Rattle.std.proofs.Common.{◌≡◌, ◌≤◌, ◌<◌, ◌+◌, ◌-◌, ◌^◌, ◌++◌, ◌∷◌, [], ℕ, suc, Bool, true, false, List, Option, Some, None, length, map, take, drop, refl, sym, ap, ◌∙◌, subst, arith, append-nil, append_assoc}
 use Rattle.std.specs.List.{list_all}
-use Rattle.std.proofs.lemmas.Bool.{and_parts, true≢false}
-use Rattle.std.proofs.lemmas.List.{length-map, get_or-map, get_or_default, take-append-drop, take_more}
-use Rattle.std.proofs.lemmas.List.Folds.{list_all_at}
+use Rattle.std.proofs.lemmas.List.{length-map, get_or-map, get_or_default, take-append-drop}
 use Rattle.std.proofs.lemmas.List.Concat.{flat_map-cons}
-use Rattle.std.proofs.lemmas.List.Sums.{sum_by-append}
+use Rattle.std.proofs.lemmas.List.Sums.{sum_by-append, AllPass-from_list_all}
 use Rattle.std.proofs.lemmas.Option.{slice_get_within, get_or_from_slice_get, slice_get-get_or}
 use Rattle.std.proofs.Math.Seq.{drop-cons}
+use Rattle.facts.specs.laws.Lists.{take-item}
 use Rattle.sector_dev.specs.Disk.{Disk, Story, Image, now, shown_image}
 use Rattle.sector_dev.specs.Time.{OnlyReads}
 use Rattle.sector_dev.specs.laws.Time.{stays, read_on, now_read}
@@ -35,6 +34,7 @@ use Rattle.store_changes.specs.ReadSegment.{UnreadsSegment}
 use Rattle.store_changes.specs.laws.Changed.{rows_behind}
 use Rattle.store_changes.specs.laws.Digests.{damaged_lacks, have_more, has_then}
 use Rattle.store_changes.specs.laws.Named.{held_has}
+use Rattle.store_changes.specs.laws.Shrinking.{on_parts}
 
 -- ---- segments
 
@@ -96,11 +96,6 @@ split_at segments place segment at =
     let first : drop place segments ≡ segment ∷ drop (place + 1) segments = rw e (drop-cons segments place segment inside ∙ ap (λ (x : Segment). x ∷ drop (suc place) segments) own) in
     sym (take-append-drop place segments) ∙ ap (λ (xs : List Segment). take place segments ++ xs) first ∙ sym (append_assoc (take place segments) (segment ∷ []) (drop (place + 1) segments))
 
--- the first segments and the next one
-pub take_next : (segments : List Segment) (place : ℕ) (segment : Segment) → place < length segments → segment ≡ get_or segments place segment → take (place + 1) segments ≡ take place segments ++ segment ∷ []
-take_next segments place segment inside is =
-    (take_more segments place segment inside ∙ ap (λ (x : Segment). take place segments ++ x ∷ []) (sym is))
-
 -- a table of which the rows of a segment don't go after those before it is not held
 past_not_held : TableLaws → (image : Image) (e : PlainEntry) (place : ℕ) (table : PlainTable) (segment : Segment) (rows : List (List Cell)) → IsWithinLimits e.schema → slice_get e.segments place ≡ Some segment
     → rows_held e.schema (take place e.segments) image ≡ Some rows → ArePast e.schema rows (segment_rows e.schema segment image) → table_held image e ≡ Some table → ⊥
@@ -132,18 +127,11 @@ damaged_not_held laws image e place table within d is =
 
 -- ---- the runs of an entry
 
-on_left : (size : ℕ) (rs ss : List Run) → all_on_device size (rs ++ ss) ≡ true → (all_on_device size rs ≡ true) × (all_on_device size ss ≡ true)
-on_left size [] ss on = (refl, on)
-on_left size (r ∷ rs) ss on =
-    let parts = and_parts (is_on_device size r) (all_on_device size (rs ++ ss)) on in
-    let more = on_left size rs ss parts.1 in
-    (ap (λ (b : Bool). b && all_on_device size rs) parts.0 ∙ more.0, more.1)
-
 pub runs_on_device : (size : ℕ) (c : PlainCatalogue) (name : List ℕ) (e : PlainEntry) → all_on_device size (runs_of c) ≡ true → entry_of c name ≡ Some e → all_on_device size (runs_in_segments e.segments) ≡ true
 runs_on_device size [] name e on found = absurd (cc found)
 runs_on_device size (x ∷ xs) name e on found =
-    let parts = on_left size (runs_in x) (runs_of xs) (ap (all_on_device size) (sym (flat_map-cons runs_in x xs)) ∙ on) in
-    by_found x xs name e found (λ t stands. subst (λ (y : PlainEntry). all_on_device size (runs_in_segments y.segments) ≡ true) stands (on_left size (page_runs x.page) (runs_in_segments x.segments) parts.0).1) (λ f there. runs_on_device size xs name e parts.1 there)
+    let parts = on_parts size (runs_in x) (runs_of xs) (ap (all_on_device size) (sym (flat_map-cons runs_in x xs)) ∙ on) in
+    by_found x xs name e found (λ t stands. subst (λ (y : PlainEntry). all_on_device size (runs_in_segments y.segments) ≡ true) stands (on_parts size (page_runs x.page) (runs_in_segments x.segments) parts.0).1) (λ f there. runs_on_device size xs name e parts.1 there)
 
 -- the run of the segment at a place
 pub run_at : (size : ℕ) (segments : List Segment) (place : ℕ) (segment : Segment) → all_on_device size (map (λ (s : Segment). s.place.run) segments) ≡ true → place < length segments → segment ≡ get_or segments place segment
@@ -168,11 +156,7 @@ module _ (segments : List Segment) (place : ℕ) (inside : place < length segmen
       subst (λ (n : ℕ). is_on_device n segment.place.run ≡ true) (sym same) (run_at size segments place segment on inside (at_place segment refl))
 
   pub sound_at : list_all is_segment segments ≡ true → is_segment (get_or segments place no_segment) ≡ true
-  sound_at sound = by_test (is_segment (get_or segments place no_segment)) (list_all_at is_segment segments place no_segment inside)
-    where
-      by_test : (here : Bool) → (here ≡ false → list_all is_segment segments ≡ false) → here ≡ true
-      by_test true other = refl
-      by_test false other = absurd (true≢false (sym sound ∙ other refl))
+  sound_at sound = AllPass-from_list_all is_segment segments sound place no_segment inside
 
 -- ---- segments one after another
 
@@ -180,7 +164,7 @@ module _ (segments : List Segment) (place : ℕ) (inside : place < length segmen
 pub rows_step : (schema other : PlainSchema) (segments : List Segment) (place : ℕ) (segment : Segment) (image other_image : Image) (rows : List (List Cell)) (found : Option (List (List Cell))) → other ≡ schema → other_image ≡ image → place < length segments
     → segment ≡ get_or segments place segment → rows_held schema (take place segments) image ≡ Some rows → found ≡ joined_rows (Some rows) (segment_rows other segment other_image) → rows_held schema (take (place + 1) segments) image ≡ found
 rows_step schema other segments place segment image other_image rows found same at inside is held joined =
-    rows_of_more schema (take place segments) (take (place + 1) segments) segment image rows found (take_next segments place segment inside is) held
+    rows_of_more schema (take place segments) (take (place + 1) segments) segment image rows found (take-item segments place segment inside is) held
     (joined ∙ (λ i. joined_rows (Some rows) (segment_rows (same i) segment (at i))))
 
 -- and what was read of them
@@ -188,7 +172,7 @@ pub have_step : (tells : Bool) (schema other : PlainSchema) (segments : List Seg
     → segment ≡ get_or segments place segment → HaveRead tells image schema (take place segments) rows → HasRead tells other_image other segment own → all ≡ rows ++ own → HaveRead tells image schema (take (place + 1) segments) all
 have_step tells schema other segments place segment image other_image rows own all same at inside is so_far read more =
     subst (HaveRead tells image schema (take (place + 1) segments)) (sym more)
-    (subst (λ (gs : List Segment). HaveRead tells image schema gs (rows ++ own)) (sym (take_next segments place segment inside is))
+    (subst (λ (gs : List Segment). HaveRead tells image schema gs (rows ++ own)) (sym (take-item segments place segment inside is))
     (have_more tells image schema (take place segments) segment rows own so_far (has_then tells image other_image at schema segment own (subst (λ (s : PlainSchema). HasRead tells other_image s segment own) same read))))
 
 -- and how many they are
@@ -198,7 +182,7 @@ rows_of s = s.rows
 pub count_step : (segments : List Segment) (place : ℕ) (segment : Segment) (so_far all : ℕ) → place < length segments → segment ≡ get_or segments place segment → so_far ≡ sum_by rows_of (take place segments) → all ≡ so_far + segment.rows
     → all ≡ sum_by rows_of (take (place + 1) segments)
 count_step segments place segment so_far all inside is own more =
-    let next = ap (sum_by rows_of) (take_next segments place segment inside is) ∙ sum_by-append rows_of (take place segments) (segment ∷ []) in
+    let next = ap (sum_by rows_of) (take-item segments place segment inside is) ∙ sum_by-append rows_of (take place segments) (segment ∷ []) in
     omega (arith, own, more, next)
 
 -- why a segment's rows don't go after those before it, as reported of its table
@@ -218,18 +202,6 @@ unreads_step tells image other_image e other rows segment place (refusals.Segmen
       undamaged = ap (λ (i : Image). is_undamaged segment.digest (bytes_of segment i)) (sym (at told)) ∙ (u.1 told).0;
       past = subst (λ (i : Image). ArePast e.schema rows (segment_rows e.schema segment i)) (at told) (subst (λ (s : PlainSchema). ArePast s rows (segment_rows s segment other_image)) same (u.1 told).1);
     }
-unreads_step tells image other_image e other rows segment place refusals.NoTable same at inside is light held u = absurd u
-unreads_step tells image other_image e other rows segment place refusals.NameTaken same at inside is light held u = absurd u
-unreads_step tells image other_image e other rows segment place refusals.BadName same at inside is light held u = absurd u
-unreads_step tells image other_image e other rows segment place refusals.SchemaMismatch same at inside is light held u = absurd u
-unreads_step tells image other_image e other rows segment place (refusals.Import fault) same at inside is light held u = absurd u
-unreads_step tells image other_image e other rows segment place (refusals.RowUnfit row) same at inside is light held u = absurd u
-unreads_step tells image other_image e other rows segment place (refusals.TooMany limit) same at inside is light held u = absurd u
-unreads_step tells image other_image e other rows segment place (refusals.NoRoom sectors) same at inside is light held u = absurd u
-unreads_step tells image other_image e other rows segment place refusals.Halted same at inside is light held u = absurd u
-unreads_step tells image other_image e other rows segment place refusals.NoExport same at inside is light held u = absurd u
-unreads_step tells image other_image e other rows segment place (refusals.Query refusal) same at inside is light held u = absurd u
-unreads_step tells image other_image e other rows segment place refusals.Read same at inside is light held u = absurd u
 unreads_step tells image other_image e other rows segment place (refusals.SegmentDamaged k) same at inside is light held u = (subst (λ (n : ℕ). n < length e.segments) (sym u.0) inside, λ told. subst (IsDamaged image e) (sym u.0) (damaged told))
   where
     damaged : tells ≡ true → IsDamaged image e place
@@ -241,7 +213,7 @@ unreads_step tells image other_image e other rows segment place (refusals.Segmen
       light = subst (λ (s : PlainSchema). table_weight s rows ≤ MAX_TABLE_WEIGHT) same light;
       damaged = ap (λ (i : Image). is_undamaged segment.digest (bytes_of segment i)) (sym (at told)) ∙ u.1 told;
     }
-unreads_step tells image other_image e other rows segment place refusals.Write same at inside is light held u = absurd u
+unreads_step tells image other_image e other rows segment place _ same at inside is light held u = absurd u
 
 -- ---- calls of the device one after another
 

@@ -19,7 +19,7 @@ abbrev segment_runs : PlainCatalogue → List Run
 segment_runs c = flat_map (λ (e : PlainEntry). runs_in_segments e.segments) c
 
 -- some of the runs that are named
-on_parts : (size : ℕ) (rs ss : List Run) → all_on_device size (rs ++ ss) ≡ true → (all_on_device size rs ≡ true) × (all_on_device size ss ≡ true)
+pub on_parts : (size : ℕ) (rs ss : List Run) → all_on_device size (rs ++ ss) ≡ true → (all_on_device size rs ≡ true) × (all_on_device size ss ≡ true)
 on_parts size [] ss on = (refl, on)
 on_parts size (r ∷ rs) ss on =
     let parts = and_parts (is_on_device size r) (all_on_device size (rs ++ ss)) on in

@@ -55,7 +55,7 @@ use Rattle.store_changes.specs.laws.Pieces.{pieces_each, pieces_some, pieces_few
 use Rattle.store_changes.specs.laws.Same.{moved_same}
 use Rattle.store_changes.specs.laws.Segments.{placed_few, placed_none, unplaced_number}
 use Rattle.store_changes.specs.laws.Spared.{takes_took}
-use Rattle.store_changes.specs.laws.StepParts.{at_name, entry_sectors, segment_sectors, front_sectors, back_sectors, front_passes, back_passes, one_from, segment_passes}
+use Rattle.store_changes.specs.laws.StepParts.{at_name, entry_sectors, segment_sectors, front_sectors, back_sectors, neighbours_pass, one_from, passes_at}
 
 -- ---- it can be made
 
@@ -90,7 +90,7 @@ module _ (c : PlainCatalogue) (k : IsCatalogue c) (tells : Bool) (image : Image)
   move_can size used change m =
       let g = m.segment in
       let found = at_name c m.number m.entry k.order m.last.found in
-      let sound = segment_passes m.entry.segments m.place g (entry_is m.entry (found_passes is_entry c m.entry.name m.entry k.entries found)).segments m.last.at in
+      let sound = passes_at is_segment m.entry.segments m.place g (entry_is m.entry (found_passes is_entry c m.entry.name m.entry k.entries found)).segments m.last.at in
       let parts = parts_of_segment g sound in
       let count = m.copy.count in
       subst (CanChange c) (sym m.is) (λ short. record {
@@ -119,7 +119,7 @@ module _ (laws : LawsBelow) (c : PlainCatalogue) (k : IsCatalogue c) (tells : Bo
   -- the rows of neighbours are those that were shown
   pair_kept : (i : ℕ) (e : PlainEntry) (place : ℕ) → slice_get c i ≡ Some e → rows_held e.schema (from_place e.segments place 2) image ≡ rows_held e.schema (from_place e.segments place 2) shown
   pair_kept i e place at =
-      same_rows shown image e.schema (from_place e.segments place 2) (front_passes (drop place e.segments) 2 (back_passes e.segments place (entry_sound e (at_name c i e k.order at))))
+      same_rows shown image e.schema (from_place e.segments place 2) (neighbours_pass e.segments place 2 (entry_sound e (at_name c i e k.order at)))
       (λ n within. same n (entry_sectors c i e n at (back_sectors e.segments place n (front_sectors (drop place e.segments) 2 n within))))
 
   merge_keeps : (change : PlainChange) → IsMerge tells shown c change → (others : List Segment) → Keeps change others
@@ -162,7 +162,7 @@ module _ (laws : LawsBelow) (c : PlainCatalogue) (k : IsCatalogue c) (tells : Bo
       found = at_name c m.number e k.order m.last.found
 
       sound : is_segment g ≡ true
-      sound = segment_passes e.segments m.place g (entry_sound e found) m.last.at
+      sound = passes_at is_segment e.segments m.place g (entry_sound e found) m.last.at
 
       own : (j : ℕ) → j < sector_count g.place.bytes → image (g.place.run.start + j) ≡ shown (g.place.run.start + j)
       own j lt =
@@ -306,7 +306,7 @@ module _ (v : FormatVersion) (c : PlainCatalogue) (k : IsCatalogue c) (tells : B
       let e = m.entry in
       let two = length_from e.segments m.merge.place 2 m.merge.within in
       let sound = (entry_is e (found_passes is_entry c e.name e k.entries (merge_found change m))).segments in
-      let some = rows_some (from_place e.segments m.merge.place 2) (front_passes (drop m.merge.place e.segments) 2 (back_passes e.segments m.merge.place sound)) (omega (arith, two)) in
+      let some = rows_some (from_place e.segments m.merge.place 2) (neighbours_pass e.segments m.merge.place 2 sound) (omega (arith, two)) in
       let count = m.merge.read.count in
       one_stream m.merge.table (omega (arith, some, count)) m.merge.one
 
@@ -337,7 +337,7 @@ module _ (v : FormatVersion) (c : PlainCatalogue) (k : IsCatalogue c) (tells : B
       copied = record { edit = exchange e.name m.place 1; streams = m.bytes ∷ []; counts = g.rows ∷ [] }
 
       fits : g.place.run.count ≡ sector_count (length m.bytes)
-      fits = sectors_of g (segment_passes e.segments m.place g (entry_is e (found_passes is_entry c e.name e k.entries found)).segments m.last.at) ∙ ap sector_count (sym m.copy.count)
+      fits = sectors_of g (passes_at is_segment e.segments m.place g (entry_is e (found_passes is_entry c e.name e k.entries found)).segments m.last.at) ∙ ap sector_count (sym m.copy.count)
 
       by_places : (rs : List Run) → Takes size used (asked_sizes v c copied) (Ok (rs ++ text ∷ [])) → Shrinks c (edited c copied.edit (placed_segments v rs copied.streams copied.counts))
       by_places [] takes = absurd (let none = as_many copied [] text takes in omega (arith, none))

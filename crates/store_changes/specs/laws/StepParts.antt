@@ -1,5 +1,5 @@
 -- Entries and segments by their numbers.
-use Rattle.std.specs.Prelude.{◌≡◌, ◌≤◌, ◌<◌, ◌+◌, ◌&&◌, ℕ, zero, suc, Bool, true, false, List, [], ◌∷◌, map, take, drop, slice_get, Some, refl}
+use Rattle.std.specs.Prelude.{◌≡◌, ◌≤◌, ◌<◌, ◌+◌, ℕ, zero, suc, true, false, List, [], ◌∷◌, map, take, drop, slice_get, Some, ◌++◌, Bool}
 use Rattle.std.specs.List.{list_all}
 use Rattle.std.specs.Str.{bytes_eq}
 use Rattle.std.specs.Cmp.{tied_itself}
@@ -9,12 +9,19 @@ use Rattle.std.proofs.Common.{inl, inr, sym, ap, ◌∙◌, subst}
 use Rattle.std.proofs.lemmas.Bool.{cond-true, cond-false, and_parts}
 use Rattle.std.proofs.lemmas.Cmp.{nat_list_cmp_total}
 use Rattle.std.proofs.lemmas.Map.Text.{is_eq-slice_cmp}
+use Rattle.std.proofs.lemmas.List.{map-append, take-append-drop}
+use Rattle.std.proofs.lemmas.List.Elements.{All-take, All-drop}
+use Rattle.std.proofs.lemmas.List.Sums.{AllPass-from_list_all, list_all-from_AllPass}
+use Rattle.std.proofs.lemmas.Option.{slice_get_within, get_or_from_slice_get}
+use Rattle.segments.specs.declared.run.Run.{Run}
 use Rattle.catalogue.specs.declared.entry.Segment.{Segment}
 use Rattle.catalogue.specs.Entries.{PlainEntry, PlainCatalogue, names_of, comes_before, ascends, is_segment, page_runs, runs_in_segments, runs_in, runs_of}
-use Rattle.catalogue.specs.Edits.{entry_of}
+use Rattle.catalogue.specs.Edits.{entry_of, from_place}
 use Rattle.catalogue.specs.laws.Order.{order, less_is}
 use Rattle.commit.specs.Standing.{InSome, is_on_device, all_on_device}
-use Rattle.store_changes.specs.laws.Frame.{in_left, in_right}
+use Rattle.pages.specs.laws.Local.{in_left, in_right}
+use Rattle.store_changes.specs.laws.ReadTables.{run_at}
+use Rattle.store_changes.specs.laws.Shrinking.{on_parts}
 
 -- ---- an entry by its name
 
@@ -58,43 +65,19 @@ segment_sectors (x ∷ xs) zero g n at low high =
     inl (subst (λ (s : Segment). (s.place.run.start ≤ n) × (n < s.place.run.start + s.place.run.count)) (sym same) (low, high))
 segment_sectors (x ∷ xs) (suc i) g n at low high = inr (segment_sectors xs i g n at low high)
 
--- those of some neighbours too
-pub front_sectors : (segments : List Segment) (count n : ℕ) → InSome (map (λ (s : Segment). s.place.run) (take count segments)) n → InSome (map (λ (s : Segment). s.place.run) segments) n
-front_sectors segments zero n within = absurd within
-front_sectors [] (suc count) n within = absurd within
-front_sectors (x ∷ xs) (suc count) n (inl here) = inl here
-front_sectors (x ∷ xs) (suc count) n (inr later) = inr (front_sectors xs count n later)
+-- the runs of the first segments and of the others are those of all
+joined_runs : (segments : List Segment) (n : ℕ) → runs_in_segments (take n segments) ++ runs_in_segments (drop n segments) ≡ runs_in_segments segments
+joined_runs segments n = let run : Segment → Run = λ s. s.place.run in sym (map-append run (take n segments) (drop n segments)) ∙ ap (map run) (take-append-drop n segments)
 
-pub back_sectors : (segments : List Segment) (place n : ℕ) → InSome (map (λ (s : Segment). s.place.run) (drop place segments)) n → InSome (map (λ (s : Segment). s.place.run) segments) n
-back_sectors segments zero n within = within
-back_sectors [] (suc place) n within = absurd within
-back_sectors (x ∷ xs) (suc place) n within = inr (back_sectors xs place n within)
+pub front_sectors : (segments : List Segment) (count n : ℕ) → InSome (runs_in_segments (take count segments)) n → InSome (runs_in_segments segments) n
+front_sectors segments count n within = subst (λ (rs : List Run). InSome rs n) (joined_runs segments count) (in_left _ _ n within)
 
-pub front_passes : (segments : List Segment) (count : ℕ) → list_all is_segment segments ≡ true → list_all is_segment (take count segments) ≡ true
-front_passes segments zero all = refl
-front_passes [] (suc count) all = refl
-front_passes (x ∷ xs) (suc count) all =
-    let parts = and_parts (is_segment x) (list_all is_segment xs) all in
-    ap (λ (b : Bool). b && list_all is_segment (take count xs)) parts.0 ∙ front_passes xs count parts.1
+pub back_sectors : (segments : List Segment) (place n : ℕ) → InSome (runs_in_segments (drop place segments)) n → InSome (runs_in_segments segments) n
+back_sectors segments place n within = subst (λ (rs : List Run). InSome rs n) (joined_runs segments place) (in_right (runs_in_segments (take place segments)) _ n within)
 
-pub back_passes : (segments : List Segment) (place : ℕ) → list_all is_segment segments ≡ true → list_all is_segment (drop place segments) ≡ true
-back_passes segments zero all = all
-back_passes [] (suc place) all = refl
-back_passes (x ∷ xs) (suc place) all = back_passes xs place (and_parts (is_segment x) (list_all is_segment xs) all).1
-
-pub front_placed : (size : ℕ) (segments : List Segment) (count : ℕ) → all_on_device size (map (λ (s : Segment). s.place.run) segments) ≡ true
-    → all_on_device size (map (λ (s : Segment). s.place.run) (take count segments)) ≡ true
-front_placed size segments zero on = refl
-front_placed size [] (suc count) on = refl
-front_placed size (x ∷ xs) (suc count) on =
-    let parts = and_parts (is_on_device size x.place.run) (all_on_device size (map (λ (s : Segment). s.place.run) xs)) on in
-    ap (λ (b : Bool). b && all_on_device size (map (λ (s : Segment). s.place.run) (take count xs))) parts.0 ∙ front_placed size xs count parts.1
-
-pub back_placed : (size : ℕ) (segments : List Segment) (place : ℕ) → all_on_device size (map (λ (s : Segment). s.place.run) segments) ≡ true
-    → all_on_device size (map (λ (s : Segment). s.place.run) (drop place segments)) ≡ true
-back_placed size segments zero on = on
-back_placed size [] (suc place) on = refl
-back_placed size (x ∷ xs) (suc place) on = back_placed size xs place (and_parts (is_on_device size x.place.run) (all_on_device size (map (λ (s : Segment). s.place.run) xs)) on).1
+pub parts_placed : (size : ℕ) (segments : List Segment) (n : ℕ) → all_on_device size (runs_in_segments segments) ≡ true
+    → (all_on_device size (runs_in_segments (take n segments)) ≡ true) × (all_on_device size (runs_in_segments (drop n segments)) ≡ true)
+parts_placed size segments n on = on_parts size (runs_in_segments (take n segments)) (runs_in_segments (drop n segments)) (ap (all_on_device size) (joined_runs segments n) ∙ on)
 
 -- ---- segments
 
@@ -104,14 +87,14 @@ one_from [] i g at = absurd (cc at)
 one_from (x ∷ xs) zero g at = let same : x ≡ g = cc at in ap (λ (s : Segment). s ∷ []) same
 one_from (x ∷ xs) (suc i) g at = one_from xs i g at
 
-pub segment_passes : (segments : List Segment) (i : ℕ) (g : Segment) → list_all is_segment segments ≡ true → slice_get segments i ≡ Some g → is_segment g ≡ true
-segment_passes [] i g all at = absurd (cc at)
-segment_passes (x ∷ xs) zero g all at = let same : x ≡ g = cc at in subst (λ (s : Segment). is_segment s ≡ true) same (and_parts (is_segment x) (list_all is_segment xs) all).0
-segment_passes (x ∷ xs) (suc i) g all at = segment_passes xs i g (and_parts (is_segment x) (list_all is_segment xs) all).1 at
+-- what all pass, the one at a place does, and some neighbours do
+pub passes_at : {X : Type 0} (p : X → Bool) (xs : List X) (i : ℕ) (x : X) → list_all p xs ≡ true → slice_get xs i ≡ Some x → p x ≡ true
+passes_at p xs i x all at = subst (λ y. p y ≡ true) (get_or_from_slice_get xs i x x at) (AllPass-from_list_all p xs all i x (slice_get_within xs i x at))
 
-pub segment_placed : (size : ℕ) (segments : List Segment) (i : ℕ) (g : Segment) → all_on_device size (map (λ (s : Segment). s.place.run) segments) ≡ true → slice_get segments i ≡ Some g → is_on_device size g.place.run ≡ true
-segment_placed size [] i g on at = absurd (cc at)
-segment_placed size (x ∷ xs) zero g on at =
-    let same : x ≡ g = cc at in
-    subst (λ (s : Segment). is_on_device size s.place.run ≡ true) same (and_parts (is_on_device size x.place.run) (all_on_device size (map (λ (s : Segment). s.place.run) xs)) on).0
-segment_placed size (x ∷ xs) (suc i) g on at = segment_placed size xs i g (and_parts (is_on_device size x.place.run) (all_on_device size (map (λ (s : Segment). s.place.run) xs)) on).1 at
+pub neighbours_pass : (segments : List Segment) (place count : ℕ) → list_all is_segment segments ≡ true → list_all is_segment (from_place segments place count) ≡ true
+neighbours_pass segments place count all =
+    let Passes : Segment → Type 0 = λ g. is_segment g ≡ true in
+    list_all-from_AllPass is_segment _ (All-take Passes count _ (All-drop Passes place _ (AllPass-from_list_all is_segment segments all)))
+
+pub segment_placed : (size : ℕ) (segments : List Segment) (i : ℕ) (g : Segment) → all_on_device size (runs_in_segments segments) ≡ true → slice_get segments i ≡ Some g → is_on_device size g.place.run ≡ true
+segment_placed size segments i g on at = run_at size segments i g on (slice_get_within segments i g at) (sym (get_or_from_slice_get segments i g g at))

@@ -103,11 +103,11 @@ name_passed name h = bad_none (entries.is_name name) h
 pub there_passed : (c : PlainCatalogue) (name : List ℕ) → missing_in c name ≡ None → has_entry c name ≡ true
 there_passed c name h = missing_none (has_entry c name) h
 
-entry_none : (o : Option PlainEntry) → is_some o ≡ false → o ≡ None
+pub entry_none : (o : Option PlainEntry) → is_some o ≡ false → o ≡ None
 entry_none None h = refl
 entry_none (Some e) h = absurd (cc h)
 
-entry_some : (o : Option PlainEntry) → is_some o ≡ true → (e : PlainEntry) × (o ≡ Some e)
+pub entry_some : (o : Option PlainEntry) → is_some o ≡ true → (e : PlainEntry) × (o ≡ Some e)
 entry_some None h = absurd (cc h)
 entry_some (Some e) h = (e, refl)
 

@@ -1,5 +1,5 @@
-use Rattle.arrowstore.proofs.EndLemmas.{if_error}
+use Rattle.std.proofs.lemmas.Result.{IfErr-weaker}
 use Rattle.arrowstore.proofs.streams_again.end_recode.Goals as goal
 
 pub returns-clause-line : goal.returns-clause-line
-returns-clause-line g c = (c.hint_of.result, if_error _ _ _ c.hint_of.ensures c.found_of_recode-found.ensures, c.end_output.ensures.line)
+returns-clause-line g c = (c.hint_of.result, IfErr-weaker _ _ _ c.hint_of.ensures c.found_of_recode-found.ensures, c.end_output.ensures.line)

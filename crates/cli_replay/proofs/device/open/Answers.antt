@@ -1,11 +1,8 @@
-use Rattle.std.proofs.Common.{[], ℕ, List, Option, Some, refl}
-use Rattle.std.specs.declared.io.impls.Empty.{Empty}
+use Rattle.std.proofs.Common.{refl}
 use Rattle.sector_dev.specs.contracts.model.calls.ModelDeviceSectorDevice.TheImpl.{ghosts}
 use Rattle.cli_replay.proofs.Opening.{opening_told}
+use Rattle.cli_replay.proofs.Plays.{none_left}
 use Rattle.cli_replay.proofs.device.open.Goals as goal
-
-abbrev none_left : Empty → Option (List ℕ)
-none_left reader = Some []
 
 pub returns-in-NotOpened-clause-told : goal.returns-in-NotOpened-clause-told
 returns-in-NotOpened-clause-told c = λ sectors version empty.

@@ -1,19 +1,10 @@
-use Rattle.std.proofs.Common.{[], ℕ, Bool, List, Option, Some, sym, subst}
-use Rattle.std.specs.declared.io.impls.Empty.{Empty}
-use Rattle.sector_dev.specs.View.{faults_of}
+use Rattle.std.proofs.Common.{[], List, sym, subst}
 use Rattle.sector_dev.specs.contracts.model.calls.ModelDeviceSectorDevice.TheImpl.{ghosts}
-use Rattle.sector_dev.specs.declared.model.ModelDevice.{ModelDevice}
 use Rattle.store.specs.declared.call.Reply.{Reply}
 use Rattle.store.specs.Places.{replies_of}
 use Rattle.cli_replay.specs.Playing.{Plays}
-use Rattle.cli_replay.proofs.Plays.{plays_none, played_some, played_none}
+use Rattle.cli_replay.proofs.Plays.{plays_none, played_some, played_none, over, none_left}
 use Rattle.cli_replay.proofs.playing.play.Goals as goal
-
-abbrev over : ModelDevice → Bool
-over d = (faults_of d).stopped
-
-abbrev none_left : Empty → Option (List ℕ)
-none_left reader = Some []
 
 pub loop-call-init : goal.loop-call-init
 loop-call-init c = record {

@@ -1,7 +1,6 @@
-use Rattle.std.proofs.Common.{◌∙◌, [], ℕ, Bool, List, Option, Some, refl, ap, subst}
+use Rattle.std.proofs.Common.{◌∙◌, List, refl, ap, subst}
 use Rattle.std.proofs.lemmas.Result.{err_from_is_err_and}
 use Rattle.std.specs.Prelude.{string_bytes}
-use Rattle.std.specs.declared.io.impls.Empty.{Empty}
 use Rattle.sector_dev.specs.Chosen.{IsChosen}
 use Rattle.sector_dev.specs.Disk.{now, shown_image}
 use Rattle.sector_dev.specs.View.{size_of, faults_of, history_of}
@@ -17,13 +16,8 @@ use Rattle.cli_replay.specs.Playing.{replies_text}
 use Rattle.cli_replay.proofs.Formatted.{still_empty, all_faults}
 use Rattle.cli_replay.proofs.Kept.{replay_keeps}
 use Rattle.cli_replay.proofs.Results.{printed_text}
+use Rattle.cli_replay.proofs.Plays.{over, none_left}
 use Rattle.cli_replay.proofs.replaying.play_lines.Goals as goal
-
-abbrev over : ModelDevice → Bool
-over d = (faults_of d).stopped
-
-abbrev none_left : Empty → Option (List ℕ)
-none_left reader = Some []
 
 pub returns-in_err-place-clause-told : goal.returns-in_err-place-clause-told
 returns-in_err-place-clause-told c =

@@ -1,5 +1,5 @@
 use Rattle.std.proofs.Common.{ℕ, List, subst}
-use Rattle.std.proofs.lemmas.Result.{err_from_is_err_and}
+use Rattle.std.proofs.lemmas.Result.{err_from_is_err_and, IfOk-weaker}
 use Rattle.std.specs.Io.KnownBytes.{Appends}
 use Rattle.std.specs.Prelude.{string_bytes, Ok}
 use Rattle.cli_replay.specs.declared.script.ScriptLine.{ScriptLine}
@@ -7,7 +7,6 @@ use Rattle.cli_replay.specs.Plain.{plain_lines}
 use Rattle.cli_replay.specs.Replay.{AreCallsOfLines}
 use Rattle.cli_replay.specs.Script.{IsScript}
 use Rattle.cli_replay.proofs.Opening.{playing_refused}
-use Rattle.cli_replay.proofs.Results.{ok_with}
 use Rattle.cli_replay.proofs.replaying.replay.Goals as goal
 
 pub returns-in_err-text-clause-told : goal.returns-in_err-text-clause-told
@@ -20,7 +19,7 @@ pub returns-clause-replays : goal.returns-clause-replays
 returns-clause-replays g c =
     let old = g.W.Write.contents c.args.output.now in
     let new = g.W.Write.contents c.write_whole.new.writer in
-    ok_with c.write_whole.result (λ done. Appends old new c.as_bytes.result.now) _ (λ done written. record {
+    IfOk-weaker c.write_whole.result (λ done. Appends old new c.as_bytes.result.now) _ (λ done written. record {
       script = c.in_ok-script.script.items;
       of_file = c.in_ok-script.ensures.all;
       lines = plain_lines c.in_ok-lines.lines.items;

@@ -1,6 +1,7 @@
 use Rattle.std.proofs.Common.{◌≡◌, ◌<◌, ◌+◌, ◌∙◌, ℕ, Bool, true, false, ◌&&◌, ◌||◌, List, length, drop, get_or, refl, sym, ap}
 use Rattle.std.specs.Prelude.{Option, None, Some, option_map, is_some}
 use Rattle.std.specs.List.{list_any}
+use Rattle.std.proofs.Math.Bool.{and-false}
 use Rattle.facts.specs.laws.Lists.{drop-item}
 use Rattle.ipc_message.specs.declared.fields.FieldRef.{FieldRef}
 use Rattle.ipc_message.specs.declared.raw_header.Encoding.{Encoding}
@@ -20,10 +21,6 @@ skipped fields i f lt is none =
     ap (λ (fs : List FieldRef). list_any is_dictionary_of_nested (listed fs)) (drop-item fields i f lt is)
     ∙ ap (λ b. b || list_any is_dictionary_of_nested (listed (drop (i + 1) fields))) none
 
-and_false : (b : Bool) → (b && false) ≡ false
-and_false true = refl
-and_false false = refl
-
 no_index : (d : Option Encoding) (b : Bool) → is_some d ≡ false → (is_some (option_map encoding_of d) && b) ≡ false
 no_index None b h = refl
 no_index (Some e) b h = absurd cc
@@ -31,7 +28,7 @@ no_index (Some e) b h = absurd cc
 not_nested : (f : RawField) → is_nested (type_name (out-RawField f).code) ≡ false → is_dictionary_of_nested (raw_field_of f) ≡ false
 not_nested f h =
     ap is_dictionary_of_nested (fold_out-RawField raw.RawField raw_field_step f)
-    ∙ ap (λ b. is_some (option_map encoding_of (out-RawField f).dictionary) && b) h ∙ and_false _
+    ∙ ap (λ b. is_some (option_map encoding_of (out-RawField f).dictionary) && b) h ∙ and-false _
 
 no_dictionary : (f : RawField) → is_some (out-RawField f).dictionary ≡ false → is_dictionary_of_nested (raw_field_of f) ≡ false
 no_dictionary f h = ap is_dictionary_of_nested (fold_out-RawField raw.RawField raw_field_step f) ∙ no_index (out-RawField f).dictionary _ h

@@ -1,5 +1,6 @@
-use Rattle.std.proofs.Common.{◌≡◌, ◌<◌, ◌+◌, ◌∙◌, ℕ, Bool, true, false, ◌&&◌, List, length, drop, get_or, refl, sym, ap}
+use Rattle.std.proofs.Common.{◌≡◌, ◌<◌, ◌+◌, ◌∙◌, ℕ, true, false, ◌&&◌, List, length, drop, get_or, sym, ap}
 use Rattle.std.specs.Prelude.{not, find, Some, ◌==◌, if◌then◌else◌}
+use Rattle.std.proofs.Math.Bool.{and-false}
 use Rattle.facts.specs.laws.Lists.{drop-item}
 use Rattle.ipc_message.specs.declared.fields.FieldRef.{FieldRef}
 use Rattle.ipc_message.specs.declared.raw_header.RawField.{RawField, out-RawField}
@@ -19,14 +20,10 @@ skipped fields i f lt is none =
     ap (λ (fs : List FieldRef). find (is_unsupported supported_codes) (listed fs)) (drop-item fields i f lt is)
     ∙ ap (λ b. if b then Some (raw_field_of f.field.now) else find (is_unsupported supported_codes) (listed (drop (i + 1) fields))) none
 
-and_false : (b : Bool) → (b && false) ≡ false
-and_false true = refl
-and_false false = refl
-
 is_supported : (f : RawField) → supported_codes (out-RawField f).code ≡ true → is_unsupported supported_codes (raw_field_of f) ≡ false
 is_supported f h =
     ap (is_unsupported supported_codes) (fold_out-RawField raw.RawField raw_field_step f)
-    ∙ ap (λ b. not ((out-RawField f).code == NONE) && not b) h ∙ and_false _
+    ∙ ap (λ b. not ((out-RawField f).code == NONE) && not b) h ∙ and-false _
 
 names_none : (f : RawField) → (out-RawField f).code ≡ NONE → is_unsupported supported_codes (raw_field_of f) ≡ false
 names_none f h = ap (is_unsupported supported_codes) (fold_out-RawField raw.RawField raw_field_step f) ∙ ap (λ n. not (n == NONE) && not (supported_codes n)) h

@@ -12,3 +12,6 @@ returns-clause-chosen c =
     let q = bound_query_in c.args.query in
     let whole : List (List Cell) → PlainTable = λ rows. record { schema = picked_schema q.places t.schema; rows = rows } in
     ap whole (rows_chosen q c.unwrap_or.result t.rows _ (c.in_ok-mask.ensures.rows q.places) c.unwrap_or.ensures (omega (arith, c.len-rows.ensures)))
+
+pub returns-clause-mask : goal.returns-clause-mask
+returns-clause-mask c = omega (arith, c.in_ok-mask.ensures.size)

@@ -1,11 +1,13 @@
-use Rattle.std.proofs.Common.{Bool, List, map, subst}
+use Rattle.std.proofs.Common.{Bool, List, map, subst, ap, ◌∙◌}
+use Rattle.std.proofs.lemmas.List.{length-map}
 use Rattle.std.proofs.lemmas.Result.{IfOk-weaker}
+use Rattle.bitmap.specs.Bits.{bytes_of}
 use Rattle.cells.specs.Cell.{Cell}
 use Rattle.values.specs.TableView.{table_of}
 use Rattle.query.specs.Selection.{pick, holds_all}
 use Rattle.query.specs.inner.BoundView.{bound_in}
 use Rattle.query.specs.inner.Masks.{IsMask}
-use Rattle.query.proofs.Keeping.{set_rows_are, mask_long}
+use Rattle.query.proofs.Keeping.{set_rows_are}
 use Rattle.query.proofs.selecting.choose_rows.Goals as goal
 
 pub returns-clause-rows : goal.returns-clause-rows
@@ -16,7 +18,14 @@ returns-clause-rows c =
     (λ mask is places. set_rows_are mask.items p (pick places) rows (subst (λ bounds. IsMask mask.items (map (holds_all (map bound_in bounds)) rows)) c.deref.ensures.value is))
     c.mask_of_all.ensures
 
-pub returns-clause-mask : goal.returns-clause-mask
-returns-clause-mask c =
+pub returns-clause-bits : goal.returns-clause-bits
+returns-clause-bits c =
     let rows = (table_of c.args.table.now).rows in
-    IfOk-weaker c.mask_of_all.result _ _ (λ mask is. mask_long mask.items (holds_all (map bound_in c.deref.result.now)) rows is) c.mask_of_all.ensures
+    IfOk-weaker c.mask_of_all.result _ _
+    (λ mask is. (subst (λ bounds. IsMask mask.items (map (holds_all (map bound_in bounds)) rows)) c.deref.ensures.value is).each) c.mask_of_all.ensures
+
+pub returns-clause-size : goal.returns-clause-size
+returns-clause-size c =
+    let rows = (table_of c.args.table.now).rows in
+    let p : List Cell → Bool = holds_all (map bound_in c.deref.result.now) in
+    IfOk-weaker c.mask_of_all.result _ _ (λ mask is. is.size ∙ ap bytes_of (length-map rows p)) c.mask_of_all.ensures

@@ -31,7 +31,7 @@ pub push_batches-requires-clause-within : goal.push_batches-requires-clause-with
 push_batches-requires-clause-within c =
     let count = picked_counted (table_of c.args.part.now) c.args.query.now.places.items c.deref-3.result.now
     (picked (goal.at.push_batches-requires-clause-within c).In_ok-batches c.deref-3.result.now c.deref-3.ensures.value) in
-    omega (arith, count, c.in_ok-mask.ensures.mask, ap length c.deref-4.ensures.value)
+    omega (arith, count, c.in_ok-mask.ensures.size, ap length c.deref-4.ensures.value)
 
 pub push_batches-requires-clause-few : goal.push_batches-requires-clause-few
 push_batches-requires-clause-few c =

@@ -1,6 +1,6 @@
-use Rattle.std.specs.Prelude.{◌==◌, option_map, slice_get, get_or, if◌then◌else◌}
-use Rattle.std.proofs.Common.{◌≡◌, ◌≢◌, ◌≤◌, ◌<◌, ◌-◌, length, ℕ, suc, false, List, Some, None, refl, sym, ap, ◌∙◌, subst, arith}
-use Rattle.std.proofs.lemmas.Option.{slice_get_read, slice_get_past, slice_get_within, get_or_from_slice_get}
+use Rattle.std.specs.Prelude.{◌==◌, option_map, slice_get, if◌then◌else◌}
+use Rattle.std.proofs.Common.{◌≡◌, ◌≢◌, ◌-◌, length, ℕ, suc, false, List, Some, None, refl, sym, ap, ◌∙◌, subst, arith}
+use Rattle.std.proofs.lemmas.Option.{slice_get_read, slice_get_past}
 use Rattle.ipc_write.specs.Written.{schema_message, end_of_stream}
 use Rattle.std.proofs.lemmas.Result.{IfOk-weaker, IfErr-weaker}
 use Rattle.sector_dev.specs.Disk.{now, shown_image}
@@ -10,7 +10,8 @@ use Rattle.export_book.specs.Plain.{plain_export}
 use Rattle.tables.specs.declared.refusal.Refusal.TheVariants.{OutOfMemory}
 use Rattle.store_runs.specs.Calls.{is_failure, done}
 use Rattle.store_runs.specs.Reading.{HasRows, LacksRows}
-use Rattle.store_changes.specs.laws.ReadTables.{reads_quiet, reads_ended, run_at}
+use Rattle.store_changes.specs.laws.ReadTables.{reads_quiet, reads_ended}
+use Rattle.store_changes.specs.laws.StepParts.{segment_placed}
 use Rattle.store.proofs.ExportAnswers.{piece_first, refused_first, piece_behind, refused_behind}
 use Rattle.arrow_schema.specs.Column.{PlainSchema}
 use Rattle.arrow_schema.specs.Limits.{IsWithinLimits}
@@ -48,19 +49,13 @@ segment_piece-requires-clause-limits g c = subst IsWithinLimits (sym c.schema-in
 behind : (n : ℕ) → n ≢ 0 → n ≡ suc (n - 1)
 behind n other = omega (arith, other)
 
-at_place : (segments given : List Segment) (place : ℕ) (segment : Segment) → given ≡ segments → place < length given → segment ≡ get_or given place segment → slice_get segments place ≡ Some segment
-at_place segments given place segment same inside is = ap (λ (gs : List Segment). slice_get gs place) (sym same) ∙ slice_get_read given (length given) place segment refl inside is
-
-past_place : (segments given : List Segment) (place : ℕ) → given ≡ segments → length given ≤ place → slice_get segments place ≡ None
-past_place segments given place same past = ap (λ (gs : List Segment). slice_get gs place) (sym same) ∙ slice_get_past given place past
-
 pub segment_piece-requires-clause-placed : goal.segment_piece-requires-clause-placed
 segment_piece-requires-clause-placed g c =
     let segments = (plain_export c.args.export.now).segments in
     let place = c.args.export.now.given - 1 in
     let segment = c.in-Some.segment.now in
-    let at = at_place segments c.segments.result.now place segment c.segments.ensures c.in-Some.ensures.lookup.3.0 (c.in-Some.ensures.lookup.3.1 _) in
-    run_at (g.D.SectorDevice.size c.args.device.now) segments place segment c.requires.sound.placed (slice_get_within segments place segment at) (sym (get_or_from_slice_get segments place segment segment at))
+    let at = subst (λ (gs : List Segment). slice_get gs place ≡ Some segment) c.segments.ensures (slice_get_read c.segments.result.now _ place segment refl c.in-Some.ensures.lookup.3.0 (c.in-Some.ensures.lookup.3.1 _)) in
+    segment_placed (g.D.SectorDevice.size c.args.device.now) segments place segment c.requires.sound.placed at
 
 pub returns-in-Some-clause-piece : goal.returns-in-Some-clause-piece
 returns-in-Some-clause-piece g c =
@@ -68,7 +63,7 @@ returns-in-Some-clause-piece g c =
     let b : PlainExport = plain_export c.args.export.now in
     let place = b.given - 1 in
     let segment = c.in-Some.segment.now in
-    let at = at_place b.segments c.segments.result.now place segment c.segments.ensures c.in-Some.ensures.lookup.3.0 (c.in-Some.ensures.lookup.3.1 _) in
+    let at = subst (λ (gs : List Segment). slice_get gs place ≡ Some segment) c.segments.ensures (slice_get_read c.segments.result.now _ place segment refl c.in-Some.ensures.lookup.3.0 (c.in-Some.ensures.lookup.3.1 _)) in
     IfOk-weaker c.segment_piece.result _ _ (λ piece of. piece_behind D.tells (shown_image (now (D.story c.args.device.now))) b b.given place (Some segment) _ (behind b.given c.if-export-eq0.false) at (subst (λ (s : PlainSchema). HasRows D.tells (shown_image (now (D.story c.args.device.now))) s segment (option_map (λ v. v.items) piece)) c.schema-in-Some.ensures of)) c.segment_piece.ensures.piece
 
 pub returns-in-Some-clause-told : goal.returns-in-Some-clause-told
@@ -77,7 +72,7 @@ returns-in-Some-clause-told g c =
     let b : PlainExport = plain_export c.args.export.now in
     let place = b.given - 1 in
     let segment = c.in-Some.segment.now in
-    let at = at_place b.segments c.segments.result.now place segment c.segments.ensures c.in-Some.ensures.lookup.3.0 (c.in-Some.ensures.lookup.3.1 _) in
+    let at = subst (λ (gs : List Segment). slice_get gs place ≡ Some segment) c.segments.ensures (slice_get_read c.segments.result.now _ place segment refl c.in-Some.ensures.lookup.3.0 (c.in-Some.ensures.lookup.3.1 _)) in
     IfErr-weaker c.segment_piece.result _ _ (λ e of. refused_behind D.tells (shown_image (now (D.story c.args.device.now))) b b.given place (Some segment) e (behind b.given c.if-export-eq0.false) at (subst (λ (s : PlainSchema). LacksRows D.tells (shown_image (now (D.story c.args.device.now))) s segment place e) c.schema-in-Some.ensures of)) c.segment_piece.ensures.told
 
 pub returns-in-None-clause-piece : goal.returns-in-None-clause-piece
@@ -85,7 +80,7 @@ returns-in-None-clause-piece g c =
     let D = g.D.SectorDevice in
     let b : PlainExport = plain_export c.args.export.now in
     let place = b.given - 1 in
-    let none = past_place b.segments c.segments.result.now place c.segments.ensures c.in-None.ensures.lookup.3 in
+    let none = subst (λ (gs : List Segment). slice_get gs place ≡ None) c.segments.ensures (slice_get_past c.segments.result.now place c.in-None.ensures.lookup.3) in
     let count = ap (λ (gs : List Segment). length gs) c.segments-in-None.ensures in
     IfOk-weaker c.last_piece.result _ _
     (λ piece end. piece_behind D.tells (shown_image (now (D.story c.args.device.now))) b b.given place None _ (behind b.given c.if-export-eq0.false) none (end ∙ ap (λ (n : ℕ). if place == n then Some end_of_stream else None) count))

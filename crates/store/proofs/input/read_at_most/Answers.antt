@@ -1,6 +1,7 @@
 use Rattle.std.proofs.Common.{length, length-append, ap, arith, vec_items}
 use Rattle.std.proofs.lemmas.Result.{err_from_is_err_and}
-use Rattle.store.proofs.Inputs.{consumes_both, given_none, refused_behind, room_left}
+use Rattle.std.proofs.KnownBytes.{Consumes-trans}
+use Rattle.store.proofs.Inputs.{given_none, refused_behind, room_left}
 use Rattle.store.proofs.input.read_at_most.Goals as goal
 
 pub returns-in_err-append_some-clause-told : goal.returns-in_err-append_some-clause-told
@@ -13,7 +14,7 @@ pub loop-bytes-preserved : goal.loop-bytes-preserved
 loop-bytes-preserved g c =
     let read = c.in_ok-append_some.ensures.appended in
     let longer = simp length-append at (ap length read.2) in
-    (rw read.2 (consumes_both _ _ _ _ _ c.loop-bytes.invariant.0 read.1), c.loop-bytes.invariant.1, omega (arith, longer, read.3, c.in_ok-append_some.ensures.within))
+    (rw read.2 (Consumes-trans _ _ _ _ _ c.loop-bytes.invariant.0 read.1), c.loop-bytes.invariant.1, omega (arith, longer, read.3, c.in_ok-append_some.ensures.within))
 
 pub returns-in_err-chunk-clause-told : goal.returns-in_err-chunk-clause-told
 returns-in_err-chunk-clause-told g c =

@@ -4,27 +4,21 @@ use Rattle.tables.specs.View.{command_of}
 use Rattle.store.specs.declared.call.StoreOrDevice.TheVariants as places
 use Rattle.store_runs.specs.Calls.{apply_call, format_call, open_call, close_call, tables_call, schema_call, read_call, export_call, open_export_call, export_next_call, close_export_call, compact_call, upgrade_call, done, counted}
 use Rattle.store.specs.Fits.{DeviceFits}
-use Rattle.store.specs.Places.{IsStreamOf, IsCallOf, reply_in, PlaceGoes}
+use Rattle.store.specs.Places.{IsStreamOf, reply_in, PlaceGoes}
 use Rattle.store.specs.Answering.{AnswersFormatting, AnswersOpening}
 use Rattle.store.proofs.Answered.{closed}
 use Rattle.store.proofs.running.answer_open.Goals as goal
 
 pub returns-in-Apply : goal.returns-in-Apply
 returns-in-Apply g c =
-    let e = c.apply_in.ensures in
-    record {
-      plain = apply_call (command_of c.in-Apply.command);
-      is = subst (λ k. IsCallOf g.R.Read.remaining k (apply_call (command_of c.in-Apply.command))) (sym c.in-Apply.is) refl;
-      goes = e.goes;
-      answers = e.answers;
-    }
+    record { plain = apply_call (command_of c.in-Apply.command); is = rw c.in-Apply.is refl; goes = c.apply_in.ensures.goes; answers = c.apply_in.ensures.answers }
 
 pub returns-in-ImportFrom : goal.returns-in-ImportFrom
 returns-in-ImportFrom g c =
     let e = c.import_in.ensures in
     record {
       plain = e.plain;
-      is = subst (λ k. IsCallOf g.R.Read.remaining k (e.plain)) (sym c.in-ImportFrom.is) (subst (λ name. IsStreamOf (g.R.Read.remaining c.in-ImportFrom.reader) (import_stream name) e.plain) c.deref.ensures e.is);
+      is = rw c.in-ImportFrom.is (subst (λ name. IsStreamOf (g.R.Read.remaining c.in-ImportFrom.reader) (import_stream name) e.plain) c.deref.ensures e.is);
       goes = e.goes;
       answers = e.answers;
     }
@@ -34,7 +28,7 @@ returns-in-AppendFrom g c =
     let e = c.append_in.ensures in
     record {
       plain = e.plain;
-      is = subst (λ k. IsCallOf g.R.Read.remaining k (e.plain)) (sym c.in-AppendFrom.is) (subst (λ name. IsStreamOf (g.R.Read.remaining c.in-AppendFrom.reader) (append_stream name) e.plain) c.deref-in-AppendFrom.ensures e.is);
+      is = rw c.in-AppendFrom.is (subst (λ name. IsStreamOf (g.R.Read.remaining c.in-AppendFrom.reader) (append_stream name) e.plain) c.deref-in-AppendFrom.ensures e.is);
       goes = e.goes;
       answers = e.answers;
     }
@@ -47,7 +41,7 @@ returns-in-Format g c =
     let reply = reply_in c.format_place.result.1 in
     record {
       plain = format_call;
-      is = subst (λ k. IsCallOf g.R.Read.remaining k format_call) (sym c.in-Format.is) refl;
+      is = rw c.in-Format.is refl;
       goes = λ told base m fits.
           let here = subst (λ d. DeviceFits D.size D.story base m d) (sym c.close.ensures) fits.device in
           subst (λ d. PlaceGoes {g = D} D.size D.story D.failed base m format_call reply d new) c.close.ensures (e.goes told base m here);
@@ -66,7 +60,7 @@ returns-in-Open g c =
     let reply = reply_in c.open_place.result.1 in
     record {
       plain = open_call;
-      is = subst (λ k. IsCallOf g.R.Read.remaining k open_call) (sym c.in-Open.is) refl;
+      is = rw c.in-Open.is refl;
       goes = λ told base m fits.
           let here = subst (λ d. DeviceFits D.size D.story base m d) (sym c.close-in-Open.ensures) fits.device in
           subst (λ d. PlaceGoes {g = D} D.size D.story D.failed base m open_call reply d new) c.close-in-Open.ensures (e.goes told base m here);
@@ -83,7 +77,7 @@ returns-in-Close g c =
     let given = c.close-in-Close.ensures in
     record {
       plain = close_call;
-      is = subst (λ k. IsCallOf g.R.Read.remaining k close_call) (sym c.in-Close.is) refl;
+      is = rw c.in-Close.is refl;
       goes = λ told base m fits.
           subst (λ d. PlaceGoes {g = D} D.size D.story D.failed base m close_call done c.args.store.device (places.Shut d)) (sym given) (closed D.size D.story D.failed base m c.args.store fits);
       answers = record { answers = (refl, λ i. places.Shut (given i)); same = ap D.size given; count = ap D.failed given };
@@ -91,90 +85,36 @@ returns-in-Close g c =
 
 pub returns-in-Tables : goal.returns-in-Tables
 returns-in-Tables g c =
-    let e = c.list_in.ensures in
-    record {
-      plain = tables_call;
-      is = subst (λ k. IsCallOf g.R.Read.remaining k (tables_call)) (sym c.in-Tables.is) refl;
-      goes = e.goes;
-      answers = e.answers;
-    }
+    record { plain = tables_call; is = rw c.in-Tables.is refl; goes = c.list_in.ensures.goes; answers = c.list_in.ensures.answers }
 
 pub returns-in-Schema : goal.returns-in-Schema
 returns-in-Schema g c =
-    let e = c.schema_in.ensures in
-    record {
-      plain = schema_call c.deref-in-Schema.result.now;
-      is = subst (λ k. IsCallOf g.R.Read.remaining k (schema_call c.deref-in-Schema.result.now)) (sym c.in-Schema.is) (ap schema_call c.deref-in-Schema.ensures);
-      goes = e.goes;
-      answers = e.answers;
-    }
+    record { plain = schema_call c.deref-in-Schema.result.now; is = rw c.in-Schema.is (ap schema_call c.deref-in-Schema.ensures); goes = c.schema_in.ensures.goes; answers = c.schema_in.ensures.answers }
 
 pub returns-in-Read : goal.returns-in-Read
 returns-in-Read g c =
-    let e = c.read_in.ensures in
-    record {
-      plain = read_call c.deref-in-Read.result.now;
-      is = subst (λ k. IsCallOf g.R.Read.remaining k (read_call c.deref-in-Read.result.now)) (sym c.in-Read.is) (ap read_call c.deref-in-Read.ensures);
-      goes = e.goes;
-      answers = e.answers;
-    }
+    record { plain = read_call c.deref-in-Read.result.now; is = rw c.in-Read.is (ap read_call c.deref-in-Read.ensures); goes = c.read_in.ensures.goes; answers = c.read_in.ensures.answers }
 
 pub returns-in-Export : goal.returns-in-Export
 returns-in-Export g c =
-    let e = c.export_in.ensures in
-    record {
-      plain = export_call c.deref-in-Export.result.now;
-      is = subst (λ k. IsCallOf g.R.Read.remaining k (export_call c.deref-in-Export.result.now)) (sym c.in-Export.is) (ap export_call c.deref-in-Export.ensures);
-      goes = e.goes;
-      answers = e.answers;
-    }
+    record { plain = export_call c.deref-in-Export.result.now; is = rw c.in-Export.is (ap export_call c.deref-in-Export.ensures); goes = c.export_in.ensures.goes; answers = c.export_in.ensures.answers }
 
 pub returns-in-OpenExport : goal.returns-in-OpenExport
 returns-in-OpenExport g c =
-    let e = c.open_export_in.ensures in
-    record {
-      plain = open_export_call c.deref-in-OpenExport.result.now;
-      is = subst (λ k. IsCallOf g.R.Read.remaining k (open_export_call c.deref-in-OpenExport.result.now)) (sym c.in-OpenExport.is) (ap open_export_call c.deref-in-OpenExport.ensures);
-      goes = e.goes;
-      answers = e.answers;
-    }
+    record { plain = open_export_call c.deref-in-OpenExport.result.now; is = rw c.in-OpenExport.is (ap open_export_call c.deref-in-OpenExport.ensures); goes = c.open_export_in.ensures.goes; answers = c.open_export_in.ensures.answers }
 
 pub returns-in-ExportNext : goal.returns-in-ExportNext
 returns-in-ExportNext g c =
-    let e = c.export_next_in.ensures in
-    record {
-      plain = export_next_call c.in-ExportNext.id;
-      is = subst (λ k. IsCallOf g.R.Read.remaining k (export_next_call c.in-ExportNext.id)) (sym c.in-ExportNext.is) refl;
-      goes = e.goes;
-      answers = e.answers;
-    }
+    record { plain = export_next_call c.in-ExportNext.id; is = rw c.in-ExportNext.is refl; goes = c.export_next_in.ensures.goes; answers = c.export_next_in.ensures.answers }
 
 pub returns-in-CloseExport : goal.returns-in-CloseExport
 returns-in-CloseExport g c =
-    let e = c.close_export_in.ensures in
-    record {
-      plain = close_export_call c.in-CloseExport.id;
-      is = subst (λ k. IsCallOf g.R.Read.remaining k (close_export_call c.in-CloseExport.id)) (sym c.in-CloseExport.is) refl;
-      goes = e.goes;
-      answers = e.answers;
-    }
+    record { plain = close_export_call c.in-CloseExport.id; is = rw c.in-CloseExport.is refl; goes = c.close_export_in.ensures.goes; answers = c.close_export_in.ensures.answers }
 
 pub returns-in-Compact : goal.returns-in-Compact
 returns-in-Compact g c =
-    let e = c.compact_in.ensures in
-    record {
-      plain = compact_call;
-      is = subst (λ k. IsCallOf g.R.Read.remaining k compact_call) (sym c.in-Compact.is) refl;
-      goes = e.goes;
-      answers = e.answers;
-    }
+    record { plain = compact_call; is = rw c.in-Compact.is refl; goes = c.compact_in.ensures.goes; answers = c.compact_in.ensures.answers }
 
 pub returns-in-Upgrade : goal.returns-in-Upgrade
 returns-in-Upgrade g c =
-    let e = c.upgrade_in.ensures in
-    record {
-      plain = upgrade_call;
-      is = subst (λ k. IsCallOf g.R.Read.remaining k upgrade_call) (sym c.in-Upgrade.is) refl;
-      goes = e.goes;
-      answers = e.answers;
-    }
+    record { plain = upgrade_call; is = rw c.in-Upgrade.is refl; goes = c.upgrade_in.ensures.goes; answers = c.upgrade_in.ensures.answers }

@@ -2,16 +2,14 @@ use Rattle.std.proofs.Common.{◌≡◌, ◌++◌, ◌∙◌, true, ℕ, List, R
 use Rattle.sector_dev.specs.Disk.{now, shown_image}
 use Rattle.catalogue.specs.declared.entry.Segment.{Segment}
 use Rattle.catalogue.specs.declared.entry.TableEntry.{TableEntry}
-use Rattle.catalogue.specs.Entries.{plain_entry, is_entry, runs_in_segments}
-use Rattle.catalogue.specs.laws.Changed.{found_passes}
-use Rattle.commit.specs.Standing.{is_size, all_on_device}
+use Rattle.catalogue.specs.Entries.{plain_entry}
+use Rattle.commit.specs.Standing.{is_size}
 use Rattle.tables.specs.declared.refusal.Refusal.{Refusal}
 use Rattle.tables.specs.declared.refusal.Refusal.TheVariants as refusals
 use Rattle.store_runs.specs.Calls.{done, refused}
 use Rattle.store_runs.specs.Digesting.{segments_of, AreDigests}
-use Rattle.store_changes.specs.laws.ReadTables.{reads_none, reads_more, reads_ended, image_then, runs_on_device}
-use Rattle.store_changes.specs.laws.StepParts.{at_name}
-use Rattle.store_changes.proofs.StepFound.{item_at, read_then}
+use Rattle.store_changes.specs.laws.ReadTables.{reads_none, reads_more, reads_ended, image_then}
+use Rattle.store_changes.proofs.StepFound.{item_at, read_then, item_placed, item_sound}
 use Rattle.store_changes.proofs.Digesting.{digests_behind, digests_then, segments_more, tables_more, unreads_then, inside_map}
 use Rattle.store_changes.proofs.digests.all_digests.Goals as goal
 
@@ -30,18 +28,10 @@ entry_digests-requires-clause-size g c = ap is_size c.loop-entry.invariant.reads
 pub entry_digests-requires-clause-placed : goal.entry_digests-requires-clause-placed
 entry_digests-requires-clause-placed g c =
     let D = g.D.SectorDevice in
-    let listed = map plain_entry c.args.entries.now in
-    let item = c.entry-item.result in
-    let at = item_at c.args.entries.now c.loop-entry.entry-index item c.loop-entry-test.true c.entry-item.is in
-    subst (λ (n : ℕ). all_on_device n (runs_in_segments (plain_entry item).segments) ≡ true) (sym c.loop-entry.invariant.reads.same)
-    (runs_on_device (D.size c.args.device.now) listed (plain_entry item).name (plain_entry item) c.requires.placed (at_name listed c.loop-entry.entry-index (plain_entry item) c.requires.stands.order at))
+    item_placed c.args.entries.now c.loop-entry.entry-index c.entry-item.result c.loop-entry-test.true c.entry-item.is c.requires.stands (D.size c.args.device.now) (D.size c.loop-entry.device) c.loop-entry.invariant.reads.same c.requires.placed
 
 pub entry_digests-requires-clause-sound : goal.entry_digests-requires-clause-sound
-entry_digests-requires-clause-sound g c =
-    let listed = map plain_entry c.args.entries.now in
-    let item = c.entry-item.result in
-    let at = item_at c.args.entries.now c.loop-entry.entry-index item c.loop-entry-test.true c.entry-item.is in
-    found_passes is_entry listed (plain_entry item).name (plain_entry item) c.requires.stands.entries (at_name listed c.loop-entry.entry-index (plain_entry item) c.requires.stands.order at)
+entry_digests-requires-clause-sound g c = item_sound c.args.entries.now c.loop-entry.entry-index c.entry-item.result c.loop-entry-test.true c.entry-item.is c.requires.stands
 
 pub loop-entry-preserved : goal.loop-entry-preserved
 loop-entry-preserved g c =

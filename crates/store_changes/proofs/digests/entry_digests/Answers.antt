@@ -2,12 +2,11 @@ use Rattle.std.proofs.Common.{◌≡◌, ◌∙◌, ℕ, true, List, sym, ap, su
 use Rattle.std.specs.List.{list_all}
 use Rattle.sector_dev.specs.Disk.{now, shown_image}
 use Rattle.catalogue.specs.declared.entry.Segment.{Segment}
-use Rattle.catalogue.specs.Entries.{plain_entry, is_segment}
+use Rattle.catalogue.specs.Entries.{plain_entry, is_segment, runs_in_segments}
 use Rattle.catalogue.specs.laws.Kept.{entry_is}
 use Rattle.commit.specs.Standing.{is_size, all_on_device}
 use Rattle.store_runs.specs.Calls.{done, refused}
 use Rattle.store_runs.specs.Digesting.{AreDigests}
-use Rattle.store_changes.specs.ReadSegment.{runs_in}
 use Rattle.store_changes.specs.inner.Digesting.{LacksCopy}
 use Rattle.store_changes.specs.laws.ReadTables.{reads_more, image_then}
 use Rattle.store_changes.proofs.Digesting.{digests_then, lacks_then, lacks_none}
@@ -19,8 +18,8 @@ segment_digests-requires-clause-size g c = ap is_size c.in-Ok.ensures.reads.same
 pub segment_digests-requires-clause-placed : goal.segment_digests-requires-clause-placed
 segment_digests-requires-clause-placed g c =
     let D = g.D.SectorDevice in
-    subst (λ (gs : List Segment). all_on_device (D.size c.weigh_entry.new.device) (runs_in gs) ≡ true) (sym c.segments.ensures)
-    (subst (λ (n : ℕ). all_on_device n (runs_in (plain_entry c.args.entry.now).segments) ≡ true) (sym c.in-Ok.ensures.reads.same) c.requires.placed)
+    subst (λ (gs : List Segment). all_on_device (D.size c.weigh_entry.new.device) (runs_in_segments gs) ≡ true) (sym c.segments.ensures)
+    (subst (λ (n : ℕ). all_on_device n (runs_in_segments (plain_entry c.args.entry.now).segments) ≡ true) (sym c.in-Ok.ensures.reads.same) c.requires.placed)
 
 pub segment_digests-requires-clause-sound : goal.segment_digests-requires-clause-sound
 segment_digests-requires-clause-sound g c =

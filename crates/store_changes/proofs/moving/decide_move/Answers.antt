@@ -1,7 +1,8 @@
-use Rattle.std.proofs.Common.{◌∷◌, [], inr, map, ap, ◌∙◌}
+use Rattle.std.proofs.Common.{◌∷◌, [], inr, map, ap, ◌∙◌, sym}
+use Rattle.std.proofs.lemmas.Option.{same_Some}
 use Rattle.catalogue.specs.Entries.{PlainEntry, plain_entry}
 use Rattle.store_runs.specs.Changes.{exchange}
-use Rattle.store_changes.proofs.StepFound.{last_is, last_sound, last_placed, last_within, some_sectors, one_entry}
+use Rattle.store_changes.proofs.StepFound.{last_is, last_sound, last_placed, last_within, some_sectors}
 use Rattle.store_changes.proofs.moving.decide_move.Goals as goal
 
 pub fits_below-requires : goal.fits_below-requires
@@ -30,7 +31,7 @@ returns-in-Ok-copy_of-clause-found g c =
     let last = c.in-Some.last in
     let is = last_is (map plain_entry c.args.entries.now) last c.in-Some.ensures in
     let below = c.fits_below.ensures.below c.if-not-fits_below.false in
-    let named = one_entry (map plain_entry c.args.entries.now) last.table (plain_entry c.entry_at.result.now) is.0 c.entry_at.ensures is.1.found in
+    let named = same_Some (plain_entry c.entry_at.result.now) is.0 (sym c.entry_at.ensures ∙ is.1.found) in
     record {
       number = last.table;
       place = last.place;

@@ -1,30 +1,19 @@
-use Rattle.std.proofs.Common.{◌≡◌, true, length, map, sym, subst, ℕ}
+use Rattle.std.proofs.Common.{length, map}
 use Rattle.sector_dev.specs.Disk.{now, shown_image}
-use Rattle.catalogue.specs.Entries.{plain_entry, is_entry, runs_in_segments}
-use Rattle.catalogue.specs.laws.Changed.{found_passes}
-use Rattle.commit.specs.Standing.{all_on_device}
+use Rattle.catalogue.specs.Entries.{plain_entry}
 use Rattle.store_runs.specs.Calls.{done, refused}
 use Rattle.store_changes.specs.Change.{change_of}
-use Rattle.store_changes.specs.laws.ReadTables.{reads_more, image_then, runs_on_device}
-use Rattle.store_changes.specs.laws.StepParts.{at_name}
-use Rattle.store_changes.proofs.StepFound.{item_at, merge_then, first_then, in_then, unread_in, all_more}
+use Rattle.store_changes.specs.laws.ReadTables.{reads_more, image_then}
+use Rattle.store_changes.proofs.StepFound.{item_at, merge_then, first_then, in_then, unread_in, all_more, item_placed, item_sound}
 use Rattle.store_changes.proofs.pairs.first_pair.Goals as goal
 
 pub first_pair_of-requires-clause-placed : goal.first_pair_of-requires-clause-placed
 first_pair_of-requires-clause-placed g c =
     let D = g.D.SectorDevice in
-    let listed = map plain_entry c.args.entries.now in
-    let item = c.entry-item.result in
-    let at = item_at c.args.entries.now c.loop-entry.entry-index item c.loop-entry-test.true c.entry-item.is in
-    subst (λ (n : ℕ). all_on_device n (runs_in_segments (plain_entry item).segments) ≡ true) (sym c.loop-entry.invariant.reads.same)
-    (runs_on_device (D.size c.args.device.now) listed (plain_entry item).name (plain_entry item) c.requires.placed (at_name listed c.loop-entry.entry-index (plain_entry item) c.requires.stands.order at))
+    item_placed c.args.entries.now c.loop-entry.entry-index c.entry-item.result c.loop-entry-test.true c.entry-item.is c.requires.stands (D.size c.args.device.now) (D.size c.loop-entry.device) c.loop-entry.invariant.reads.same c.requires.placed
 
 pub first_pair_of-requires-clause-sound : goal.first_pair_of-requires-clause-sound
-first_pair_of-requires-clause-sound g c =
-    let listed = map plain_entry c.args.entries.now in
-    let item = c.entry-item.result in
-    let at = item_at c.args.entries.now c.loop-entry.entry-index item c.loop-entry-test.true c.entry-item.is in
-    found_passes is_entry listed (plain_entry item).name (plain_entry item) c.requires.stands.entries (at_name listed c.loop-entry.entry-index (plain_entry item) c.requires.stands.order at)
+first_pair_of-requires-clause-sound g c = item_sound c.args.entries.now c.loop-entry.entry-index c.entry-item.result c.loop-entry-test.true c.entry-item.is c.requires.stands
 
 pub returns-in-Ok-Some-clause-reads : goal.returns-in-Ok-Some-clause-reads
 returns-in-Ok-Some-clause-reads g c =

@@ -105,14 +105,7 @@ next_catalogue-requires c =
     let segments = c.deref-5.ensures.value ∙ none_placed in
     let took = took_for v c.args.map.now c.place.new.map listed change (plain_contents c.in_ok-streams.streams.items) c.deref-4.result.now c.in_ok-asked.asked.layout.text_bytes c.in_ok-places.places.runs.items
     ((runs_of pieces ++ c.page_runs.result.now) ++ c.in_ok-places.places.text ∷ []) made (c.deref-4.ensures.value ∙ c.in_ok-asked.ensures.pages) c.in_ok-asked.ensures.text c.in_ok-places.ensures.taken c.page_runs.ensures in
-    let laws : PageLaws = record {
-      messages = one_schema c.one_page_each.ensures.apart;
-      held = c.pages_hold_what_was_read.ensures.held;
-      form = c.pages_hold_what_was_read.ensures.formed;
-      pages = c.kept_catalogues_are_read.ensures.pages;
-      text = c.kept_catalogues_are_read.ensures.text;
-      read = c.kept_catalogues_are_read.ensures.read;
-    } in
+    let laws : PageLaws = assumption (one_schema c.one_page_each.ensures.apart, c.pages_hold_what_was_read.ensures, c.kept_catalogues_are_read.ensures) in
     let stands = catalogue_is listed c.args.stored.now.list.kept in
     let given = given_is v listed change pieces ps c.deref-5.result.now same segments in
     record {
@@ -147,14 +140,7 @@ plan_next-requires-clause-room c =
     let segments = c.deref-5.ensures.value ∙ none_placed in
     let took = took_for v c.args.map.now c.place.new.map listed change (plain_contents c.in_ok-streams.streams.items) c.deref-4.result.now c.in_ok-asked.asked.layout.text_bytes c.in_ok-places.places.runs.items
     ((runs_of pieces ++ c.page_runs.result.now) ++ c.in_ok-places.places.text ∷ []) made (c.deref-4.ensures.value ∙ c.in_ok-asked.ensures.pages) c.in_ok-asked.ensures.text c.in_ok-places.ensures.taken c.page_runs.ensures in
-    let laws : PageLaws = record {
-      messages = one_schema c.one_page_each.ensures.apart;
-      held = c.pages_hold_what_was_read.ensures.held;
-      form = c.pages_hold_what_was_read.ensures.formed;
-      pages = c.kept_catalogues_are_read.ensures.pages;
-      text = c.kept_catalogues_are_read.ensures.text;
-      read = c.kept_catalogues_are_read.ensures.read;
-    } in
+    let laws : PageLaws = assumption (one_schema c.one_page_each.ensures.apart, c.pages_hold_what_was_read.ensures, c.kept_catalogues_are_read.ensures) in
     let stands = catalogue_is listed c.args.stored.now.list.kept in
     let edited_is = given_is v listed change pieces ps c.deref-5.result.now same segments in
     let texts = c.in-Ok.ensures.texts ∙ ap (λ (d : PlainCatalogue). page_texts d ++ settled_text d c.page_runs.result.now ∷ []) edited_is in
@@ -184,14 +170,7 @@ returns-in-Ok-clause-ok c =
     let segments = c.deref-5.ensures.value ∙ none_placed in
     let took = took_for v c.args.map.now c.place.new.map listed change (plain_contents c.in_ok-streams.streams.items) c.deref-4.result.now c.in_ok-asked.asked.layout.text_bytes c.in_ok-places.places.runs.items
     ((runs_of pieces ++ c.page_runs.result.now) ++ c.in_ok-places.places.text ∷ []) made (c.deref-4.ensures.value ∙ c.in_ok-asked.ensures.pages) c.in_ok-asked.ensures.text c.in_ok-places.ensures.taken c.page_runs.ensures in
-    let laws : PageLaws = record {
-      messages = one_schema c.one_page_each.ensures.apart;
-      held = c.pages_hold_what_was_read.ensures.held;
-      form = c.pages_hold_what_was_read.ensures.formed;
-      pages = c.kept_catalogues_are_read.ensures.pages;
-      text = c.kept_catalogues_are_read.ensures.text;
-      read = c.kept_catalogues_are_read.ensures.read;
-    } in
+    let laws : PageLaws = assumption (one_schema c.one_page_each.ensures.apart, c.pages_hold_what_was_read.ensures, c.kept_catalogues_are_read.ensures) in
     let stands = catalogue_is listed c.args.stored.now.list.kept in
     let edited_is = given_is v listed change pieces ps c.deref-5.result.now same segments in
     let k = c.args.commit in

@@ -3,7 +3,7 @@ use Rattle.sector_dev.specs.Disk.{now, shown_image}
 use Rattle.arrow_schema.specs.Column.{PlainSchema}
 use Rattle.arrow_schema.specs.Limits.{IsWithinLimits}
 use Rattle.cells.specs.Cell.{PlainTable}
-use Rattle.catalogue.specs.Entries.{PlainEntry, plain_entry}
+use Rattle.catalogue.specs.Entries.{PlainEntry, plain_entry, runs_in_segments}
 use Rattle.catalogue.specs.laws.Kept.{entry_is}
 use Rattle.catalogue.specs.declared.entry.Segment.{Segment}
 use Rattle.commit.specs.Standing.{all_on_device}
@@ -12,7 +12,6 @@ use Rattle.tables.specs.declared.refusal.Refusal.TheVariants.{OutOfMemory}
 use Rattle.store_runs.specs.Calls.{refused}
 use Rattle.store_changes.specs.inner.ReadRows.{ReadsRows}
 use Rattle.store_changes.specs.inner.TableBuilder.{table_so_far}
-use Rattle.store_changes.specs.ReadSegment.{runs_in}
 use Rattle.store_runs.specs.Reading.{Unreads}
 use Rattle.store_changes.specs.laws.ReadTables.{reads_quiet}
 use Rattle.store_changes.specs.laws.ReadRows.{rows_are_read}
@@ -47,7 +46,7 @@ returns-in-Ok-clause-unread g c =
 
 pub read_segments-requires-clause-placed : goal.read_segments-requires-clause-placed
 read_segments-requires-clause-placed g c =
-    let size = g.D.SectorDevice.size c.args.device.now in subst (λ (gs : List Segment). all_on_device size (runs_in gs) ≡ true) (sym c.segments.ensures) c.requires.placed
+    let size = g.D.SectorDevice.size c.args.device.now in subst (λ (gs : List Segment). all_on_device size (runs_in_segments gs) ≡ true) (sym c.segments.ensures) c.requires.placed
 
 pub read_segments-requires-clause-limits : goal.read_segments-requires-clause-limits
 read_segments-requires-clause-limits g c = subst IsWithinLimits (sym (ap (λ (t : PlainTable). t.schema) c.in-Ok.ensures.empty ∙ c.schema.ensures)) (entry_is (plain_entry c.args.entry.now) c.requires.sound).schema

@@ -3,7 +3,7 @@ use Rattle.std.proofs.Common.{◌≡◌, true, List, refl, sym, ap, ◌∙◌, s
 use Rattle.sector_dev.specs.Disk.{now, shown_image}
 use Rattle.arrow_schema.specs.Limits.{IsWithinLimits}
 use Rattle.catalogue.specs.declared.entry.Segment.{Segment}
-use Rattle.catalogue.specs.Entries.{plain_entry, is_segment}
+use Rattle.catalogue.specs.Entries.{plain_entry, is_segment, runs_in_segments}
 use Rattle.catalogue.specs.laws.Kept.{entry_is}
 use Rattle.commit.specs.Standing.{all_on_device}
 use Rattle.ipc_write.specs.Written.{schema_message}
@@ -11,7 +11,6 @@ use Rattle.tables.specs.declared.refusal.Refusal.TheVariants.{OutOfMemory}
 use Rattle.store_runs.specs.Calls.{refused}
 use Rattle.store_runs.specs.Changes.{rows_under}
 use Rattle.store_runs.specs.Reading.{Unreads}
-use Rattle.store_changes.specs.ReadSegment.{runs_in}
 use Rattle.store_changes.specs.inner.ReadRows.{WeighsRows}
 use Rattle.store_changes.specs.laws.ReadTables.{reads_quiet}
 use Rattle.store_changes.specs.laws.ReadRows.{rows_are_read}
@@ -22,7 +21,7 @@ encode_schema-requires g c = subst IsWithinLimits (sym c.schema.ensures) (entry_
 
 pub weigh_segments-requires-clause-placed : goal.weigh_segments-requires-clause-placed
 weigh_segments-requires-clause-placed g c =
-    let size = g.D.SectorDevice.size c.args.device.now in subst (λ (gs : List Segment). all_on_device size (runs_in gs) ≡ true) (sym c.segments.ensures) c.requires.placed
+    let size = g.D.SectorDevice.size c.args.device.now in subst (λ (gs : List Segment). all_on_device size (runs_in_segments gs) ≡ true) (sym c.segments.ensures) c.requires.placed
 
 pub weigh_segments-requires-clause-sound : goal.weigh_segments-requires-clause-sound
 weigh_segments-requires-clause-sound g c =

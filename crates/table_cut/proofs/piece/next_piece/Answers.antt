@@ -52,8 +52,8 @@ loop-place-init c =
       weight = weighed ∙ ap capped_weight (sym (one_weight s first)) ∙ ap (λ (x : List Values). capped_weight (sum_by (row_weight s) (map borrowed_cells x))) (sym pushed);
     }
 
-pub returns-then-len-ge-MAX_PIECE_ROWS-clause-piece : goal.returns-then-len-ge-MAX_PIECE_ROWS-clause-piece
-returns-then-len-ge-MAX_PIECE_ROWS-clause-piece c =
+pub returns-then-len-ge-MAX_PIECE_ROWS : goal.returns-then-len-ge-MAX_PIECE_ROWS
+returns-then-len-ge-MAX_PIECE_ROWS c =
     let s : PlainSchema = schema_of c.args.schema.now in
     let rows : List (List Cell) = (table_of c.args.table.now).rows in
     let is = c.loop-place.invariant in
@@ -69,12 +69,17 @@ returns-then-len-ge-MAX_PIECE_ROWS-clause-piece c =
       | then-len-ge-MAX_PIECE_ROWS-via-else-len-ge-MAX_PIECE_ROWS+then-weight-gt-MAX_PIECE_WEIGHT w ↦
           is_too_heavy s front row (omega (arith, is.weight, weighed, c.add_weights-weight.ensures, w.if-weight-gt-MAX_PIECE_WEIGHT.true))
     ] in
-    sym is.cut
-    ∙ no_more (within_piece s) front (drop place rows) (drop (place + 1) rows) row next full
-    ∙ ap (λ (p : ℕ). front ∷ pieces (within_piece s) (drop p rows)) (sym is.place)
+    record {
+      piece = sym is.cut
+          ∙ no_more (within_piece s) front (drop place rows) (drop (place + 1) rows) row next full
+          ∙ ap (λ (p : ℕ). front ∷ pieces (within_piece s) (drop p rows)) (sym is.place);
+      some = c.loop-place.invariant.some;
+      within = omega (arith, c.loop-place.invariant.place, c.loop-place.invariant.inside);
+      rows = c.loop-place.invariant.taken;
+    }
 
-pub returns-then-not-branch-clause-piece : goal.returns-then-not-branch-clause-piece
-returns-then-not-branch-clause-piece c =
+pub returns-then-not-branch : goal.returns-then-not-branch
+returns-then-not-branch c =
     let s : PlainSchema = schema_of c.args.schema.now in
     let rows : List (List Cell) = (table_of c.args.table.now).rows in
     let is = c.loop-place.invariant in
@@ -84,9 +89,14 @@ returns-then-not-branch-clause-piece c =
     let next : drop place rows ≡ row ∷ drop (place + 1) rows = row_before rows place row (omega (arith, c.loop-place-test.true)) c.row_at-row.ensures in
     let given : AreSeen s front (map entries_in c.deref_mut.result.now) = subst (λ x. AreSeen s front (map entries_in x)) (sym c.deref_mut.ensures.value) is.seen in
     let full : dictionaries_fit s (front ++ row ∷ []) ≡ false = sym (c.in_ok-takes_row.ensures.fits front given) ∙ c.if-not-branch.true in
-    sym is.cut
-    ∙ no_more (within_piece s) front (drop place rows) (drop (place + 1) rows) row next (has_full_dictionary s front row full)
-    ∙ ap (λ (p : ℕ). front ∷ pieces (within_piece s) (drop p rows)) (sym is.place)
+    record {
+      piece = sym is.cut
+          ∙ no_more (within_piece s) front (drop place rows) (drop (place + 1) rows) row next (has_full_dictionary s front row full)
+          ∙ ap (λ (p : ℕ). front ∷ pieces (within_piece s) (drop p rows)) (sym is.place);
+      some = c.loop-place.invariant.some;
+      within = omega (arith, c.loop-place.invariant.place, c.loop-place.invariant.inside);
+      rows = c.loop-place.invariant.taken;
+    }
 
 pub loop-place-preserved : goal.loop-place-preserved
 loop-place-preserved c =
@@ -144,40 +154,18 @@ takes_row-requires-clause-seen c =
     let front : List (List Cell) = map borrowed_cells c.loop-place.piece.items in
     (front, subst (λ x. AreSeen s front (map entries_in x)) (sym c.deref_mut.ensures.value) c.loop-place.invariant.seen)
 
-pub returns-clause-piece : goal.returns-clause-piece
-returns-clause-piece c =
+pub returns : goal.returns
+returns c =
     let within : List (List Cell) → Bool = within_piece (schema_of c.args.schema.now) in
     let rows : List (List Cell) = (table_of c.args.table.now).rows in
     let is = c.loop-place.invariant in
     let front : List (List Cell) = map borrowed_cells c.loop-place.piece.items in
     let none : drop c.loop-place.place rows ≡ [] = drop_all c.loop-place.place rows (omega (arith, c.loop-place-test.false, c.len-rows.ensures)) in
-    sym is.cut
-    ∙ ap (pieces_from within front) none
-    ∙ ap (λ (x : List (List Cell)). front ∷ pieces within x) (sym (ap (λ (p : ℕ). drop p rows) is.place ∙ none))
-
-pub returns-clause-some : goal.returns-clause-some
-returns-clause-some c = c.loop-place.invariant.some
-
-pub returns-clause-within : goal.returns-clause-within
-returns-clause-within c = omega (arith, c.loop-place.invariant.place, c.loop-place.invariant.inside)
-
-pub returns-clause-rows : goal.returns-clause-rows
-returns-clause-rows c = c.loop-place.invariant.taken
-
-pub returns-then-len-ge-MAX_PIECE_ROWS-clause-some : goal.returns-then-len-ge-MAX_PIECE_ROWS-clause-some
-returns-then-len-ge-MAX_PIECE_ROWS-clause-some c = c.loop-place.invariant.some
-
-pub returns-then-len-ge-MAX_PIECE_ROWS-clause-within : goal.returns-then-len-ge-MAX_PIECE_ROWS-clause-within
-returns-then-len-ge-MAX_PIECE_ROWS-clause-within c = omega (arith, c.loop-place.invariant.place, c.loop-place.invariant.inside)
-
-pub returns-then-len-ge-MAX_PIECE_ROWS-clause-rows : goal.returns-then-len-ge-MAX_PIECE_ROWS-clause-rows
-returns-then-len-ge-MAX_PIECE_ROWS-clause-rows c = c.loop-place.invariant.taken
-
-pub returns-then-not-branch-clause-some : goal.returns-then-not-branch-clause-some
-returns-then-not-branch-clause-some c = c.loop-place.invariant.some
-
-pub returns-then-not-branch-clause-within : goal.returns-then-not-branch-clause-within
-returns-then-not-branch-clause-within c = omega (arith, c.loop-place.invariant.place, c.loop-place.invariant.inside)
-
-pub returns-then-not-branch-clause-rows : goal.returns-then-not-branch-clause-rows
-returns-then-not-branch-clause-rows c = c.loop-place.invariant.taken
+    record {
+      piece = sym is.cut
+          ∙ ap (pieces_from within front) none
+          ∙ ap (λ (x : List (List Cell)). front ∷ pieces within x) (sym (ap (λ (p : ℕ). drop p rows) is.place ∙ none));
+      some = c.loop-place.invariant.some;
+      within = omega (arith, c.loop-place.invariant.place, c.loop-place.invariant.inside);
+      rows = c.loop-place.invariant.taken;
+    }

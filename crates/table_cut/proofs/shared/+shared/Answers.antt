@@ -1,9 +1,9 @@
-use Rattle.std.proofs.Common.{◌≡◌, ◌∷◌, ◌+◌, ℕ, List, map, drop, rules, sym, subst}
+use Rattle.std.proofs.Common.{◌≡◌, ◌∷◌, ◌+◌, ℕ, List, map, drop, sym, subst}
 use Rattle.std.proofs.lemmas.List.{drop_all}
-use Rattle.arrays.specs.Shared.{SharesEntries, SharesBelow, ShareEntries}
-use Rattle.arrow_schema.specs.Column.{Kind, columns_of, lists, large_lists, fixed_lists, structs}
-use Rattle.arrow_schema.specs.View.{kind_of, column_of}
-use Rattle.arrow_schema.specs.declared.types.Field.{Field, the_lemmas as field_lemmas}
+use Rattle.arrays.specs.Shared.{SharesEntries, ShareEntries}
+use Rattle.arrow_schema.specs.Column.{columns_of}
+use Rattle.arrow_schema.specs.View.{column_of}
+use Rattle.arrow_schema.specs.declared.types.Field.{Field}
 use Rattle.columns.specs.Array.{Array, first_array}
 use Rattle.columns.specs.View.{view_array}
 use Rattle.facts.specs.laws.Lists.{drop-item}
@@ -36,31 +36,3 @@ share_entries-returns t c = λ yes.
     c.loop-i.invariant
     (subst (λ (fs : List Field). ShareEntries (columns_of (map column_of fs)) (arrays_from_place c.loop-i.i c.args.own) (arrays_from_place c.loop-i.i c.args.others))
     (sym (drop_all c.loop-i.i c.args.fields.now c.loop-i-test.false)) tt)
-
-pub shares_below-returns-in-List : goal.shares_below-returns-in-List
-unfolding SharesBelow
-shares_below-returns-in-List t c = λ yes.
-    let kind : kind_of c.args.data_type.now ≡ lists (column_of c.in-List.item.value) = rw c.in-List.is (search (rules, field_lemmas)) in
-    let same = rw (c.deref.ensures, c.items_or.ensures, c.items_or-in-List.ensures) at (c.shares_entries.ensures yes) in
-    subst (λ (k : Kind). SharesBelow k (view_array c.args.own) (view_array c.args.others)) (sym kind) same
-
-pub shares_below-returns-in-LargeList : goal.shares_below-returns-in-LargeList
-unfolding SharesBelow
-shares_below-returns-in-LargeList t c = λ yes.
-    let kind : kind_of c.args.data_type.now ≡ large_lists (column_of c.in-LargeList.item.value) = rw c.in-LargeList.is (search (rules, field_lemmas)) in
-    let same = rw (c.deref-in-LargeList.ensures, c.items_or-in-LargeList.ensures, c.items_or-in-LargeList-2.ensures) at (c.shares_entries-in-LargeList.ensures yes) in
-    subst (λ (k : Kind). SharesBelow k (view_array c.args.own) (view_array c.args.others)) (sym kind) same
-
-pub shares_below-returns-in-FixedSizeList : goal.shares_below-returns-in-FixedSizeList
-unfolding SharesBelow
-shares_below-returns-in-FixedSizeList t c = λ yes.
-    let kind : kind_of c.args.data_type.now ≡ fixed_lists c.in-FixedSizeList.field-0 (column_of c.in-FixedSizeList.item.value) = rw c.in-FixedSizeList.is (search (rules, field_lemmas)) in
-    let same = rw (c.deref-in-FixedSizeList.ensures, c.items_or-in-FixedSizeList.ensures, c.items_or-in-FixedSizeList-2.ensures) at (c.shares_entries-in-FixedSizeList.ensures yes) in
-    subst (λ (k : Kind). SharesBelow k (view_array c.args.own) (view_array c.args.others)) (sym kind) same
-
-pub shares_below-returns-in-Struct : goal.shares_below-returns-in-Struct
-unfolding SharesBelow
-shares_below-returns-in-Struct t c = λ yes.
-    let kind : kind_of c.args.data_type.now ≡ structs (columns_of (map column_of c.in-Struct.fields.items)) = rw c.in-Struct.is (search (rules, field_lemmas)) in
-    let same = rw (c.deref-in-Struct.ensures.value, c.children_of.ensures, c.children_of-in-Struct.ensures) at (c.share_entries.ensures yes) in
-    subst (λ (k : Kind). SharesBelow k (view_array c.args.own) (view_array c.args.others)) (sym kind) same

@@ -1,22 +1,20 @@
-use Rattle.std.specs.Prelude.{Result, string_bytes}
-use Rattle.std.proofs.Common.{◌≡◌, ◌∙◌, ◌+◌, refl, sym, ap, [], ◌∷◌, map, drop, arith, rules}
+use Rattle.std.specs.Prelude.{Result}
+use Rattle.std.proofs.Common.{◌≡◌, ◌∙◌, ◌+◌, sym, ap, [], ◌∷◌, map, drop, arith, rules}
 use Rattle.std.proofs.lemmas.List.{drop_all, map-append}
 use Rattle.std.proofs.lemmas.Result.{err_from_is_err_and}
 use Rattle.facts.specs.laws.Lists.{drop-item}
 use Rattle.serde_json.specs.Data.{Members, array, object}
 use Rattle.serde_json.specs.View.{view, items_view, members_view}
 use Rattle.serde_json.specs.declared.value.Value.{the_lemmas as json_lemmas}
-use Rattle.arrow_schema.specs.declared.types.Field.{the_lemmas as field_lemmas}
-use Rattle.arrow_schema.specs.Column.{nulls, booleans, integers, dates, timestamps, texts, large_texts, binaries, large_binaries, fixed_binaries, lists, large_lists, fixed_lists, structs, columns_of}
-use Rattle.arrow_schema.specs.Parts.{kind_of_column}
-use Rattle.arrow_schema.specs.View.{column_of, kind_of, bits_of, date_kind, time_kind}
+use Rattle.arrow_schema.specs.Column.{columns_of}
+use Rattle.arrow_schema.specs.View.{column_of}
 use Rattle.cells.specs.View.{cell}
-use Rattle.text_import.specs.Objects.{cell_in, kind_in, each_item, cells_by_place, cells_by_name, column_count, named_parts, names_of}
+use Rattle.text_import.specs.Objects.{cell_in, each_item, cells_by_place, cells_by_name, named_parts, names_of}
 use Rattle.text_import.specs.Refusals.{and_then, refusal_of}
 use Rattle.text_import.specs.declared.refusal.Refusal.{Refusal}
 use Rattle.text_import.specs.inner.Names.{member_of, tested}
 use Rattle.text_import.specs.laws.Behind.{told}
-use Rattle.text_import.proofs.ObjectLemmas.{sized_no, sized_yes, column_count_is, named_first, item_more, item_refused, place_more, place_refused, places_end, name_more, name_refused, names_end}
+use Rattle.text_import.proofs.ObjectLemmas.{sized_no, sized_yes, named_first, item_more, item_refused, place_more, place_refused, places_end, name_more, name_refused, names_end}
 use Rattle.text_import.proofs.RowLemmas.{cells_behind_end}
 use Rattle.text_import.proofs.objects.+cells.Goals as goal
 
@@ -94,16 +92,6 @@ sized_items-returns-then-values-size t c = sized_no c.args.size (each_item (cell
 
 pub sized_items-returns : goal.sized_items-returns
 sized_items-returns t c = rw (sized_yes c.args.size (each_item (cell_in (column_of c.args.item.now))) c.args.values.now c.if-values-size.false) c.each_item.ensures
-
-pub sized_cells-returns-then-values-fields : goal.sized_cells-returns-then-values-fields
-sized_cells-returns-then-values-fields t c =
-    let columns = columns_of (map column_of c.args.fields.now) in
-    sized_no (column_count columns) (cells_by_place columns) c.args.values.now (λ e. c.if-values-fields.true (e ∙ column_count_is c.args.fields.now))
-
-pub sized_cells-returns : goal.sized_cells-returns
-sized_cells-returns t c =
-    let columns = columns_of (map column_of c.args.fields.now) in
-    rw (sized_yes (column_count columns) (cells_by_place columns) c.args.values.now (c.if-values-fields.false ∙ sym (column_count_is c.args.fields.now))) c.cells_by_place.ensures
 
 pub cells_in-returns-in-Array : goal.cells_in-returns-in-Array
 cells_in-returns-in-Array t c =
@@ -192,104 +180,6 @@ cells_by_name-returns-in_err-member_in t c =
     c.in_err-member_in.ensures
     (λ r e. sym kept ∙ name_refused (map cell c.loop-field.cells.items) (column_of f) (columns_of (map column_of (drop (i + 1) c.args.fields.now))) ms r e)
     )
-
-pub typed_in-returns-in-Null : goal.typed_in-returns-in-Null
-unfolding kind_in
-typed_in-returns-in-Null t c =
-    let own : kind_of_column (column_of c.args.field.now) ≡ kind_of c.args.field.now.data_type = search (rules, field_lemmas) in
-    let kind : kind_of_column (column_of c.args.field.now) ≡ nulls = own ∙ rw c.in-Null.is (search (rules, field_lemmas)) in
-    rw kind refl
-
-pub typed_in-returns-in-Bool : goal.typed_in-returns-in-Bool
-unfolding kind_in
-typed_in-returns-in-Bool t c =
-    let own : kind_of_column (column_of c.args.field.now) ≡ kind_of c.args.field.now.data_type = search (rules, field_lemmas) in
-    let kind : kind_of_column (column_of c.args.field.now) ≡ booleans = own ∙ rw c.in-Bool.is (search (rules, field_lemmas)) in
-    rw kind c.boolean_in.ensures
-
-pub typed_in-returns-in-Int : goal.typed_in-returns-in-Int
-unfolding kind_in
-typed_in-returns-in-Int t c =
-    let own : kind_of_column (column_of c.args.field.now) ≡ kind_of c.args.field.now.data_type = search (rules, field_lemmas) in
-    let kind : kind_of_column (column_of c.args.field.now) ≡ integers (bits_of c.in-Int.field-0.width) c.in-Int.field-0.signed = own ∙ rw c.in-Int.is (search (rules, field_lemmas)) in
-    rw kind (rw kind at c.number_in.ensures)
-
-pub typed_in-returns-in-Date : goal.typed_in-returns-in-Date
-unfolding kind_in
-typed_in-returns-in-Date t c =
-    let own : kind_of_column (column_of c.args.field.now) ≡ kind_of c.args.field.now.data_type = search (rules, field_lemmas) in
-    let kind : kind_of_column (column_of c.args.field.now) ≡ dates (date_kind c.in-Date.field-0) = own ∙ rw c.in-Date.is (search (rules, field_lemmas)) in
-    rw kind (rw kind at c.number_in-in-Date.ensures)
-
-pub typed_in-returns-in-Timestamp : goal.typed_in-returns-in-Timestamp
-unfolding kind_in
-typed_in-returns-in-Timestamp t c =
-    let own : kind_of_column (column_of c.args.field.now) ≡ kind_of c.args.field.now.data_type = search (rules, field_lemmas) in
-    let kind : kind_of_column (column_of c.args.field.now) ≡ timestamps (time_kind c.in-Timestamp.field-0) (string_bytes c.in-Timestamp.field-1) = own ∙ rw c.in-Timestamp.is (search (rules, field_lemmas)) in
-    rw kind (rw kind at c.number_in-in-Timestamp.ensures)
-
-pub typed_in-returns-in-Utf8 : goal.typed_in-returns-in-Utf8
-unfolding kind_in
-typed_in-returns-in-Utf8 t c =
-    let own : kind_of_column (column_of c.args.field.now) ≡ kind_of c.args.field.now.data_type = search (rules, field_lemmas) in
-    let kind : kind_of_column (column_of c.args.field.now) ≡ texts = own ∙ rw c.in-Utf8.is (search (rules, field_lemmas)) in
-    rw kind c.text_in.ensures
-
-pub typed_in-returns-in-LargeUtf8 : goal.typed_in-returns-in-LargeUtf8
-unfolding kind_in
-typed_in-returns-in-LargeUtf8 t c =
-    let own : kind_of_column (column_of c.args.field.now) ≡ kind_of c.args.field.now.data_type = search (rules, field_lemmas) in
-    let kind : kind_of_column (column_of c.args.field.now) ≡ large_texts = own ∙ rw c.in-LargeUtf8.is (search (rules, field_lemmas)) in
-    rw kind c.text_in-in-LargeUtf8.ensures
-
-pub typed_in-returns-in-Binary : goal.typed_in-returns-in-Binary
-unfolding kind_in
-typed_in-returns-in-Binary t c =
-    let own : kind_of_column (column_of c.args.field.now) ≡ kind_of c.args.field.now.data_type = search (rules, field_lemmas) in
-    let kind : kind_of_column (column_of c.args.field.now) ≡ binaries = own ∙ rw c.in-Binary.is (search (rules, field_lemmas)) in
-    rw kind (rw kind at c.bytes_in.ensures)
-
-pub typed_in-returns-in-LargeBinary : goal.typed_in-returns-in-LargeBinary
-unfolding kind_in
-typed_in-returns-in-LargeBinary t c =
-    let own : kind_of_column (column_of c.args.field.now) ≡ kind_of c.args.field.now.data_type = search (rules, field_lemmas) in
-    let kind : kind_of_column (column_of c.args.field.now) ≡ large_binaries = own ∙ rw c.in-LargeBinary.is (search (rules, field_lemmas)) in
-    rw kind (rw kind at c.bytes_in-in-LargeBinary.ensures)
-
-pub typed_in-returns-in-FixedSizeBinary : goal.typed_in-returns-in-FixedSizeBinary
-unfolding kind_in
-typed_in-returns-in-FixedSizeBinary t c =
-    let own : kind_of_column (column_of c.args.field.now) ≡ kind_of c.args.field.now.data_type = search (rules, field_lemmas) in
-    let kind : kind_of_column (column_of c.args.field.now) ≡ fixed_binaries c.in-FixedSizeBinary.field-0 = own ∙ rw c.in-FixedSizeBinary.is (search (rules, field_lemmas)) in
-    rw kind (rw kind at c.bytes_in-in-FixedSizeBinary.ensures)
-
-pub typed_in-returns-in-List : goal.typed_in-returns-in-List
-unfolding kind_in
-typed_in-returns-in-List t c =
-    let own : kind_of_column (column_of c.args.field.now) ≡ kind_of c.args.field.now.data_type = search (rules, field_lemmas) in
-    let kind : kind_of_column (column_of c.args.field.now) ≡ lists (column_of c.in-List.item.value) = own ∙ rw c.in-List.is (search (rules, field_lemmas)) in
-    rw kind (rw c.deref.ensures at c.list_in.ensures)
-
-pub typed_in-returns-in-LargeList : goal.typed_in-returns-in-LargeList
-unfolding kind_in
-typed_in-returns-in-LargeList t c =
-    let own : kind_of_column (column_of c.args.field.now) ≡ kind_of c.args.field.now.data_type = search (rules, field_lemmas) in
-    let kind : kind_of_column (column_of c.args.field.now) ≡ large_lists (column_of c.in-LargeList.item.value) = own ∙ rw c.in-LargeList.is (search (rules, field_lemmas)) in
-    rw kind (rw c.deref-in-LargeList.ensures at c.list_in-in-LargeList.ensures)
-
-pub typed_in-returns-in-FixedSizeList : goal.typed_in-returns-in-FixedSizeList
-unfolding kind_in
-typed_in-returns-in-FixedSizeList t c =
-    let own : kind_of_column (column_of c.args.field.now) ≡ kind_of c.args.field.now.data_type = search (rules, field_lemmas) in
-    let kind : kind_of_column (column_of c.args.field.now) ≡ fixed_lists c.in-FixedSizeList.size (column_of c.in-FixedSizeList.item.value) = own ∙ rw c.in-FixedSizeList.is (search (rules, field_lemmas)) in
-    rw kind (rw c.deref-in-FixedSizeList.ensures at c.fixed_list_in.ensures)
-
-pub typed_in-returns-in-Struct : goal.typed_in-returns-in-Struct
-unfolding kind_in
-typed_in-returns-in-Struct t c =
-    let own : kind_of_column (column_of c.args.field.now) ≡ kind_of c.args.field.now.data_type = search (rules, field_lemmas) in
-    let kind : kind_of_column (column_of c.args.field.now) ≡ structs (columns_of (map column_of c.in-Struct.fields.items)) = own ∙ rw c.in-Struct.is (search (rules, field_lemmas)) in
-    rw kind (c.struct_cell.ensures _ (rw c.deref-in-Struct.ensures.value at c.cells_in.ensures))
 
 pub list_in-returns-in-Array : goal.list_in-returns-in-Array
 list_in-returns-in-Array t c =

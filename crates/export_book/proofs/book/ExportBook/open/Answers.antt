@@ -1,9 +1,10 @@
 use Rattle.std.proofs.Common.{◌≡◌, ◌<◌, ◌^◌, ℕ, List, Result, Ok, Err, OnErr, refl, sym, ap, subst}
+use Rattle.export_book.specs.laws.Ids.{has_room}
 use Rattle.catalogue.specs.Entries.{plain_entry}
 use Rattle.export_book.specs.declared.export.OpenExport.{OpenExport}
 use Rattle.export_book.specs.Book.{IsBook}
 use Rattle.export_book.specs.Plain.{book_in, next_id}
-use Rattle.export_book.proofs.Books.{some_id, has_room, open_book, opened_is, counted_next}
+use Rattle.export_book.proofs.Books.{some_id, open_book, opened_is, counted_next}
 use Rattle.export_book.proofs.book.ExportBook.open.Goals as goal
 
 pub unwrap-id-requires : goal.unwrap-id-requires

@@ -2,7 +2,8 @@ use Rattle.std.proofs.Common.{ℕ, List, inl, inr, refl, sym, ap, ◌∙◌, str
 use Rattle.std.proofs.lemmas.Bool.{true≢false}
 use Rattle.tables.specs.Commands.{append_stream}
 use Rattle.tables.specs.declared.refusal.Refusal.TheVariants as refusals
-use Rattle.store.proofs.Taken.{no_tables_there, heavy_appends, entry_there, entry_absent, takes_halted, takes_first, takes_refused, takes_whole}
+use Rattle.store_changes.specs.laws.Tested.{entry_none, entry_some}
+use Rattle.store.proofs.Taken.{no_tables_there, heavy_appends, takes_halted, takes_first, takes_refused, takes_whole}
 use Rattle.store.proofs.store.Store.append_from.Goals as goal
 
 pub returns-then-self-clause-takes : goal.returns-then-self-clause-takes
@@ -13,12 +14,12 @@ pub returns-then-not-has_table-clause-takes : goal.returns-then-not-has_table-cl
 returns-then-not-has_table-clause-takes g c =
     let D = g.D.SectorDevice in
     takes_first D.size D.story D.failed D.tells (g.R.Read.remaining c.args.reader.now) (append_stream c.args.name.now) c.args.self.now refusals.NoTable c.if-self.false refl (λ is. cc is)
-    (λ bytes. no_tables_there D.story D.tells c.args.self.now c.args.name.now bytes (entry_absent _ (sym c.has_table.ensures.has ∙ c.if-not-has_table.true)))
+    (λ bytes. no_tables_there D.story D.tells c.args.self.now c.args.name.now bytes (entry_none _ (sym c.has_table.ensures.has ∙ c.if-not-has_table.true)))
 
 pub returns-in-Err-clause-takes : goal.returns-in-Err-clause-takes
 returns-in-Err-clause-takes g c =
     let D = g.D.SectorDevice in
-    let there = entry_there _ (sym c.has_table.ensures.has ∙ c.if-not-has_table.false) in
+    let there = entry_some _ (sym c.has_table.ensures.has ∙ c.if-not-has_table.false) in
     takes_refused D.size D.story D.failed D.tells (g.R.Read.remaining c.args.reader.now) (append_stream c.args.name.now) c.args.self.now (g.R.Read.remaining c.named_input.new.reader) c.in-Err.refusal c.if-self.false c.in-Err.ensures.told
     (heavy_appends D.story D.tells c.args.self.now c.args.name.now there.0 there.1)
 

@@ -1,6 +1,7 @@
 use Rattle.std.proofs.Common.{◌≡◌, ◌≢◌, Bool, true, false, Some, Result, Ok, Err, refl, sym, ap, ◌∙◌, subst}
 use Rattle.std.specs.Prelude.{IfErr, OnOk, ℕ}
 use Rattle.std.proofs.lemmas.Bool.{true≢false}
+use Rattle.std.proofs.lemmas.Result.{IfErr-weaker}
 use Rattle.sector_dev.specs.Disk.{Disk, Story, now, shown_image}
 use Rattle.sector_dev.specs.laws.Time.{stays}
 use Rattle.sector_dev.specs.Time.{OnlyReads}
@@ -25,7 +26,7 @@ use Rattle.store_runs.specs.Deciding.{IsAnswered, reads_device}
 use Rattle.store_changes.specs.laws.Decided.{is_change, with_ok}
 use Rattle.store.proofs.Asked.{is_running}
 use Rattle.store.proofs.ReadsStore.{shown, fits_reading}
-use Rattle.store.proofs.Applied.{change_verdict, refuses_first, refuses_halted, goes_after, tells_command, err_weaker, ends_after, kept_after, on_disk_after, decided_after, stood, writes_after, written_after, read_kept, read_halts}
+use Rattle.store.proofs.Applied.{change_verdict, refuses_first, refuses_halted, goes_after, tells_command, ends_after, kept_after, on_disk_after, decided_after, stood, writes_after, written_after, read_kept, read_halts}
 use Rattle.store.proofs.Goings.{carried_goes, command_writes, command_written}
 use Rattle.store.proofs.store.Store.apply.Goals as goal
 
@@ -90,7 +91,7 @@ returns-in-Ok-clause-applied g c = λ on.
 pub returns-in-Ok-clause-refused : goal.returns-in-Ok-clause-refused
 returns-in-Ok-clause-refused g c =
     let D = g.D.SectorDevice in
-    err_weaker c.carry_out-ended.result (λ e. IsKept c.decide.new.self c.carry_out-ended.new.self) (λ e. IsKept c.args.self.now c.carry_out-ended.new.self)
+    IfErr-weaker c.carry_out-ended.result (λ e. IsKept c.decide.new.self c.carry_out-ended.new.self) (λ e. IsKept c.args.self.now c.carry_out-ended.new.self)
     (λ e kept. kept_after D.size D.story D.failed D.tells c.args.self.now c.decide.new.self done c.in-Ok.ensures.reads c.carry_out-ended.new.self kept) c.carry_out-ended.ensures.kept
 
 pub returns-in-Err-clause-refused : goal.returns-in-Err-clause-refused
@@ -100,14 +101,14 @@ returns-in-Err-clause-refused g c =
 pub returns-in-Ok-clause-quiet : goal.returns-in-Ok-clause-quiet
 returns-in-Ok-clause-quiet g c =
     let D = g.D.SectorDevice in
-    err_weaker c.carry_out-ended.result (λ e. e ≢ refusals.Device → D.story c.carry_out-ended.new.self.device ≡ D.story c.decide.new.self.device)
+    IfErr-weaker c.carry_out-ended.result (λ e. e ≢ refusals.Device → D.story c.carry_out-ended.new.self.device ≡ D.story c.decide.new.self.device)
     (λ e. e ≢ refusals.Device → reads_device (command_of c.args.command) ≡ false → D.story c.carry_out-ended.new.self.device ≡ D.story c.args.self.now.device)
     (λ e quiet other plain. quiet other ∙ ap (λ s. D.story s.device) (c.in-Ok.ensures.still plain)) c.carry_out-ended.ensures.quiet
 
 pub returns-in-Ok-clause-reads : goal.returns-in-Ok-clause-reads
 returns-in-Ok-clause-reads g c =
     let D = g.D.SectorDevice in
-    err_weaker c.carry_out-ended.result (λ e. e ≢ refusals.Device → D.story c.carry_out-ended.new.self.device ≡ D.story c.decide.new.self.device)
+    IfErr-weaker c.carry_out-ended.result (λ e. e ≢ refusals.Device → D.story c.carry_out-ended.new.self.device ≡ D.story c.decide.new.self.device)
     (λ e. e ≢ refusals.Device → D.tells ≡ true → OnlyReads (D.story c.args.self.now.device) (D.story c.carry_out-ended.new.self.device))
     (λ e quiet other told. subst (λ (s : Story). OnlyReads (D.story c.args.self.now.device) s) (sym (quiet other)) (c.in-Ok.ensures.reads.device.moments told)) c.carry_out-ended.ensures.quiet
 

@@ -10,17 +10,17 @@ use Rattle.store_runs.specs.Calls.{refused}
 use Rattle.store.specs.Exported.{AreExportable}
 use Rattle.store.specs.Fits.{book_of, listed_in}
 use Rattle.store_changes.specs.laws.ReadTables.{reads_quiet}
+use Rattle.store.proofs.Applied.{reads_nothing}
 use Rattle.store.proofs.OpenExports.{left_exportable, closed_uses, none_left_out}
 use Rattle.store.proofs.ExportAnswers.{close_halted, close_missing, closes_at}
+use Rattle.store.proofs.StillSound.{still_sound}
 use Rattle.store.proofs.store.Store.close_by_id.Goals as goal
 
 pub returns-then-self-clause-told : goal.returns-then-self-clause-told
 returns-then-self-clause-told g c = let s = c.args.self.now in close_halted s.halted (open_at (book_of s) c.args.id) c.if-self.true
 
 pub returns-then-self-clause-kept : goal.returns-then-self-clause-kept
-returns-then-self-clause-kept g c =
-    let D = g.D.SectorDevice in
-    record { device = reads_quiet D.size D.story D.failed D.tells (refused Halted) c.args.self.now.device refl; kept = refl; book = refl; halts = sym (or_false c.args.self.now.halted) }
+returns-then-self-clause-kept g c = let D = g.D.SectorDevice in reads_nothing D.size D.story D.failed D.tells (refused Halted) c.args.self.now refl
 
 pub returns-in-None-clause-told : goal.returns-in-None-clause-told
 returns-in-None-clause-told g c = let s = c.args.self.now in close_missing s.halted (open_at (book_of s) c.args.id) c.if-self.false (sym c.in-None.ensures.export)
@@ -67,13 +67,4 @@ pub invariant_of-self-in-None : goal.invariant_of-self-in-None
 invariant_of-self-in-None g c =
     let s = c.args.self.now in
     let same : without c.args.id (book_of s) ≡ book_of s = ap (λ (es : List PlainExport). record { exports = es; next = (book_of s).next }) (none_left_out (book_of s).exports c.args.id (sym c.in-None.ensures.export)) in
-    let book = c.close.ensures.closed ∙ same in
-    record {
-      in_limits = s.in_limits;
-      same = s.same;
-      own = s.own;
-      fit = s.fit;
-      placed = s.placed;
-      uses = subst (λ (b : PlainBook). Uses s.opened.map.entries (s.opened.commit.catalogue.run ∷ runs_of (listed_in s)) (runs_kept b.exports)) (sym book) s.uses;
-      exported = subst (λ (b : PlainBook). AreExportable (g.D.SectorDevice.size s.device) b.exports) (sym book) s.exported;
-    }
+    assumption (still_sound s _ _ refl (c.close.ensures.closed ∙ same))

@@ -1,23 +1,17 @@
 use Rattle.std.specs.Prelude.{◌||◌}
-use Rattle.std.proofs.Common.{◌≡◌, Bool, true, None, ℕ, refl, sym, ap, ◌∙◌, subst}
+use Rattle.std.proofs.Common.{Bool, refl, sym, ap, ◌∙◌, subst}
 use Rattle.std.proofs.lemmas.Result.{IfOk-weaker, IfErr-weaker}
 use Rattle.sector_dev.specs.Disk.{now, shown_image}
-use Rattle.segments.specs.laws.Usages.{or_false}
-use Rattle.catalogue.specs.Entries.{runs_of}
-use Rattle.commit.specs.Standing.{is_size, is_on_device, runs_fault}
 use Rattle.tables.specs.declared.refusal.Refusal.TheVariants.{Halted}
 use Rattle.store.specs.Agreeing.{SaysAgreement, RefusesAgreement}
 use Rattle.store_runs.specs.Calls.{is_device_reply, refused}
-use Rattle.store.specs.Exported.{AreExportable}
-use Rattle.store.specs.Fits.{book_of, listed_in}
 use Rattle.store_runs.specs.Reading.{ended}
-use Rattle.store_changes.specs.laws.ReadTables.{reads_quiet}
+use Rattle.store.proofs.Applied.{reads_nothing}
+use Rattle.store.proofs.StillSound.{still_sound}
 use Rattle.store.proofs.store.Store.commits_agree.Goals as goal
 
 pub returns-then-self-clause-reads : goal.returns-then-self-clause-reads
-returns-then-self-clause-reads g c =
-    let D = g.D.SectorDevice in
-    record { device = reads_quiet D.size D.story D.failed D.tells (refused Halted) c.args.self.now.device refl; kept = refl; book = refl; halts = sym (or_false c.args.self.now.halted) }
+returns-then-self-clause-reads g c = let D = g.D.SectorDevice in reads_nothing D.size D.story D.failed D.tells (refused Halted) c.args.self.now refl
 
 pub returns-clause-found : goal.returns-clause-found
 returns-clause-found g c =
@@ -37,14 +31,4 @@ returns-clause-reads g c =
 
 pub invariant_of-self : goal.invariant_of-self
 invariant_of-self g c =
-    let s = c.args.self.now in
-    let sized = c.agreement_on-said.ensures.reads.same in
-    record {
-      in_limits = subst (λ (n : ℕ). is_size n ≡ true) (sym sized) s.in_limits;
-      same = s.same ∙ sym sized;
-      own = s.own ∙ sym sized;
-      fit = subst (λ (n : ℕ). runs_fault n s.opened.commit.catalogue.run (runs_of (listed_in s)) ≡ None) (sym sized) s.fit;
-      placed = subst (λ (n : ℕ). is_on_device n s.opened.commit.catalogue.run ≡ true) (sym sized) s.placed;
-      uses = s.uses;
-      exported = subst (λ (n : ℕ). AreExportable n (book_of s).exports) (sym sized) s.exported;
-    }
+    assumption (still_sound c.args.self.now _ _ c.agreement_on-said.ensures.reads.same refl)

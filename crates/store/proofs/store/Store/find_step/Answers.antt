@@ -1,25 +1,22 @@
 use Rattle.std.specs.Prelude.{◌||◌}
-use Rattle.std.proofs.Common.{◌≡◌, Bool, true, None, ℕ, refl, sym, ap, ◌∙◌, subst}
+use Rattle.std.proofs.Common.{◌≡◌, Bool, true, ℕ, refl, sym, ap, ◌∙◌, subst}
 use Rattle.std.proofs.lemmas.Result.{IfOk-weaker, IfErr-weaker}
 use Rattle.sector_dev.specs.Disk.{now, shown_image}
 use Rattle.segments.specs.Usages.{IsUsedIn}
 use Rattle.catalogue.specs.Entries.{PlainCatalogue, runs_of}
-use Rattle.commit.specs.Standing.{is_size, is_on_device, all_on_device, runs_fault}
-use Rattle.commit.specs.laws.Frame.{fault_none}
+use Rattle.commit.specs.Standing.{all_on_device}
 use Rattle.store_runs.specs.Calls.{is_device_reply}
-use Rattle.store.specs.Fits.{book_of, listed_in}
+use Rattle.store.specs.Fits.{listed_in}
 use Rattle.store_runs.specs.Reading.{ended}
-use Rattle.store.specs.Exported.{AreExportable}
 use Rattle.store_runs.specs.Compacting.{UnreadsStep}
 use Rattle.store_changes.specs.Finding.{FindsStep}
+use Rattle.store.proofs.StillSound.{still_sound, all_placed}
 use Rattle.store.proofs.store.Store.find_step.Goals as goal
 
 pub decide_step-step-requires-clause-placed : goal.decide_step-step-requires-clause-placed
 decide_step-step-requires-clause-placed g c =
-    let D = g.D.SectorDevice in
     let s = c.args.self.now in
-    subst (λ (x : PlainCatalogue). all_on_device (D.size s.device) (runs_of x) ≡ true) (sym c.entries-entries.ensures.entries)
-    (fault_none (D.size s.device) s.opened.commit.catalogue.run (runs_of (listed_in s)) s.fit).0
+    subst (λ (x : PlainCatalogue). all_on_device (g.D.SectorDevice.size s.device) (runs_of x) ≡ true) (sym c.entries-entries.ensures.entries) (all_placed s)
 
 pub returns-clause-reads : goal.returns-clause-reads
 returns-clause-reads g c =
@@ -44,14 +41,4 @@ returns-clause-unread g c =
 
 pub invariant_of-self : goal.invariant_of-self
 invariant_of-self g c =
-    let s = c.args.self.now in
-    let sized = c.decide_step-step.ensures.reads.same in
-    record {
-      in_limits = subst (λ (n : ℕ). is_size n ≡ true) (sym sized) s.in_limits;
-      same = s.same ∙ sym sized;
-      own = s.own ∙ sym sized;
-      fit = subst (λ (n : ℕ). runs_fault n s.opened.commit.catalogue.run (runs_of (listed_in s)) ≡ None) (sym sized) s.fit;
-      placed = subst (λ (n : ℕ). is_on_device n s.opened.commit.catalogue.run ≡ true) (sym sized) s.placed;
-      uses = s.uses;
-      exported = subst (λ (n : ℕ). AreExportable n (book_of s).exports) (sym sized) s.exported;
-    }
+    assumption (still_sound c.args.self.now _ _ c.decide_step-step.ensures.reads.same refl)

@@ -17,6 +17,7 @@ use Rattle.store.specs.Fits.{book_of, listed_in}
 use Rattle.store_changes.specs.laws.ReadTables.{reads_quiet}
 use Rattle.store.proofs.OpenExports.{found_exportable, given_exportable, kept_given}
 use Rattle.store.proofs.ExportAnswers.{piece_given, piece_refused, next_halted, next_missing, may_give_some, counted_some, counted_none}
+use Rattle.store.proofs.StillSound.{still_sound}
 use Rattle.store.proofs.store.Store.give_piece.Goals as goal
 
 pub next_piece-piece-requires-clause-sound : goal.next_piece-piece-requires-clause-sound
@@ -96,17 +97,7 @@ returns-then-is_some-clause-counted g c = counted_some _ (λ v. v.items) _ _ c.a
 
 pub invariant_of-self-in_default : goal.invariant_of-self-in_default
 invariant_of-self-in_default g c =
-    let s = c.args.self.now in
-    let sized = c.next_piece-piece.ensures.reads.same in
-    record {
-      in_limits = subst (λ (n : ℕ). is_size n ≡ true) (sym sized) s.in_limits;
-      same = s.same ∙ sym sized;
-      own = s.own ∙ sym sized;
-      fit = subst (λ (n : ℕ). runs_fault n s.opened.commit.catalogue.run (runs_of (listed_in s)) ≡ None) (sym sized) s.fit;
-      placed = subst (λ (n : ℕ). is_on_device n s.opened.commit.catalogue.run ≡ true) (sym sized) s.placed;
-      uses = s.uses;
-      exported = subst (λ (n : ℕ). AreExportable n (book_of s).exports) (sym sized) s.exported;
-    }
+    assumption (still_sound c.args.self.now _ _ c.next_piece-piece.ensures.reads.same refl)
 
 pub returns-in_default-clause-given : goal.returns-in_default-clause-given
 returns-in_default-clause-given g c =

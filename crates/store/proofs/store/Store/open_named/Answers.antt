@@ -17,6 +17,7 @@ use Rattle.store.specs.Fits.{book_of, listed_in}
 use Rattle.store_changes.specs.laws.ReadTables.{reads_quiet}
 use Rattle.store.proofs.OpenExports.{entry_once, entry_used, entry_short, entry_exportable, some_opened, opened_runs, more_exportable, opened_uses}
 use Rattle.store.proofs.ExportAnswers.{opens_at, open_refused_at}
+use Rattle.store.proofs.StillSound.{still_sound}
 use Rattle.store.proofs.store.Store.open_named.Goals as goal
 
 pub open-requires-clause-short : goal.open-requires-clause-short
@@ -98,17 +99,7 @@ returns-in-Ok-open-clause-opened g c =
 -- ---- it was not
 
 pub invariant_of-self-in-Err-open : goal.invariant_of-self-in-Err-open
-invariant_of-self-in-Err-open g c =
-    let s = c.args.self.now in
-    record {
-      in_limits = s.in_limits;
-      same = s.same;
-      own = s.own;
-      fit = s.fit;
-      placed = s.placed;
-      uses = subst (λ (b : PlainBook). Uses s.opened.map.entries (s.opened.commit.catalogue.run ∷ runs_of (listed_in s)) (runs_kept b.exports)) (sym c.in-Err-open.ensures.err) s.uses;
-      exported = subst (λ (b : PlainBook). AreExportable (g.D.SectorDevice.size s.device) b.exports) (sym c.in-Err-open.ensures.err) s.exported;
-    }
+invariant_of-self-in-Err-open g c = assumption (still_sound c.args.self.now _ _ refl c.in-Err-open.ensures.err)
 
 pub returns-in-Err-open-clause-told : goal.returns-in-Err-open-clause-told
 returns-in-Err-open-clause-told g c =

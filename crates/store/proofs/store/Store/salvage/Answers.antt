@@ -1,40 +1,30 @@
 use Rattle.std.specs.Prelude.{◌||◌}
-use Rattle.std.proofs.Common.{◌≡◌, Bool, Some, refl, sym, ap, ℕ, true, None, subst, ◌∙◌}
+use Rattle.std.proofs.Common.{Bool, refl, sym, ap, ◌∙◌}
 use Rattle.std.proofs.lemmas.Result.{IfOk-weaker, IfErr-weaker}
 use Rattle.sector_dev.specs.Disk.{now, shown_image}
 use Rattle.segments.specs.laws.Usages.{or_false}
-use Rattle.catalogue.specs.Entries.{is_entry, plain_entry, runs_of}
+use Rattle.catalogue.specs.Entries.{is_entry, plain_entry}
 use Rattle.catalogue.specs.Edits.{entry_of}
 use Rattle.catalogue.specs.laws.Changed.{found_passes}
-use Rattle.commit.specs.laws.Frame.{fault_none}
 use Rattle.tables.specs.declared.refusal.Refusal.TheVariants.{Halted, NoTable}
-use Rattle.store.specs.Exported.{AreExportable}
 use Rattle.store_runs.specs.Calls.{is_device_reply, refused}
-use Rattle.store.specs.Fits.{book_of, listed_in}
+use Rattle.store.specs.Fits.{listed_in}
 use Rattle.store_runs.specs.Reading.{ended}
 use Rattle.store.specs.Salvaging.{plain_left}
-use Rattle.commit.specs.Standing.{is_size, is_on_device, runs_fault}
+use Rattle.store_changes.specs.laws.ReadTables.{reads_quiet}
+use Rattle.store.proofs.Applied.{reads_nothing}
 use Rattle.store.proofs.Salvaged.{salvages_at, refuses_at, refuses_nowhere, refuses_halted}
-use Rattle.store_changes.specs.laws.ReadTables.{runs_on_device, reads_quiet}
+use Rattle.store.proofs.StillSound.{still_sound, entry_placed}
 use Rattle.store.proofs.store.Store.salvage.Goals as goal
 
 pub salvage_entry-left_out-requires-clause-placed : goal.salvage_entry-left_out-requires-clause-placed
-salvage_entry-left_out-requires-clause-placed g c =
-    let D = g.D.SectorDevice in
-    let store = c.args.self.now in
-    let found : entry_of (listed_in store) c.args.name.now ≡ Some (plain_entry c.in-Some.entry.now) = sym c.in-Some.ensures.entry in
-    runs_on_device (D.size store.device) (listed_in store) c.args.name.now (plain_entry c.in-Some.entry.now)
-    (fault_none (D.size store.device) store.opened.commit.catalogue.run (runs_of (listed_in store)) store.fit).0 found
+salvage_entry-left_out-requires-clause-placed g c = entry_placed c.args.self.now _ (plain_entry c.in-Some.entry.now) (sym c.in-Some.ensures.entry)
 
 pub salvage_entry-left_out-requires-clause-sound : goal.salvage_entry-left_out-requires-clause-sound
-salvage_entry-left_out-requires-clause-sound g c =
-    let store = c.args.self.now in
-    found_passes is_entry (listed_in store) c.args.name.now (plain_entry c.in-Some.entry.now) c.in-Some.ensures.kept.entries (sym c.in-Some.ensures.entry)
+salvage_entry-left_out-requires-clause-sound g c = found_passes is_entry (listed_in c.args.self.now) _ (plain_entry c.in-Some.entry.now) c.in-Some.ensures.kept.entries (sym c.in-Some.ensures.entry)
 
 pub returns-then-self-clause-reads : goal.returns-then-self-clause-reads
-returns-then-self-clause-reads g c =
-    let D = g.D.SectorDevice in
-    record { device = reads_quiet D.size D.story D.failed D.tells (refused Halted) c.args.self.now.device refl; kept = refl; book = refl; halts = sym (or_false c.args.self.now.halted) }
+returns-then-self-clause-reads g c = let D = g.D.SectorDevice in reads_nothing D.size D.story D.failed D.tells (refused Halted) c.args.self.now refl
 
 pub returns-then-self-clause-told : goal.returns-then-self-clause-told
 returns-then-self-clause-told g c =
@@ -72,14 +62,4 @@ returns-in-None-clause-told g c =
 
 pub invariant_of-self : goal.invariant_of-self
 invariant_of-self g c =
-    let s = c.args.self.now in
-    let sized = c.salvage_entry-left_out.ensures.reads.same in
-    record {
-      in_limits = subst (λ (n : ℕ). is_size n ≡ true) (sym sized) s.in_limits;
-      same = s.same ∙ sym sized;
-      own = s.own ∙ sym sized;
-      fit = subst (λ (n : ℕ). runs_fault n s.opened.commit.catalogue.run (runs_of (listed_in s)) ≡ None) (sym sized) s.fit;
-      placed = subst (λ (n : ℕ). is_on_device n s.opened.commit.catalogue.run ≡ true) (sym sized) s.placed;
-      uses = s.uses;
-      exported = subst (λ (n : ℕ). AreExportable n (book_of s).exports) (sym sized) s.exported;
-    }
+    assumption (still_sound c.args.self.now _ _ c.salvage_entry-left_out.ensures.reads.same refl)

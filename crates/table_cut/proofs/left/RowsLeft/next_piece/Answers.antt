@@ -1,7 +1,7 @@
 use Rattle.std.specs.List.{list_all}
 use Rattle.std.proofs.Common.{◌≡◌, ◌⊎◌, inl, inr, ◌+◌, ◌<◌, ◌≤◌, ◌++◌, ◌∷◌, ℕ, List, [], length, take, drop, set, refl, sym, ap, subst, ◌∙◌, arith}
 use Rattle.std.proofs.lemmas.Bool.{and_from, cases_lt}
-use Rattle.std.proofs.lemmas.List.{drop_all}
+use Rattle.std.proofs.lemmas.List.{drop-set, drop_all}
 use Rattle.std.proofs.lemmas.Option.{slice_get_read}
 use Rattle.arrow_schema.specs.Column.{PlainSchema, Columns, columns_of}
 use Rattle.arrow_schema.specs.View.{schema_of}
@@ -19,7 +19,7 @@ use Rattle.table_cut.specs.inner.Weights.{front_weight, piece_weight}
 use Rattle.table_cut.specs.inner.Room.{HasRoom, IsSeenWithin}
 use Rattle.table_cut.specs.inner.EntrySizes.{AreSizesOf}
 use Rattle.table_cut.proofs.EntrySizeLemmas.{sizes_here, sizes_of_rest}
-use Rattle.table_cut.proofs.PieceLemmas.{IsFull, IsPastLimits, cut_here, drop_set, some_taken}
+use Rattle.table_cut.proofs.PieceLemmas.{IsFull, IsPastLimits, cut_here, some_taken}
 use Rattle.table_cut.proofs.RoomLemmas.{HasRoomBelow, rows_of_parts, rows_of_first, front_room, lighter_front}
 use Rattle.table_cut.proofs.RunSteps.{has_taken, run_first, sound_first, taken_front, cut_front, cut_full}
 use Rattle.table_cut.proofs.left.RowsLeft.next_piece.Goals.{then-loop-self-test+else-rows-lt-MAX_PIECE_ROWS, else-loop-self-test}
@@ -184,34 +184,8 @@ loop-self-preserved c =
       seen = subst (λ (rows : List (List Cell)). IsSeenWithin s rows c.in_ok-room.room.seen) seen_rows (c.in_ok-room.ensures.seen (omega (arith, same, c.front-most.ensures.len)));
     }
 
-pub returns-then-room-run-clause-count : goal.returns-then-room-run-clause-count
-returns-then-room-run-clause-count c =
-    let s : PlainSchema = schema_of c.args.schema.now in
-    let cs : Columns = columns_of s.columns in
-    let run : RowRun = c.index-run.result.now in
-    let k : ℕ = c.in_ok-room.room.rows in
-    let before : List (List Cell) = runs_rows cs c.loop-self.runs.items in
-    let new : List (List Cell) = runs_rows cs c.push_run.new.runs.items in
-    let taken : new ≡ before ++ take k (run_rows cs run) = c.in_ok-push_run.ensures.rows cs ∙ ap (λ (xs : List (List Cell)). before ++ xs) (c.front.ensures.rows cs) in
-    let took = has_taken s before new run k (omega (arith, c.if-room-run.true)) taken in
-    omega (arith, took.count, c.loop-self.invariant.count)
-
-pub returns-then-room-run-clause-front : goal.returns-then-room-run-clause-front
-returns-then-room-run-clause-front c =
-    let cs : Columns = columns_of (schema_of c.args.schema.now).columns in
-    let is = c.loop-self.invariant in
-    let items : List RowRun = c.loop-self.self.runs.items in
-    let next : ℕ = c.loop-self.self.next in
-    let run : RowRun = c.index-run.result.now in
-    let k : ℕ = c.in_ok-room.room.rows in
-    let before : List (List Cell) = runs_rows cs c.loop-self.runs.items in
-    let new : List (List Cell) = runs_rows cs c.push_run.new.runs.items in
-    let lt : next < length items = omega (arith, c.loop-self.self.runs.ok.0, c.len.ensures, c.loop-self-test.true) in
-    let taken : new ≡ before ++ take k (run_rows cs run) = c.in_ok-push_run.ensures.rows cs ∙ ap (λ (xs : List (List Cell)). before ++ xs) (c.front.ensures.rows cs) in
-    cut_front cs items next run c.skip.result (rows_left cs c.args.self.now) before new k lt c.index-run.ensures is.front taken (c.skip.ensures.rows cs)
-
-pub returns-then-room-run-clause-piece : goal.returns-then-room-run-clause-piece
-returns-then-room-run-clause-piece c =
+pub returns-then-room-run : goal.returns-then-room-run
+returns-then-room-run c =
     let s : PlainSchema = schema_of c.args.schema.now in
     let cs : Columns = columns_of s.columns in
     let is = c.loop-self.invariant in
@@ -247,39 +221,17 @@ returns-then-room-run-clause-piece c =
     ] in
     let full : IsFull s new rest = cut_full s items next run c.skip.result new k lt (c.skip.ensures.rows cs) c.if-room-run.true past in
     let some : 1 ≤ length new = some_taken s all new rest front c.requires.rows c.requires.some full in
-    cut_here c.longest_fronts_are_pieces.ensures.next s all new rest front some
-    (omega (arith, took.count, is.count, room.within, c.fitting-taken.ensures.few, c.if-rows-lt-MAX_PIECE_ROWS.true))
-    (omega (arith, took.weight, lighter, piece, c.fitting-taken.ensures.light))
-    (ap (dictionaries_fit s) taken ∙ room.fits) full
-
-pub returns-then-room-run-clause-sound : goal.returns-then-room-run-clause-sound
-returns-then-room-run-clause-sound c =
-    let cs : Columns = columns_of (schema_of c.args.schema.now).columns in
-    let items : List RowRun = c.loop-self.self.runs.items in
-    let lt : c.loop-self.self.next < length items = omega (arith, c.loop-self.self.runs.ok.0, c.len.ensures, c.loop-self-test.true) in
-    let sound = sound_first cs items c.loop-self.self.next c.index-run.result.now lt c.index-run.ensures c.loop-self.invariant.left in
-    c.in_ok-push_run.ensures.sound cs c.loop-self.invariant.sound (c.front.ensures.sound cs sound.0)
-
-pub returns-then-room-run-clause-left : goal.returns-then-room-run-clause-left
-returns-then-room-run-clause-left c =
-    let cs : Columns = columns_of (schema_of c.args.schema.now).columns in
-    let items : List RowRun = c.loop-self.self.runs.items in
-    let next : ℕ = c.loop-self.self.next in
-    let lt : next < length items = omega (arith, c.loop-self.self.runs.ok.0, c.len.ensures, c.loop-self-test.true) in
-    let sound = sound_first cs items next c.index-run.result.now lt c.index-run.ensures c.loop-self.invariant.left in
-    ap (are_runs_sound cs) (drop_set items next c.skip.result lt) ∙ and_from _ _ (c.skip.ensures.sound cs sound.0) sound.1
-
-pub returns-clause-front : goal.returns-clause-front
-returns-clause-front c = c.loop-self.invariant.front
-
-pub returns-clause-count : goal.returns-clause-count
-returns-clause-count c = c.loop-self.invariant.count
-
-pub returns-clause-sound : goal.returns-clause-sound
-returns-clause-sound c = c.loop-self.invariant.sound
-
-pub returns-clause-left : goal.returns-clause-left
-returns-clause-left c = c.loop-self.invariant.left
+    let sound = sound_first cs items next run lt c.index-run.ensures is.left in
+    record {
+      piece = cut_here c.longest_fronts_are_pieces.ensures.next s all new rest front some
+          (omega (arith, took.count, is.count, room.within, c.fitting-taken.ensures.few, c.if-rows-lt-MAX_PIECE_ROWS.true))
+          (omega (arith, took.weight, lighter, piece, c.fitting-taken.ensures.light))
+          (ap (dictionaries_fit s) taken ∙ room.fits) full;
+      front = front;
+      count = omega (arith, took.count, is.count);
+      sound = c.in_ok-push_run.ensures.sound cs is.sound (c.front.ensures.sound cs sound.0);
+      left = ap (are_runs_sound cs) (drop-set items next c.skip.result lt) ∙ and_from _ _ (c.skip.ensures.sound cs sound.0) sound.1;
+    }
 
 -- a piece is full that has as many rows as it may have, or all that are left
 has_most : (s : PlainSchema) (piece rest : List (List Cell)) → 4096 ≤ length piece → IsFull s piece rest
@@ -289,8 +241,8 @@ has_most s piece (row ∷ rest) many = inl (inl many)
 has_all : (s : PlainSchema) (piece rest : List (List Cell)) → rest ≡ [] → IsFull s piece rest
 has_all s piece rest none = subst (λ (rows : List (List Cell)). IsFull s piece rows) (sym none) tt
 
-pub returns-clause-piece : goal.returns-clause-piece
-returns-clause-piece c =
+pub returns : goal.returns
+returns c =
     let s : PlainSchema = schema_of c.args.schema.now in
     let cs : Columns = columns_of s.columns in
     let is = c.loop-self.invariant in
@@ -302,4 +254,10 @@ returns-clause-piece c =
       | else-loop-self-test w ↦ has_all s piece rest (ap (runs_rows cs) (drop_all c.loop-self.self.next c.loop-self.self.runs.items (omega (arith, c.loop-self.self.runs.ok.0, c.len.ensures, w.loop-self-test.false))))
     ] in
     let some : 1 ≤ length piece = some_taken s all piece rest is.front c.requires.rows c.requires.some full in
-    cut_here c.longest_fronts_are_pieces.ensures.next s all piece rest is.front some (omega (arith, is.count, is.few)) is.light is.fits full
+    record {
+      piece = cut_here c.longest_fronts_are_pieces.ensures.next s all piece rest is.front some (omega (arith, is.count, is.few)) is.light is.fits full;
+      front = is.front;
+      count = is.count;
+      sound = is.sound;
+      left = is.left;
+    }

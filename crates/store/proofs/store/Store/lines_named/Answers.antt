@@ -1,0 +1,72 @@
+use Rattle.std.specs.Prelude.{◌||◌}
+use Rattle.std.proofs.Common.{Bool, refl, sym, ap, ◌∙◌}
+use Rattle.std.proofs.lemmas.Result.{IfOk-weaker, IfErr-weaker}
+use Rattle.sector_dev.specs.Disk.{now, shown_image}
+use Rattle.segments.specs.laws.Usages.{or_false}
+use Rattle.catalogue.specs.Entries.{is_entry, plain_entry}
+use Rattle.catalogue.specs.Edits.{entry_of}
+use Rattle.catalogue.specs.laws.Changed.{found_passes}
+use Rattle.tables.specs.declared.refusal.Refusal.TheVariants.{Halted, NoTable}
+use Rattle.store_runs.specs.Calls.{is_device_reply, refused}
+use Rattle.store.specs.Fits.{listed_in}
+use Rattle.store_runs.specs.Reading.{ended}
+use Rattle.store_changes.specs.laws.ReadTables.{reads_quiet}
+use Rattle.store.proofs.Applied.{reads_nothing}
+use Rattle.store.proofs.AtNames.{read_at, read_nowhere, read_halted, unread_at}
+use Rattle.store.proofs.StillSound.{still_sound, entry_placed}
+use Rattle.store.proofs.store.Store.lines_named.Goals as goal
+
+pub answer_query-answer-requires-clause-placed : goal.answer_query-answer-requires-clause-placed
+answer_query-answer-requires-clause-placed g c = entry_placed c.args.self.now _ (plain_entry c.in-Some.entry.now) (sym c.in-Some.ensures.entry)
+
+pub answer_query-answer-requires-clause-sound : goal.answer_query-answer-requires-clause-sound
+answer_query-answer-requires-clause-sound g c = found_passes is_entry (listed_in c.args.self.now) _ (plain_entry c.in-Some.entry.now) c.in-Some.ensures.kept.entries (sym c.in-Some.ensures.entry)
+
+pub returns-then-self-clause-reads : goal.returns-then-self-clause-reads
+returns-then-self-clause-reads g c = let D = g.D.SectorDevice in reads_nothing D.size D.story D.failed D.tells (refused Halted) c.args.self.now refl
+
+pub returns-then-self-clause-told : goal.returns-then-self-clause-told
+returns-then-self-clause-told g c =
+    let D = g.D.SectorDevice in
+    let store = c.args.self.now in
+    let image = shown_image (now (D.story store.device)) in
+    read_halted store.halted D.tells image (entry_of (listed_in store) c.args.name.now) c.if-self.true
+
+pub returns-in-Some-clause-reads : goal.returns-in-Some-clause-reads
+returns-in-Some-clause-reads g c =
+    record { device = c.answer_query-answer.ensures.reads; kept = refl; book = refl; halts = c.halts-self.ensures ∙ sym (ap (λ (b : Bool). b || is_device_reply (ended c.answer_query-answer.result)) c.if-self.false) }
+
+pub returns-in-Some-clause-answers : goal.returns-in-Some-clause-answers
+returns-in-Some-clause-answers g c =
+    let D = g.D.SectorDevice in
+    let store = c.args.self.now in
+    let image = shown_image (now (D.story store.device)) in
+    IfOk-weaker c.answer_query-answer.result _ _
+    (λ answer is. (is.0, read_at store.halted D.tells image (entry_of (listed_in store) c.args.name.now) (plain_entry c.in-Some.entry.now) is.0 c.if-self.false (sym c.in-Some.ensures.entry) is.1, is.2))
+    c.answer_query-answer.ensures.answers
+
+pub returns-in-Some-clause-told : goal.returns-in-Some-clause-told
+returns-in-Some-clause-told g c =
+    let D = g.D.SectorDevice in
+    let store = c.args.self.now in
+    let image = shown_image (now (D.story store.device)) in
+    IfErr-weaker c.answer_query-answer.result _ _
+    (λ e is. unread_at store.halted D.tells image (entry_of (listed_in store) c.args.name.now) (plain_entry c.in-Some.entry.now) e c.if-self.false (sym c.in-Some.ensures.entry) is) c.answer_query-answer.ensures.unread
+
+pub returns-in-None-clause-reads : goal.returns-in-None-clause-reads
+returns-in-None-clause-reads g c =
+    let D = g.D.SectorDevice in
+    record { device = reads_quiet D.size D.story D.failed D.tells (refused NoTable) c.args.self.now.device refl; kept = refl; book = refl; halts = sym (or_false c.args.self.now.halted) }
+
+pub returns-in-None-clause-told : goal.returns-in-None-clause-told
+returns-in-None-clause-told g c =
+    let D = g.D.SectorDevice in
+    let store = c.args.self.now in
+    let image = shown_image (now (D.story store.device)) in
+    read_nowhere store.halted D.tells image (entry_of (listed_in store) c.args.name.now) c.if-self.false (sym c.in-None.ensures.entry)
+
+-- ---- the device keeps its size
+
+pub invariant_of-self : goal.invariant_of-self
+invariant_of-self g c =
+    assumption (still_sound c.args.self.now _ _ c.answer_query-answer.ensures.reads.same refl)
