@@ -1,5 +1,5 @@
 // Which rows a table accepts.
-ghost use Rattle.std.specs.Prelude.{◌≡◌, [], ◌∷◌, map, is_some, IfOk, IfSome};
+ghost use Rattle.std.specs.Prelude.{◌≡◌, false, [], ◌∷◌, map, is_some, IfOk, IfSome, IsOk};
 ghost use Rattle.arrow_schema.specs.Column.{columns_of};
 ghost use Rattle.arrow_schema.specs.View.{schema_of};
 ghost use Rattle.cells.specs.View.{cell};
@@ -20,7 +20,7 @@ use std::alloc::{AllocError, Global};
 /// computed once for many rows.
 ///
 /// # Errors
-/// `AllocError` if memory was refused.
+/// `AllocError` if memory was refused. None is taken unless the schema is limited.
 #[tactic(auto, using(crate::specs::laws::Unlimited::from_unlimited))]
 pub fn dictionaries_fit(
     schema: &Schema,
@@ -29,7 +29,8 @@ pub fn dictionaries_fit(
     alloc: Global,
 ) -> Result<bool, AllocError>
     requires { limited ≡ is_any_limited (columns_of (schema_of schema.now).columns) }
-    ensures { IfOk result (λ b. b ≡ dictionaries_fit (schema_of schema.now) (map cell row.now ∷ [])) }
+    ensures fit { IfOk result (λ b. b ≡ dictionaries_fit (schema_of schema.now) (map cell row.now ∷ [])) }
+    ensures unlimited { limited ≡ false → IsOk result }
 {
     if !limited {
         return Ok(true);
@@ -55,7 +56,7 @@ fn fitting_weight(schema: &Schema, row: &[Value]) -> Option<u64>
 /// many rows.
 ///
 /// # Errors
-/// `AllocError` if memory was refused.
+/// `AllocError` if memory was refused. None is taken unless the schema is limited.
 #[tactic(auto, using(crate::specs::laws::Unlimited::from_unlimited), unfolding(crate::specs::Row::is_row))]
 pub fn accepted_weight(
     schema: &Schema,
@@ -64,7 +65,8 @@ pub fn accepted_weight(
     alloc: Global,
 ) -> Result<Option<u64>, AllocError>
     requires { limited ≡ is_any_limited (columns_of (schema_of schema.now).columns) }
-    ensures { IfOk result (λ w. w ≡ accepted_weight (schema_of schema.now) (map cell row.now)) }
+    ensures weight { IfOk result (λ w. w ≡ accepted_weight (schema_of schema.now) (map cell row.now)) }
+    ensures unlimited { limited ≡ false → IsOk result }
 {
     let Some(weight) = fitting_weight(schema, row) else {
         return Ok(None);

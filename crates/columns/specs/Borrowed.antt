@@ -1,5 +1,5 @@
 -- The meaning of a borrowed value.
-use Rattle.std.specs.Prelude.{List, map, drop}
+use Rattle.std.specs.Prelude.{Bool, true, false, List, map, drop}
 use Rattle.arrow_schema.specs.View.{column_of}
 use Rattle.columns.specs.declared.borrowed.ArraySlice.{ArraySlice}
 use Rattle.columns.specs.declared.borrowed.PartsAt.{PartsAt}
@@ -28,6 +28,15 @@ form_cells (forms.Parts p) = parts_cells p
 -- the cells of a row, the items of a list, or the parts of a struct
 abbrev pub borrowed_cells : Values → List Cell
 borrowed_cells v = form_cells v.form
+
+abbrev pub is_stored : Form → Bool
+is_stored (forms.Cells cells) = true
+is_stored (forms.Slots r) = false
+is_stored (forms.Parts p) = false
+
+-- they are stored cells, and not in arrays
+abbrev pub are_stored : Values → Bool
+are_stored v = is_stored v.form
 
 abbrev pub borrowed_cell : ValueRef → Cell
 borrowed_cell Null = null

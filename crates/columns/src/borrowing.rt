@@ -1,9 +1,9 @@
 // Access to borrowed values.
-ghost use Rattle.std.specs.Prelude.{◌≡◌, ◌==◌, length, slice_get, map, option_map, IfSome};
+ghost use Rattle.std.specs.Prelude.{◌≡◌, ◌↔◌, ◌==◌, true, length, slice_get, map, option_map, IfSome, IsSome};
 ghost use Rattle.cells.specs.Dictionary.{entry_in};
 ghost use Rattle.cells.specs.Entry.{entry_cell_of};
 ghost use Rattle.cells.specs.View.{cell};
-ghost use Rattle.columns.specs.Borrowed.{borrowed_cell, borrowed_cells, slice_cells, parts_cells, values_left};
+ghost use Rattle.columns.specs.Borrowed.{are_stored, borrowed_cell, borrowed_cells, slice_cells, parts_cells, values_left};
 
 use crate::borrowed::{ArraySlice, Form, PartsAt, ValueRef, Values, ValuesIter};
 use crate::read::value;
@@ -85,7 +85,8 @@ impl<'a> ValueRef<'a> {
 impl<'a> Values<'a> {
     /// Borrows stored cells.
     pub fn of_cells(cells: &'a [Value]) -> Values<'a>
-        ensures { borrowed_cells result ≡ map cell cells.now }
+        ensures cells { borrowed_cells result ≡ map cell cells.now }
+        ensures stored { are_stored result ≡ true }
     {
         Values {
             form: Form::Cells(cells),
@@ -123,7 +124,8 @@ impl<'a> Values<'a> {
 
     /// Returns the stored cells, if the values are not in arrays.
     pub fn as_cells(&self) -> Option<&'a [Value]>
-        ensures { IfSome result (λ cells. map cell cells.now ≡ borrowed_cells self.now) }
+        ensures cells { IfSome result (λ cells. map cell cells.now ≡ borrowed_cells self.now) }
+        ensures stored { IsSome result ↔ (are_stored self.now ≡ true) }
     {
         match self.form {
             Form::Cells(cells) => Some(cells),

@@ -1,5 +1,5 @@
 // How many slots runs have.
-ghost use Rattle.std.specs.Prelude.{◌≡◌, IfOk, length};
+ghost use Rattle.std.specs.Prelude.{◌≡◌, ◌≤◌, ◌^◌, MatchResult, length};
 ghost use Rattle.dictionary_codes.specs.Masks.{run_bits, runs_bits};
 
 use columns::SlotRun;
@@ -21,7 +21,7 @@ pub fn run_len(run: &SlotRun<'_>) -> usize
 /// # Errors
 /// `AllocError` if their number exceeds a `usize`: memory has no room for them.
 pub fn count_slots(runs: &[SlotRun<'_>]) -> Result<usize, AllocError>
-    ensures { IfOk result (λ count. count ≡ length (runs_bits runs.now)) }
+    ensures { MatchResult result (λ count. count ≡ length (runs_bits runs.now)) (λ _. 2 ^ 64 ≤ length (runs_bits runs.now)) }
 {
     let mut count = 0usize;
     for run in runs {

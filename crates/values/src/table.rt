@@ -34,9 +34,11 @@ impl Table {
     ghost use Rattle.columns.specs.Borrowed.{borrowed_cells};
     ghost use Rattle.values.specs.Parts.{are_parts_sound, parts_table};
     ghost use Rattle.values.specs.Table.{table_from};
+    ghost use Rattle.cells.specs.Dictionary.{is_any_limited};
     ghost use Rattle.cells.specs.Row.{row_of};
     ghost use Rattle.cells.specs.Weight.{table_weight};
     ghost use Rattle.values.specs.TableView.{table_of, rows_left, is_in_parts, Reports};
+    ghost use Rattle.values.specs.declared.errors.TableError.TheVariants.{OutOfMemory};
 
     /// Makes the table of these rows.
     ///
@@ -47,12 +49,13 @@ impl Table {
     ///
     /// # Errors
     /// `Unfit` with the first row, counted from 0, that does not fit, weighs more than `MAX_ROW_WEIGHT` or fills a dictionary; `Weight` if there
-    /// is none, and the rows together weigh more than `MAX_TABLE_WEIGHT`; `OutOfMemory`.
+    /// is none, and the rows together weigh more than `MAX_TABLE_WEIGHT`; `OutOfMemory`, for which a dictionary must have indices of 8 or 16 bits.
     pub fn new(alloc: Global, schema: Schema, rows: Vec<Row>) -> Result<Table, TableError>
         requires { IsWithinLimits (schema_of schema) }
         ensures made { IfOk result (λ t. table_of t ≡ record { schema = schema_of schema; rows = map row_of rows.items }) }
         ensures taken { IfOk result (λ t. table_from (schema_of schema) (map row_of rows.items) ≡ Ok (table_of t)) }
         ensures refused { IfErr result (λ e. Reports e (table_from (schema_of schema) (map row_of rows.items))) }
+        ensures memory { IfErr result (λ e. e ≡ OutOfMemory → is_any_limited (columns_of (schema_of schema).columns) ≡ true) }
     {
         let (table, _) = Table::weighed(alloc, schema, rows)?;
         Ok(table)
@@ -72,6 +75,7 @@ impl Table {
         ensures weight { IfOk result (λ t. t.1 ≡ table_weight (schema_of schema) (map row_of rows.items)) }
         ensures taken { IfOk result (λ t. table_from (schema_of schema) (map row_of rows.items) ≡ Ok (table_of t.0)) }
         ensures refused { IfErr result (λ e. Reports e (table_from (schema_of schema) (map row_of rows.items))) }
+        ensures memory { IfErr result (λ e. e ≡ OutOfMemory → is_any_limited (columns_of (schema_of schema).columns) ≡ true) }
     {
         let weight = weigh_rows(&schema, &rows, alloc)?;
         if weight > MAX_TABLE_WEIGHT {

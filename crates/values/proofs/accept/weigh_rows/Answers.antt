@@ -18,7 +18,7 @@ returns-in-None-clause-refused c =
     let rows = map row_of c.args.rows.now in
     let row = row_of c.index-rows-i.result in
     let next = next_of row_of c.args.rows.now c.loop-i.i c.index-rows-i.result c.loop-i-test.true c.index-rows-i.is in
-    let none : None ≡ accepted_weight s row = sym c.in-None.is ∙ (c.in_ok-accepted_weight.ensures ∙ ap (λ (vs : List Value). accepted_weight s (map cell vs)) c.deref.ensures.value) in
+    let none : None ≡ accepted_weight s row = sym c.in-None.is ∙ (c.in_ok-accepted_weight.ensures.weight ∙ ap (λ (vs : List Value). accepted_weight s (map cell vs)) c.deref.ensures.value) in
     is_unfit s c.loop-i.i rows (sym c.loop-i.invariant.0 ∙ stops s rows c.loop-i.i c.loop-i.total row next none)
 
 pub loop-i-preserved : goal.loop-i-preserved
@@ -27,7 +27,7 @@ loop-i-preserved c =
     let rows = map row_of c.args.rows.now in
     let row = row_of c.index-rows-i.result in
     let next = next_of row_of c.args.rows.now c.loop-i.i c.index-rows-i.result c.loop-i-test.true c.index-rows-i.is in
-    let some : Some c.in-Some.weight ≡ accepted_weight s row = sym c.in-Some.is ∙ (c.in_ok-accepted_weight.ensures ∙ ap (λ (vs : List Value). accepted_weight s (map cell vs)) c.deref.ensures.value) in
+    let some : Some c.in-Some.weight ≡ accepted_weight s row = sym c.in-Some.is ∙ (c.in_ok-accepted_weight.ensures.weight ∙ ap (λ (vs : List Value). accepted_weight s (map cell vs)) c.deref.ensures.value) in
     let on = goes_on s rows c.loop-i.i c.loop-i.total c.in-Some.weight row next some in
     (ap (λ (t : ℕ). reported_from s (c.loop-i.i + 1) t (drop (c.loop-i.i + 1) rows)) c.add_weights-total.ensures ∙ (sym on ∙ c.loop-i.invariant.0), omega (arith, c.add_weights-total.ensures))
 

@@ -20,7 +20,7 @@ pub returns-in-Rows : goal.returns-in-Rows
 returns-in-Rows c =
     let there = rows_given c.args.self.now.schema c.args.self.now.content c.in-Rows.rows c.in-Rows.is in
     let row = rw c.deref.ensures.value at c.given_row.ensures in
-    ap Some c.of_cells.ensures ∙ row ∙ ap (λ (rows : List (List Cell)). slice_get rows c.args.i) (sym there)
+    ap Some c.of_cells.ensures.cells ∙ row ∙ ap (λ (rows : List (List Cell)). slice_get rows c.args.i) (sym there)
 
 pub returns-in-Batches : goal.returns-in-Batches
 returns-in-Batches c =
