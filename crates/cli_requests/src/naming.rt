@@ -2,7 +2,7 @@
 use crate::{QueryWords, StoreCommand, StoreRequest};
 use cli_refusals::{MOST_SHOWN, Refusal, Role, Word, has_unshown};
 use field_texts::ParseError;
-use query::{Condition, Query, QueryError, choose};
+use query::{Condition, Query, QueryError, bind_query};
 use std::alloc::{AllocError, Global};
 use tables::QueryRefusal;
 use values::Table;
@@ -61,7 +61,7 @@ fn refuses(
     query: &Query,
     reason: QueryRefusal,
 ) -> Result<bool, AllocError> {
-    match choose(alloc, table, query) {
+    match bind_query(alloc, table.schema(), query) {
         Ok(_) => Ok(false),
         Err(QueryError::OutOfMemory) => Err(AllocError),
         Err(error) => Ok(tables::Refusal::from(error) == tables::Refusal::Query(reason)),

@@ -3,7 +3,7 @@ use crate::errors::QueryError;
 use crate::operator::{Operator, operator_of};
 use std::alloc::{AllocError, Global};
 
-/// What a condition asks of a value. A literal is the string as it was typed; [`crate::choose`] reads it by the column's type.
+/// What a condition asks of a value. A literal is the string as it was typed; [`crate::bind_query`] reads it by the column's type.
 #[derive(Drop)]
 pub enum Test {
     IsNull,

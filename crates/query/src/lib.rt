@@ -1,25 +1,25 @@
 //! Queries: which rows and columns of a table they select, and a row as a line of JSON.
 //!
 //! A [`Query`] has columns, conditions that each row must meet, and a maximum number of rows. Contracts promise exactly which condition a string
-//! states; which columns and rows of a table a query chooses, or why it is refused; and the line of a row. They see tables, rows and queries as the
+//! states; which columns and rows of a table a query selects, or why it is refused; and the line of a row. They see tables, rows and queries as the
 //! plain trees of `specs/`, however they are kept.
 //!
 //! ```
 //! let condition = Condition::parse(alloc, "a >= 1")?;
 //! let query = Query { columns: Vec::new(alloc), conditions: vec![in alloc; condition]?, limit: Some(10) };
-//! let choice = choose(alloc, &table, &query)?;
+//! let bound = bind_query(alloc, table.schema(), &query)?;
+//! let mask = choose_rows(alloc, &table, &bound)?;
 //! ```
 //!
-//! This chooses the first ten rows of `table` whose `a` is at least 1, with all columns; a null is not. `selection::select` makes a table of them, and
-//! `selection::push_selected_lines` prints them. Where rows come one part after another, the query is bound to their schema once ([`bind_query`]),
-//! and the rows of each part are chosen on their own ([`choose_rows`]).
+//! The query selects the first ten rows of `table` whose `a` is at least 1, with all columns; a null is not. The mask has a bit for each row whose `a` is
+//! at least 1. `selection::select` makes a table of the selected rows, and `selection::push_selected_lines` prints them. Where rows come one part after
+//! another, the query is bound to their schema once ([`bind_query`]), and the rows of each part are chosen on their own ([`choose_rows`]).
 #![tactic(auto)]
 
 mod batch_arrays;
 mod blocks;
 mod bound;
 mod bound_query;
-mod choice;
 mod column_slots;
 mod condition;
 mod contents_slots;
@@ -46,7 +46,6 @@ mod validity;
 
 pub use batch_arrays::BatchArrays;
 pub use bound_query::BoundQuery;
-pub use choice::Choice;
 pub use condition::{Condition, Test};
 pub use errors::QueryError;
 pub use laws::{rows_refuse_no_query, selection_is_a_table};
@@ -54,6 +53,6 @@ pub use object_line::{are_named_apart, push_line_in};
 pub use operator::Operator;
 pub use query::Query;
 pub use row_form::RowForm;
-pub use selecting::{bind_query, choose, choose_rows};
+pub use selecting::{bind_query, choose_rows};
 pub use set_lines::push_set_lines;
 pub use set_rows::next_set;

@@ -1,5 +1,5 @@
 // Chooses the columns and rows of a table that a query selects.
-ghost use Rattle.std.specs.Prelude.{◌≡◌, ◌≤◌, ◌*◌, ℕ, List, Ok, Some, IfOk, IfErr, map, length, string_bytes, replicate, slice_index_or, false, true};
+ghost use Rattle.std.specs.Prelude.{◌≡◌, ℕ, List, Ok, Some, IfOk, IfErr, map, length, string_bytes, replicate, slice_index_or, false, true};
 ghost use Rattle.std.specs.List.{range_with_len};
 ghost use Rattle.arrow_schema.specs.View.{column_of, schema_of};
 ghost use Rattle.bitmap.specs.Bits.{bit, bytes_of};
@@ -10,12 +10,11 @@ ghost use Rattle.query.specs.BoundQuery.{bound_query_in, rows_held, selected_by}
 ghost use Rattle.query.specs.Selection.{chosen, all_ok, holds_all, pick, selection};
 ghost use Rattle.query.specs.View.{condition_in, query_in, Reports, Unchosen};
 ghost use Rattle.query.specs.inner.BoundView.{bound_in};
-ghost use Rattle.query.specs.Choice.{rows_set, chosen_table};
+ghost use Rattle.query.specs.Choice.{rows_set};
 ghost use Rattle.query.specs.inner.Masks.{IsMask};
 
 use crate::bound::{Bound, bind, holds, place_of};
 use crate::bound_query::BoundQuery;
-use crate::choice::Choice;
 use crate::condition::Condition;
 use crate::errors::QueryError;
 use crate::query::Query;
@@ -151,44 +150,4 @@ pub fn choose_rows(alloc: Global, table: &Table, query: &BoundQuery) -> Result<V
     ensures size { IfOk result (λ mask. length mask.items ≡ bytes_of (length (table_of table.now).rows)) }
 {
     mask_of_all(alloc, table, &query.bounds)
-}
-
-// Chooses the rows for which all conditions hold, then the columns at these places, then the first rows.
-fn choose_bound(alloc: Global, table: &Table, query: BoundQuery) -> Result<Choice, AllocError>
-    ensures chosen { IfOk result (λ c. chosen_table c (table_of table.now) ≡ selected_by (bound_query_in query) (table_of table.now)) }
-    ensures mask { IfOk result (λ c. length (table_of table.now).rows ≤ 8 * length c.mask.items) }
-{
-    // For the proof: the number of rows is below 2^64, so that the limit 2^64 - 1 cuts off none.
-    let _rows = table.len();
-    let mask = choose_rows(alloc, table, &query)?;
-    let BoundQuery {
-        places,
-        bounds: _bounds,
-        limit,
-    } = query;
-    Ok(Choice {
-        columns: places,
-        mask,
-        most: limit.unwrap_or(u64::MAX),
-    })
-}
-
-/// Returns which columns and rows of a table a query selects. The columns asked for are tested first, and then the conditions in order.
-///
-/// ```
-/// let query = Query { columns: Vec::new(alloc), conditions: vec![in alloc; Condition::parse(alloc, "a >= 1")?]?, limit: Some(10) };
-/// let choice = choose(alloc, &table, &query)?;
-/// ```
-///
-/// # Errors
-/// `UnknownColumn`, `BadCondition` or `NotComparable`, by the first test that fails.
-/// `OutOfMemory` if memory is refused.
-pub fn choose(alloc: Global, table: &Table, query: &Query) -> Result<Choice, QueryError>
-    ensures ok { IfOk result (λ c. selection (table_of table.now) (query_in query.now) ≡ Ok (chosen_table c (table_of table.now))) }
-    ensures mask { IfOk result (λ c. length (table_of table.now).rows ≤ 8 * length c.mask.items) }
-    ensures refused { IfErr result (λ e. Reports e (selection (table_of table.now) (query_in query.now))) }
-{
-    let bound = bind_query(alloc, table.schema(), query)?;
-    let choice = choose_bound(alloc, table, bound)?;
-    Ok(choice)
 }

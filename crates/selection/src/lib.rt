@@ -1,6 +1,6 @@
 //! The selection of a table by a query.
 //!
-//! [`query::choose`] says which columns and rows a query selects; this crate makes them a table of their own, kept in record batches. The rows are
+//! `query` says which columns and rows a query selects; this crate makes them a table of their own, kept in record batches. The rows are
 //! runs of slots of the arrays of the columns asked for, which are written as one stream and read again, without making a cell. Or it prints them
 //! from these arrays, without making a table. Either takes one part of the table after another ([`SelectionBuilder`], [`LinePrinter`]).
 //!

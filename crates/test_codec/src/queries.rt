@@ -1,6 +1,6 @@
 // Tests of queries and of the lines of rows (query). The expected answers are worked out by hand from docs/using.md, "Conditions" and "What `query`
 // prints".
-ghost use Rattle.std.specs.Prelude.{◌≡◌, ◌≤◌, ◌*◌, length, true, IfSome};
+ghost use Rattle.std.specs.Prelude.{◌≡◌, true, IfSome};
 ghost use Rattle.arrow_schema.specs.Column.{columns_of};
 ghost use Rattle.query.specs.BatchArrays.{is_readable};
 ghost use Rattle.values.specs.TableView.{table_of};
@@ -9,8 +9,8 @@ use crate::made::{NotMade, assert_no_row, schema_of_columns, table_of_lines};
 use ipc_encode::encode;
 use ipc_stream::decode;
 use query::{
-    BatchArrays, Choice, Condition, Query, QueryError, RowForm, are_named_apart, choose, next_set,
-    push_line_in, push_set_lines,
+    BatchArrays, Condition, Query, QueryError, RowForm, are_named_apart, bind_query, choose_rows,
+    next_set, push_line_in, push_set_lines,
 };
 use std::alloc::{AllocError, Global};
 use values::Table;
@@ -132,20 +132,21 @@ fn query_of(alloc: Global, case: &Case) -> Result<Query, QueryError> {
     })
 }
 
-// Returns the places of the selected rows of a table of `rows` rows.
-fn selected_rows(alloc: Global, choice: &Choice, rows: usize) -> Result<Vec<usize>, AllocError>
-    requires { rows ≤ 8 * length choice.now.mask.items }
-{
+// Returns the places of the first `most` rows whose bits are set, of at most eight rows.
+fn first_set(alloc: Global, mask: &[u8], rows: usize, most: u64) -> Result<Vec<usize>, AllocError> {
     let mut selected = Vec::new(alloc);
+    if rows > 8 || mask.len() < 1 {
+        return Ok(selected);
+    }
     for row in 0..rows {
-        if next_set(&choice.mask, row, rows) == row && (selected.len() as u64) < choice.most {
+        if next_set(mask, row, rows) == row && (selected.len() as u64) < most {
             selected.push(row)?;
         }
     }
     Ok(selected)
 }
 
-// Chooses, and returns whether the columns and the rows are these.
+// Returns whether the columns and the rows that the query selects are these.
 fn selects(
     alloc: Global,
     table: &Table,
@@ -153,9 +154,11 @@ fn selects(
     places: &[usize],
     rows: &[usize],
 ) -> Result<bool, QueryError> {
-    let choice = choose(alloc, table, query)?;
-    let selected = selected_rows(alloc, &choice, table.len())?;
-    Ok(choice.columns.as_slice() == places && selected.as_slice() == rows)
+    let bound = bind_query(alloc, table.schema(), query)?;
+    let mask = choose_rows(alloc, table, &bound)?;
+    let most = bound.limit.unwrap_or(u64::MAX);
+    let selected = first_set(alloc, &mask, table.len(), most)?;
+    Ok(bound.places.as_slice() == places && selected.as_slice() == rows)
 }
 
 fn is_answered(alloc: Global, table: &Table, case: &Case) -> Result<bool, QueryError> {
