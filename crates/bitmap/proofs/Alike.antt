@@ -2,7 +2,7 @@
 use Rattle.std.specs.Prelude.{◌/◌, ◌%◌, ◌^◌, ◌==◌, min, not, if◌then◌else◌, slice_index}
 use Rattle.std.specs.Int.{bit_at, trailing_zeros}
 use Rattle.std.specs.Int.Count.{trailing_of_zero}
-use Rattle.std.proofs.Common.{inl, inr, ◌⊎◌, ◌≡◌, ℕ, zero, suc, ◌+◌, ◌-◌, ◌*◌, ◌≤◌, ◌<◌, Bool, true, false, List, arith, refl, ap, sym, ◌∙◌, w8}
+use Rattle.std.proofs.Common.{inl, inr, ◌⊎◌, ◌≡◌, ℕ, suc, ◌+◌, ◌-◌, ◌*◌, ◌≤◌, ◌<◌, Bool, true, false, List, arith, refl, ap, sym, ◌∙◌, w8}
 use Rattle.std.proofs.lemmas.Bool.{cases_lt}
 use Rattle.std.proofs.lemmas.Bool.Decides.{nat_tests}
 use Rattle.std.proofs.lemmas.Nat.{shr-shr, shr_le}
@@ -13,24 +13,9 @@ abbrev pub whole : Bool → ℕ
 whole set = if set then 255 else 0
 
 bit_of_whole : (set : Bool) (j : ℕ) → j < 8 → (bit_at (whole set) j == 1) ≡ set
-bit_of_whole true zero lt = refl
-bit_of_whole true (suc zero) lt = refl
-bit_of_whole true (suc (suc zero)) lt = refl
-bit_of_whole true (suc (suc (suc zero))) lt = refl
-bit_of_whole true (suc (suc (suc (suc zero)))) lt = refl
-bit_of_whole true (suc (suc (suc (suc (suc zero))))) lt = refl
-bit_of_whole true (suc (suc (suc (suc (suc (suc zero)))))) lt = refl
-bit_of_whole true (suc (suc (suc (suc (suc (suc (suc zero))))))) lt = refl
 bit_of_whole true (suc (suc (suc (suc (suc (suc (suc (suc j)))))))) lt = absurd (omega arith)
-bit_of_whole false zero lt = refl
-bit_of_whole false (suc zero) lt = refl
-bit_of_whole false (suc (suc zero)) lt = refl
-bit_of_whole false (suc (suc (suc zero))) lt = refl
-bit_of_whole false (suc (suc (suc (suc zero)))) lt = refl
-bit_of_whole false (suc (suc (suc (suc (suc zero))))) lt = refl
-bit_of_whole false (suc (suc (suc (suc (suc (suc zero)))))) lt = refl
-bit_of_whole false (suc (suc (suc (suc (suc (suc (suc zero))))))) lt = refl
 bit_of_whole false (suc (suc (suc (suc (suc (suc (suc (suc j)))))))) lt = absurd (omega arith)
+bit_of_whole _ _ lt = refl
 
 whole_small : (set : Bool) → whole set < 256
 whole_small true = omega arith

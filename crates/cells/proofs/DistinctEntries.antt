@@ -28,28 +28,18 @@ decided (boolean false) (boolean false) h = (λ _. refl, λ _. refl)
 decided (number a) (number b) h = (λ e. ap number ((Decides-int_eq a b).0 e), λ e. (Decides-int_eq a b).1 cc)
 decided (text a) (text b) h = (λ e. ap text ((bytes_eq-Decides a b).0 e), λ e. (bytes_eq-Decides a b).1 cc)
 decided (bytes a) (bytes b) h = (λ e. ap bytes ((bytes_eq-Decides a b).0 e), λ e. (bytes_eq-Decides a b).1 cc)
-decided (boolean a) _ h = (λ e. cc, λ e. cc)
-decided (number a) _ h = (λ e. cc, λ e. cc)
-decided (text a) _ h = (λ e. cc, λ e. cc)
-decided (bytes a) _ h = (λ e. cc, λ e. cc)
+decided _ _ h = (λ e. cc, λ e. cc)
 
 one_value : (a b : Cell) → is_entry a b ≡ true → a ≡ b
-one_value null b h = cc
-one_value (items cs) b h = cc
-one_value (parts cs) b h = cc
 one_value (boolean a) b h = (decided (boolean a) b refl).0 h
 one_value (number a) b h = (decided (number a) b refl).0 h
 one_value (text a) b h = (decided (text a) b refl).0 h
 one_value (bytes a) b h = (decided (bytes a) b refl).0 h
+one_value _ b h = cc
 
 entry_is : (c e : Cell) → entry_in c ≡ Some e → e ≡ c
 entry_is null e h = cc
-entry_is (items cs) e h = cc
-entry_is (parts cs) e h = cc
-entry_is (boolean a) e h = cc
-entry_is (number a) e h = cc
-entry_is (text a) e h = cc
-entry_is (bytes a) e h = cc
+entry_is _ e h = cc
 
 -- ---- the entries have these properties
 

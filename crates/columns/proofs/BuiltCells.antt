@@ -14,7 +14,7 @@ use Rattle.cells.specs.Entries.{AreEntries}
 use Rattle.std.proofs.lemmas.List.{length-map, get_or-map, get_or_default}
 use Rattle.bitmap.specs.Bits.{packed}
 use Rattle.arrow_schema.specs.Column.{Index, is_bit_width, Kind, Column, Columns, DateKind, days, date_milliseconds, nulls, booleans, integers, dates, timestamps, texts, large_texts, binaries, large_binaries, fixed_binaries, lists, large_lists, fixed_lists, structs, column, no_column, and_column}
-use Rattle.cells.specs.Cell.{Cell, Cells, null, boolean, number, text, bytes, items, parts, no_cell, and_cell, cells_of, cell_list}
+use Rattle.cells.specs.Cell.{Cell, Cells, null, items, parts, no_cell, and_cell, cells_of, cell_list}
 use Rattle.cells.specs.Dictionary.{is_entry, entries_of, entry_in, item_list, part_list}
 use Rattle.cells.specs.Fit.{null_or, fits, fits_kind, date_bits, parts_where, each_fits, all_cells}
 use Rattle.columns.specs.Array.{Array, slots_in, no_array, and_array, dictionary_in, bit_layout, fixed_layout, list_layout, fixed_list_layout, struct_layout, dictionary_layout}
@@ -62,12 +62,7 @@ struct_found fs cells i (parts cs) e lt found h =
     let row : get_or (map part_list cells) i [] ≡ cell_list cs = get_or-map part_list cells i null [] lt ∙ ap part_list e in
     let count : i < length (map part_list cells) = omega (arith, lt, length-map cells part_list) in
     ap parts (found i count (rw row (has_parts fs cs h)) ∙ ap cells_of row ∙ cells_list cs)
-struct_found fs cells i null e lt found h = cc
-struct_found fs cells i (boolean b) e lt found h = cc
-struct_found fs cells i (number n) e lt found h = cc
-struct_found fs cells i (text t) e lt found h = cc
-struct_found fs cells i (bytes t) e lt found h = cc
-struct_found fs cells i (items cs) e lt found h = cc
+struct_found fs cells i _ e lt found h = cc
 
 -- ---- every type
 
@@ -85,12 +80,7 @@ ColumnIsFound c cells = AreFound (cell_at c (built c cells)) cells
 
 null_found : (cells : List Cell) (i : ℕ) (c : Cell) → get_or cells i null ≡ c → null_or true (λ c. false) c ≡ true → null ≡ c
 null_found cells i null e h = refl
-null_found cells i (boolean b) e h = cc
-null_found cells i (number n) e h = cc
-null_found cells i (text t) e h = cc
-null_found cells i (bytes t) e h = cc
-null_found cells i (items cs) e h = cc
-null_found cells i (parts cs) e h = cc
+null_found cells i _ e h = cc
 
 -- what was found of a cell that is there
 fit_at : (kind : Kind) (cells : List Cell) (i : ℕ) → are_nulls_or_fit kind cells ≡ true → i < length cells → is_there (get_or cells i null) ≡ true → fits_kind kind (get_or cells i null) ≡ true
@@ -117,12 +107,9 @@ entries_back kind entries found =
 
 pub entry_of_cell : (c : Cell) → is_null_or_entry c ≡ true → is_there c ≡ true → entry_in c ≡ Some c
 entry_of_cell null h there = cc
-entry_of_cell (boolean b) h there = refl
-entry_of_cell (number n) h there = refl
-entry_of_cell (text t) h there = refl
-entry_of_cell (bytes t) h there = refl
 entry_of_cell (items cs) h there = cc
 entry_of_cell (parts cs) h there = cc
+entry_of_cell _ h there = refl
 
 -- an index within its type reads back
 pub index_there : (index : Index) (entries cells : List Cell) (i n : ℕ) → i < length cells → names_entries index n ≡ true → entry_index entries (get_or cells i null) < n

@@ -6,7 +6,7 @@ use Rattle.std.proofs.lemmas.Bool.{and_parts, and_from, not-true}
 use Rattle.std.proofs.lemmas.List.{map-append}
 use Rattle.std.proofs.lemmas.List.Concat.{flat_map-cons}
 use Rattle.std.proofs.lemmas.List.Sums.{sum_by-cons, list_all-from_AllPass}
-use Rattle.arrow_schema.specs.Column.{Kind, Column, Columns, nulls, booleans, integers, dates, timestamps, texts, large_texts, binaries, large_binaries, fixed_binaries, lists, large_lists, fixed_lists, structs, column, no_column, and_column}
+use Rattle.arrow_schema.specs.Column.{Kind, Column, Columns, nulls, lists, large_lists, fixed_lists, structs, column, no_column, and_column}
 use Rattle.arrow_schema.specs.Limits.{is_nested, has_flat_dictionary}
 use Rattle.arrow_schema.specs.Preorder.{preorder_all}
 use Rattle.cells.specs.Cell.{Cell, cells_of}
@@ -29,19 +29,7 @@ use Rattle.columns.proofs.Pieces.{entries_weigh}
 kind_alone : (k : Kind) (cells : List Cell) → dictionary_in (built_kind k cells) ≡ no_array
 unfolding built
 kind_alone nulls cells = refl
-kind_alone booleans cells = refl
-kind_alone (integers bits signed) cells = refl
-kind_alone (dates unit) cells = refl
-kind_alone (timestamps unit timezone) cells = refl
-kind_alone texts cells = refl
-kind_alone large_texts cells = refl
-kind_alone binaries cells = refl
-kind_alone large_binaries cells = refl
-kind_alone (fixed_binaries width) cells = refl
-kind_alone (lists item) cells = refl
-kind_alone (large_lists item) cells = refl
-kind_alone (fixed_lists size item) cells = refl
-kind_alone (structs columns) cells = refl
+kind_alone _ cells = refl
 
 -- the arrays of some dictionaries, each by itself
 abbrev pub arrays_apart : List Typed → List (List Array)
@@ -141,20 +129,11 @@ HasNone t = dictionary_arrays (own_column t) (own_array t) ≡ []
 
 none_below : (k : Kind) (a : Array) → is_nested k ≡ false → arrays_below k a ≡ []
 unfolding arrays_at
-none_below nulls a flat = refl
-none_below booleans a flat = refl
-none_below (integers bits signed) a flat = refl
-none_below (dates unit) a flat = refl
-none_below (timestamps unit timezone) a flat = refl
-none_below texts a flat = refl
-none_below large_texts a flat = refl
-none_below binaries a flat = refl
-none_below large_binaries a flat = refl
-none_below (fixed_binaries width) a flat = refl
 none_below (lists item) a flat = cc
 none_below (large_lists item) a flat = cc
 none_below (fixed_lists size item) a flat = cc
 none_below (structs columns) a flat = cc
+none_below _ a flat = refl
 
 flat_has_none : (k : Kind) (a : Array) → is_nested k ≡ false → HasNone (typed (column [] true k None []) a)
 unfolding arrays_at

@@ -50,23 +50,12 @@ none_shorter (and_column c cs) rows n e =
 
 kind_children : (k : Kind) (cells : List Cell) → are_nulls_or_fit k cells ≡ true → has_short_part k (built_kind k cells) ≡ false
 unfolding built fits
-kind_children nulls cells fit = refl
-kind_children booleans cells fit = refl
-kind_children (integers bits signed) cells fit = refl
-kind_children (dates unit) cells fit = refl
-kind_children (timestamps unit timezone) cells fit = refl
-kind_children texts cells fit = refl
-kind_children large_texts cells fit = refl
-kind_children binaries cells fit = refl
-kind_children large_binaries cells fit = refl
-kind_children (fixed_binaries width) cells fit = refl
-kind_children (lists item) cells fit = refl
-kind_children (large_lists item) cells fit = refl
 kind_children (fixed_lists size item) cells fit =
     let slots = slots_of_built item (flat_map (fixed_items size) cells) in
     let count = all_width (fixed_items size) size cells (every_size size (fits item) cells fit) in
     le-ltb (slots_in (built item (flat_map (fixed_items size) cells))) (length cells * size) (omega (arith, slots, count))
 kind_children (structs columns) cells fit = none_shorter columns (map part_list cells) (length cells) (length-map cells part_list)
+kind_children _ cells fit = refl
 
 own_children : (c : Column) (cells : List Cell) → can_build c cells ≡ true → has_short_child c (built c cells) ≡ false
 unfolding built can_build
@@ -107,20 +96,11 @@ mutual
   few_at (column name nullable kind (Some index) pairs) a = omega arith
 
   few_below : (k : Kind) (a : Array) → length (arrays_below k a) ≤ length (preorder_below k)
-  few_below nulls a = omega arith
-  few_below booleans a = omega arith
-  few_below (integers bits signed) a = omega arith
-  few_below (dates unit) a = omega arith
-  few_below (timestamps unit timezone) a = omega arith
-  few_below texts a = omega arith
-  few_below large_texts a = omega arith
-  few_below binaries a = omega arith
-  few_below large_binaries a = omega arith
-  few_below (fixed_binaries width) a = omega arith
   few_below (lists item) a = few_at item (items_in a)
   few_below (large_lists item) a = few_at item (items_in a)
   few_below (fixed_lists size item) a = few_at item (items_in a)
   few_below (structs columns) a = few_of columns (children_in a)
+  few_below _ a = omega arith
 
   few_of : (cs : Columns) (xs : Arrays) → length (every_array cs xs) ≤ length (preorder_all cs)
   few_of no_column xs = omega arith
@@ -134,19 +114,7 @@ few_nodes cs xs = let few = few_of cs xs in omega (arith, few, length-map (every
 
 kind_few : (k : Kind) (a : Array) → length (kind_buffers k a) ≤ 3
 kind_few nulls a = omega arith
-kind_few booleans a = omega arith
-kind_few (integers bits signed) a = omega arith
-kind_few (dates unit) a = omega arith
-kind_few (timestamps unit timezone) a = omega arith
-kind_few texts a = omega arith
-kind_few large_texts a = omega arith
-kind_few binaries a = omega arith
-kind_few large_binaries a = omega arith
-kind_few (fixed_binaries width) a = omega arith
-kind_few (lists item) a = omega arith
-kind_few (large_lists item) a = omega arith
-kind_few (fixed_lists size item) a = omega arith
-kind_few (structs columns) a = omega arith
+kind_few _ a = omega arith
 
 column_few : (c : Column) (a : Array) → length (column_buffers c a) ≤ 3
 column_few (column name nullable kind None pairs) a = kind_few kind a

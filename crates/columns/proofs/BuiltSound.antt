@@ -153,20 +153,11 @@ mutual
       or_from _ _ (both _ _ _ (validity_long cells (dictionary_layout (flat_map (index_bytes index es) cells) (and_array (built_kind kind es) no_array))) indices refl) refl
 
   below_fine : (k : Kind) (cells : List Cell) → can_build_below k cells ≡ true → list_any is_bad (arrays_below k (built_kind k cells)) ≡ false
-  below_fine nulls cells can = refl
-  below_fine booleans cells can = refl
-  below_fine (integers bits signed) cells can = refl
-  below_fine (dates unit) cells can = refl
-  below_fine (timestamps unit timezone) cells can = refl
-  below_fine texts cells can = refl
-  below_fine large_texts cells can = refl
-  below_fine binaries cells can = refl
-  below_fine large_binaries cells can = refl
-  below_fine (fixed_binaries width) cells can = refl
   below_fine (lists item) cells can = column_fine item (flat_map item_list cells) (and_parts (items_fit small_offset cells) _ can).1
   below_fine (large_lists item) cells can = column_fine item (flat_map item_list cells) (and_parts (items_fit large_offset cells) _ can).1
   below_fine (fixed_lists size item) cells can = column_fine item (flat_map (fixed_items size) cells) can
   below_fine (structs columns) cells can = parts_fine columns (map part_list cells) can
+  below_fine _ cells can = refl
 
   pub parts_fine : (cs : Columns) (rows : List (List Cell)) → can_build_parts cs rows ≡ true → list_any is_bad (every_array cs (built_parts cs rows)) ≡ false
   parts_fine no_column rows can = refl
@@ -193,33 +184,7 @@ none_unordered cs rows can =
 
 own_count_right : (c : Column) (a : Array) → counts_wrong (null_count c a) c a ≡ false
 own_count_right (column name nullable nulls None pairs) a = refl
-own_count_right (column name nullable booleans None pairs) a = ap not (eq-eqb _ _ refl)
-own_count_right (column name nullable (integers bits signed) None pairs) a = ap not (eq-eqb _ _ refl)
-own_count_right (column name nullable (dates unit) None pairs) a = ap not (eq-eqb _ _ refl)
-own_count_right (column name nullable (timestamps unit timezone) None pairs) a = ap not (eq-eqb _ _ refl)
-own_count_right (column name nullable texts None pairs) a = ap not (eq-eqb _ _ refl)
-own_count_right (column name nullable large_texts None pairs) a = ap not (eq-eqb _ _ refl)
-own_count_right (column name nullable binaries None pairs) a = ap not (eq-eqb _ _ refl)
-own_count_right (column name nullable large_binaries None pairs) a = ap not (eq-eqb _ _ refl)
-own_count_right (column name nullable (fixed_binaries width) None pairs) a = ap not (eq-eqb _ _ refl)
-own_count_right (column name nullable (lists item) None pairs) a = ap not (eq-eqb _ _ refl)
-own_count_right (column name nullable (large_lists item) None pairs) a = ap not (eq-eqb _ _ refl)
-own_count_right (column name nullable (fixed_lists size item) None pairs) a = ap not (eq-eqb _ _ refl)
-own_count_right (column name nullable (structs columns) None pairs) a = ap not (eq-eqb _ _ refl)
-own_count_right (column name nullable nulls (Some index) pairs) a = ap not (eq-eqb _ _ refl)
-own_count_right (column name nullable booleans (Some index) pairs) a = ap not (eq-eqb _ _ refl)
-own_count_right (column name nullable (integers bits signed) (Some index) pairs) a = ap not (eq-eqb _ _ refl)
-own_count_right (column name nullable (dates unit) (Some index) pairs) a = ap not (eq-eqb _ _ refl)
-own_count_right (column name nullable (timestamps unit timezone) (Some index) pairs) a = ap not (eq-eqb _ _ refl)
-own_count_right (column name nullable texts (Some index) pairs) a = ap not (eq-eqb _ _ refl)
-own_count_right (column name nullable large_texts (Some index) pairs) a = ap not (eq-eqb _ _ refl)
-own_count_right (column name nullable binaries (Some index) pairs) a = ap not (eq-eqb _ _ refl)
-own_count_right (column name nullable large_binaries (Some index) pairs) a = ap not (eq-eqb _ _ refl)
-own_count_right (column name nullable (fixed_binaries width) (Some index) pairs) a = ap not (eq-eqb _ _ refl)
-own_count_right (column name nullable (lists item) (Some index) pairs) a = ap not (eq-eqb _ _ refl)
-own_count_right (column name nullable (large_lists item) (Some index) pairs) a = ap not (eq-eqb _ _ refl)
-own_count_right (column name nullable (fixed_lists size item) (Some index) pairs) a = ap not (eq-eqb _ _ refl)
-own_count_right (column name nullable (structs columns) (Some index) pairs) a = ap not (eq-eqb _ _ refl)
+own_count_right (column name nullable kind dictionary pairs) a = ap not (eq-eqb _ _ refl)
 
 pub none_miscounted : (ts : List Typed) → list_any (λ t. counts_wrong (null_count t.column t.array) t.column t.array) ts ≡ false
 none_miscounted [] = refl

@@ -8,7 +8,7 @@ use Rattle.std.proofs.Math.Nat.{mul-le-mul, le_refl}
 use Rattle.std.proofs.lemmas.List.Concat.{get_or-flat_map}
 use Rattle.std.proofs.lemmas.List.Folds.{list_any-append}
 use Rattle.arrow_schema.specs.Column.{Index, Pair, Kind, Column, Columns, nulls, booleans, integers, dates, timestamps, texts, large_texts, binaries, large_binaries, fixed_binaries, lists, large_lists, fixed_lists, structs, column, no_column, and_column}
-use Rattle.cells.specs.Cell.{Cell, Cells, null, boolean, number, text, bytes, items, parts, no_cell, and_cell, cells_of, cell_list}
+use Rattle.cells.specs.Cell.{Cell, Cells, null, text, items, parts, no_cell, and_cell, cells_of, cell_list}
 use Rattle.cells.specs.Dictionary.{entries_of, item_list, part_list}
 use Rattle.cells.specs.Fit.{null_or, fits, fits_kind, each_fits, all_cells, count_of, items_where, parts_where}
 use Rattle.cells.specs.laws.Cells.{cells_list}
@@ -32,21 +32,11 @@ is_wrong s = names_no_entry s || (is_no_text s || is_forbidden s)
 not_forbidden : (p : Cell → Bool) (nullable : Bool) (x : Cell) → null_or nullable p x ≡ true → (not nullable && is_null x) ≡ false
 not_forbidden p true x h = refl
 not_forbidden p false null h = cc
-not_forbidden p false (boolean b) h = refl
-not_forbidden p false (number n) h = refl
-not_forbidden p false (text t) h = refl
-not_forbidden p false (bytes t) h = refl
-not_forbidden p false (items cs) h = refl
-not_forbidden p false (parts cs) h = refl
+not_forbidden p false _ h = refl
 
 no_bad_text : (k : Kind) (nullable : Bool) (x : Cell) → null_or nullable (fits_kind k) x ≡ true → is_bad_text x ≡ false
-no_bad_text k nullable null h = refl
-no_bad_text k nullable (boolean b) h = refl
-no_bad_text k nullable (number n) h = refl
 no_bad_text k nullable (text t) h = ap not (good_text k t h)
-no_bad_text k nullable (bytes t) h = refl
-no_bad_text k nullable (items cs) h = refl
-no_bad_text k nullable (parts cs) h = refl
+no_bad_text k nullable _ h = refl
 
 -- ---- slots of a range
 
@@ -65,12 +55,7 @@ listed_fit p (and_cell c cs) (suc k) h lt = listed_fit p cs k (and_parts (p c) (
 
 list_fits : (item : Column) (x : Cell) (k : ℕ) → items_where (all_cells (fits item)) x ≡ true → k < length (item_list x) → fits item (get_or (item_list x) k null) ≡ true
 list_fits item (items cs) k h lt = listed_fit (fits item) cs k h lt
-list_fits item null k h lt = cc
-list_fits item (boolean b) k h lt = cc
-list_fits item (number n) k h lt = cc
-list_fits item (text t) k h lt = cc
-list_fits item (bytes t) k h lt = cc
-list_fits item (parts cs) k h lt = cc
+list_fits item _ k h lt = cc
 
 fixed_fits : (size : ℕ) (item : Column) (x : Cell) (k : ℕ) → items_where (has_size size (fits item)) x ≡ true → k < size → fits item (get_or (fixed_items size x) k null) ≡ true
 fixed_fits size item (items cs) k h lt =
@@ -78,40 +63,20 @@ fixed_fits size item (items cs) k h lt =
     let count = count_list cs in
     let size_of = eqb-true _ _ p.0 in
     listed_fit (fits item) cs k p.1 (omega (arith, lt, count, size_of))
-fixed_fits size item null k h lt = cc
-fixed_fits size item (boolean b) k h lt = cc
-fixed_fits size item (number n) k h lt = cc
-fixed_fits size item (text t) k h lt = cc
-fixed_fits size item (bytes t) k h lt = cc
-fixed_fits size item (parts cs) k h lt = cc
+fixed_fits size item _ k h lt = cc
 
 fixed_long : (size : ℕ) (item : Column) (x : Cell) → items_where (has_size size (fits item)) x ≡ true → length (fixed_items size x) ≡ size
 fixed_long size item (items cs) h = count_list cs ∙ eqb-true _ _ (and_parts (count_of cs == size) (all_cells (fits item) cs) h).0
-fixed_long size item null h = cc
-fixed_long size item (boolean b) h = cc
-fixed_long size item (number n) h = cc
-fixed_long size item (text t) h = cc
-fixed_long size item (bytes t) h = cc
-fixed_long size item (parts cs) h = cc
+fixed_long size item _ h = cc
 
 row_fits_parts : (cs : Columns) (x : Cell) → parts_where (each_fits cs) x ≡ true → each_fits cs (cells_of (part_list x)) ≡ true
 row_fits_parts cs (parts xs) h = subst (λ (ys : Cells). each_fits cs ys ≡ true) (sym (cells_list xs)) h
-row_fits_parts cs null h = cc
-row_fits_parts cs (boolean b) h = cc
-row_fits_parts cs (number n) h = cc
-row_fits_parts cs (text t) h = cc
-row_fits_parts cs (bytes t) h = cc
-row_fits_parts cs (items xs) h = cc
+row_fits_parts cs _ h = cc
 
 -- what fits and is there fits the type
 there_fits : (p : Cell → Bool) (nullable : Bool) (x : Cell) → null_or nullable p x ≡ true → is_there x ≡ true → p x ≡ true
 there_fits p nullable null h there = cc
-there_fits p nullable (boolean b) h there = h
-there_fits p nullable (number n) h there = h
-there_fits p nullable (text t) h there = h
-there_fits p nullable (bytes t) h there = h
-there_fits p nullable (items cs) h there = h
-there_fits p nullable (parts cs) h there = h
+there_fits p nullable _ h there = h
 
 nothing_below : (b : Bool) → list_any is_wrong (if b then [] else []) ≡ false
 nothing_below true = refl

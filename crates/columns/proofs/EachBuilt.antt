@@ -3,7 +3,7 @@ use Rattle.std.specs.List.{AllByRecursion, flat_map, list_all, list_any}
 use Rattle.std.proofs.Common.{◌≡◌, ℕ, ◌≤◌, Bool, true, false, List, [], ◌∷◌, ◌++◌, map, sum_by, Some, None, refl, arith, ap, sym, subst}
 use Rattle.std.proofs.lemmas.Bool.{and_parts, or_from}
 use Rattle.std.proofs.lemmas.List.Concat.{flat_map-cons}
-use Rattle.arrow_schema.specs.Column.{Kind, Column, Columns, nulls, booleans, integers, dates, timestamps, texts, large_texts, binaries, large_binaries, fixed_binaries, lists, large_lists, fixed_lists, structs, column, no_column, and_column}
+use Rattle.arrow_schema.specs.Column.{Kind, Column, Columns, lists, large_lists, fixed_lists, structs, column, no_column, and_column}
 use Rattle.arrow_schema.specs.Preorder.{preorder, preorder_below, preorder_all}
 use Rattle.cells.specs.Cell.{Cell, cells_of}
 use Rattle.cells.specs.Dictionary.{item_list, part_list}
@@ -54,16 +54,6 @@ mutual
 
   below_each : (passes : Column → Bool) (most : ℕ) (P : Typed → Type 0) → HoldsOfBuilt passes most P → (k : Kind) (cells : List Cell) → list_all passes (preorder_below k) ≡ true → can_build_below k cells ≡ true
       → sum_by (kind_weight k) cells ≤ most → AllByRecursion P (arrays_below k (built_kind k cells))
-  below_each passes most P h nulls cells pass can small = tt
-  below_each passes most P h booleans cells pass can small = tt
-  below_each passes most P h (integers bits signed) cells pass can small = tt
-  below_each passes most P h (dates unit) cells pass can small = tt
-  below_each passes most P h (timestamps unit timezone) cells pass can small = tt
-  below_each passes most P h texts cells pass can small = tt
-  below_each passes most P h large_texts cells pass can small = tt
-  below_each passes most P h binaries cells pass can small = tt
-  below_each passes most P h large_binaries cells pass can small = tt
-  below_each passes most P h (fixed_binaries width) cells pass can small = tt
   below_each passes most P h (lists item) cells pass can small =
       let below = sum_below item_list (weight item) (kind_weight (lists item)) (λ x. omega (arith, items_weigh (weight item) x)) cells in
       column_each passes most P h item (flat_map item_list cells) pass (and_parts (items_fit small_offset cells) _ can).1 (omega (arith, below, small))
@@ -76,6 +66,7 @@ mutual
   below_each passes most P h (structs columns) cells pass can small =
       let below = sum_map part_list (λ row. parts_weight columns (cells_of row)) (kind_weight (structs columns)) (λ x. rw (cells_list (parts_in x)) (omega arith)) cells in
       parts_each passes most P h columns (map part_list cells) pass can (omega (arith, below, small))
+  below_each passes most P h _ cells pass can small = tt
 
   pub parts_each : (passes : Column → Bool) (most : ℕ) (P : Typed → Type 0) → HoldsOfBuilt passes most P → (cs : Columns) (rows : List (List Cell)) → list_all passes (preorder_all cs) ≡ true → can_build_parts cs rows ≡ true
       → cells_weight cs rows ≤ most → AllByRecursion P (every_array cs (built_parts cs rows))

@@ -8,7 +8,7 @@ use Rattle.std.proofs.Math.Nat.{mul-le-mul, le_refl}
 use Rattle.byteorder.specs.Endian.{little_number}
 use Rattle.byteorder.specs.Numbers.{little_number-reads_back, length-bytes_low_first}
 use Rattle.bitmap.specs.Bits.{bit, packed}
-use Rattle.cells.specs.Cell.{Cell, Cells, null, boolean, number, text, bytes, items, parts, no_cell, and_cell, cells_of, cell_list}
+use Rattle.cells.specs.Cell.{Cell, Cells, null, boolean, number, text, bytes, items, no_cell, and_cell, cells_of, cell_list}
 use Rattle.cells.specs.Dictionary.{item_list}
 use Rattle.cells.specs.Fit.{null_or, is_boolean, number_where, text_where, bytes_where, items_where, in_range, count_of, all_cells}
 use Rattle.cells.specs.Integers.{integer_of, number_of}
@@ -24,34 +24,19 @@ use Rattle.columns.proofs.Spans.{HaveWidth, have_width, all_width, at_width, tak
 -- a cell that is there fits, where nulls or fitting cells do
 pub fit_there : (p : Cell → Bool) (c : Cell) → null_or true p c ≡ true → is_there c ≡ true → p c ≡ true
 fit_there p null h there = cc
-fit_there p (boolean b) h there = h
-fit_there p (number n) h there = h
-fit_there p (text t) h there = h
-fit_there p (bytes t) h there = h
-fit_there p (items cs) h there = h
-fit_there p (parts cs) h there = h
+fit_there p _ h there = h
 
 -- ---- booleans
 
 pub boolean_found : PackedReadsBack → (cells : List Cell) (i : ℕ) (c : Cell) → get_or cells i null ≡ c → i < length cells → is_boolean c ≡ true → boolean (bit (packed (map is_set cells)) i) ≡ c
 boolean_found back cells i (boolean b) e lt h = ap boolean (bit_of back is_set cells i lt ∙ ap is_set e)
-boolean_found back cells i null e lt h = cc
-boolean_found back cells i (number n) e lt h = cc
-boolean_found back cells i (text t) e lt h = cc
-boolean_found back cells i (bytes t) e lt h = cc
-boolean_found back cells i (items cs) e lt h = cc
-boolean_found back cells i (parts cs) e lt h = cc
+boolean_found back cells i _ e lt h = cc
 
 -- ---- integers
 
 pub length-integer : (w : ℕ) (c : Cell) → length (integer_bytes w c) ≡ w
-length-integer w null = length-replicate w 0
-length-integer w (boolean b) = length-replicate w 0
 length-integer w (number z) = length-bytes_low_first 0 w (number_of w z)
-length-integer w (text t) = length-replicate w 0
-length-integer w (bytes t) = length-replicate w 0
-length-integer w (items cs) = length-replicate w 0
-length-integer w (parts cs) = length-replicate w 0
+length-integer w _ = length-replicate w 0
 
 pub integer_found : (w : ℕ) (signed : Bool) (cells : List Cell) (i : ℕ) (c : Cell) → get_or cells i null ≡ c → i < length cells → 1 ≤ w → number_where (in_range (8 * w) signed) c ≡ true
     → number (integer_at w signed (flat_map (integer_bytes w) cells) i) ≡ c
@@ -60,12 +45,7 @@ integer_found w signed cells i (number z) e lt one h =
     let read : little_number w (drop (i * w) (flat_map (integer_bytes w) cells)) ≡ number_of w z =
     ap (little_number w) (r.1 ∙ ap (λ (c : Cell). integer_bytes w c ++ r.0) e) ∙ little_number-reads_back w (number_of w z) r.0 (number_fits w signed z one h) in
     ap (λ (n : ℕ). number (integer_of w signed n)) read ∙ ap number (number_back w signed z one h)
-integer_found w signed cells i null e lt one h = cc
-integer_found w signed cells i (boolean b) e lt one h = cc
-integer_found w signed cells i (text t) e lt one h = cc
-integer_found w signed cells i (bytes t) e lt one h = cc
-integer_found w signed cells i (items cs) e lt one h = cc
-integer_found w signed cells i (parts cs) e lt one h = cc
+integer_found w signed cells i _ e lt one h = cc
 
 -- ---- texts and binaries
 
@@ -89,22 +69,12 @@ contents_are w cells i lt small =
 pub text_found : (w : ℕ) (p : List ℕ → Bool) (cells : List Cell) (i : ℕ) (c : Cell) → get_or cells i null ≡ c → i < length cells → length (flat_map contents_of cells) < 256 ^ w → text_where p c ≡ true
     → text (contents_at w (with_validity cells (binary_of w cells)) i) ≡ c
 text_found w p cells i (text t) e lt small h = ap text (contents_are w cells i lt small ∙ ap contents_of e)
-text_found w p cells i null e lt small h = cc
-text_found w p cells i (boolean b) e lt small h = cc
-text_found w p cells i (number n) e lt small h = cc
-text_found w p cells i (bytes t) e lt small h = cc
-text_found w p cells i (items cs) e lt small h = cc
-text_found w p cells i (parts cs) e lt small h = cc
+text_found w p cells i _ e lt small h = cc
 
 pub bytes_found : (w : ℕ) (p : List ℕ → Bool) (cells : List Cell) (i : ℕ) (c : Cell) → get_or cells i null ≡ c → i < length cells → length (flat_map contents_of cells) < 256 ^ w → bytes_where p c ≡ true
     → bytes (contents_at w (with_validity cells (binary_of w cells)) i) ≡ c
 bytes_found w p cells i (bytes t) e lt small h = ap bytes (contents_are w cells i lt small ∙ ap contents_of e)
-bytes_found w p cells i null e lt small h = cc
-bytes_found w p cells i (boolean b) e lt small h = cc
-bytes_found w p cells i (number n) e lt small h = cc
-bytes_found w p cells i (text t) e lt small h = cc
-bytes_found w p cells i (items cs) e lt small h = cc
-bytes_found w p cells i (parts cs) e lt small h = cc
+bytes_found w p cells i _ e lt small h = cc
 
 -- ---- binaries of one width
 
@@ -112,13 +82,8 @@ abbrev pub is_of_width : ℕ → List ℕ → Bool
 is_of_width width t = length t == width
 
 pub one_width : (width : ℕ) (c : Cell) → null_or true (bytes_where (is_of_width width)) c ≡ true → length (fixed_bytes width c) ≡ width
-one_width width null h = length-replicate width 0
-one_width width (boolean b) h = length-replicate width 0
-one_width width (number z) h = length-replicate width 0
-one_width width (text t) h = length-replicate width 0
 one_width width (bytes t) h = eqb-true _ _ h
-one_width width (items cs) h = length-replicate width 0
-one_width width (parts cs) h = length-replicate width 0
+one_width width _ h = length-replicate width 0
 
 pub every_width : (width : ℕ) (cells : List Cell) → list_all (null_or true (bytes_where (is_of_width width))) cells ≡ true → HaveWidth (fixed_bytes width) width cells
 every_width width [] h = tt
@@ -131,12 +96,7 @@ pub fixed_found : (width : ℕ) (cells : List Cell) (i : ℕ) (c : Cell) → get
 fixed_found width cells i (bytes t) e lt all h =
     let wide : length (fixed_bytes width (get_or cells i null)) ≡ width = ap (λ (c : Cell). length (fixed_bytes width c)) e ∙ eqb-true _ _ h in
     ap bytes (taken (fixed_bytes width) width cells i null (every_width width cells all) wide lt ∙ ap (fixed_bytes width) e)
-fixed_found width cells i null e lt all h = cc
-fixed_found width cells i (boolean b) e lt all h = cc
-fixed_found width cells i (number n) e lt all h = cc
-fixed_found width cells i (text t) e lt all h = cc
-fixed_found width cells i (items cs) e lt all h = cc
-fixed_found width cells i (parts cs) e lt all h = cc
+fixed_found width cells i _ e lt all h = cc
 
 -- ---- lists
 
@@ -159,12 +119,7 @@ pub list_found : (w : ℕ) (p : Cells → Bool) (cells : List Cell) (i : ℕ) (c
     → length (flat_map item_list cells) < 256 ^ w → AreFound g (flat_map item_list cells) → items_where p c ≡ true
     → items (cells_of (span_cells w g (with_validity cells (list_layout (list_offsets w cells) child)) i)) ≡ c
 list_found w p cells i child g (items cs) e lt small found h = ap (λ (xs : List Cell). items (cells_of xs)) (items_are w cells i child g lt small found ∙ ap item_list e) ∙ ap items (cells_list cs)
-list_found w p cells i child g null e lt small found h = cc
-list_found w p cells i child g (boolean b) e lt small found h = cc
-list_found w p cells i child g (number n) e lt small found h = cc
-list_found w p cells i child g (text t) e lt small found h = cc
-list_found w p cells i child g (bytes t) e lt small found h = cc
-list_found w p cells i child g (parts cs) e lt small found h = cc
+list_found w p cells i child g _ e lt small found h = cc
 
 -- ---- lists of one size
 
@@ -177,12 +132,8 @@ has_size size p cs = count_of cs == size && all_cells p cs
 
 one_size : (size : ℕ) (p : Cell → Bool) (c : Cell) → null_or true (items_where (has_size size p)) c ≡ true → length (fixed_items size c) ≡ size
 one_size size p null h = length-replicate size null
-one_size size p (boolean b) h = cc
-one_size size p (number z) h = cc
-one_size size p (text t) h = cc
-one_size size p (bytes t) h = cc
 one_size size p (items cs) h = count_list cs ∙ eqb-true _ _ (and_parts (count_of cs == size) (all_cells p cs) h).0
-one_size size p (parts cs) h = cc
+one_size size p _ h = cc
 
 pub every_size : (size : ℕ) (p : Cell → Bool) (cells : List Cell) → list_all (null_or true (items_where (has_size size p))) cells ≡ true → HaveWidth (fixed_items size) size cells
 every_size size p [] h = tt
@@ -203,9 +154,4 @@ fixed_list_found size p cells i g (items cs) e lt all found h =
     let is : cells_from g (i * size) size ≡ cell_list cs =
     run_is g (flat_map (fixed_items size) cells) (i * size) size found room ∙ taken (fixed_items size) size cells i null sizes one lt ∙ ap (fixed_items size) e in
     ap (λ (xs : List Cell). items (cells_of xs)) is ∙ ap items (cells_list cs)
-fixed_list_found size p cells i g null e lt all found h = cc
-fixed_list_found size p cells i g (boolean b) e lt all found h = cc
-fixed_list_found size p cells i g (number n) e lt all found h = cc
-fixed_list_found size p cells i g (text t) e lt all found h = cc
-fixed_list_found size p cells i g (bytes t) e lt all found h = cc
-fixed_list_found size p cells i g (parts cs) e lt all found h = cc
+fixed_list_found size p cells i g _ e lt all found h = cc

@@ -5,7 +5,7 @@ use Rattle.std.proofs.Common.{◌≡◌, ℕ, zero, suc, ◌+◌, true, List, []
 use Rattle.std.proofs.lemmas.Bool.{and_parts, and_from}
 use Rattle.std.proofs.lemmas.Option.{slice_get_past}
 use Rattle.std.proofs.lemmas.Grind.{flat_map-append}
-use Rattle.arrow_schema.specs.Column.{Kind, Column, Columns, nulls, booleans, integers, dates, timestamps, texts, large_texts, binaries, large_binaries, fixed_binaries, lists, large_lists, fixed_lists, structs, column, no_column, and_column}
+use Rattle.arrow_schema.specs.Column.{Kind, Column, Columns, lists, large_lists, fixed_lists, structs, column, no_column, and_column}
 use Rattle.cells.specs.Cell.{Cell, null, boolean, number, text, bytes, items, parts}
 use Rattle.cells.specs.Dictionary.{Holding, item_list, part_list, cells_at, holdings, holdings_below, holdings_from, entries_of, with_entries, with_entry, has_few_entries, is_within, entry_limit}
 use Rattle.columns.specs.Built.{fixed_items, first_cell, other_cells}
@@ -70,21 +70,12 @@ from_same i (and_column c cs) rows others h =
 
 below_same : (k : Kind) (xs ys : List Cell) → without_nulls xs ≡ without_nulls ys → holdings_below k xs ≡ holdings_below k ys
 unfolding holdings
-below_same nulls xs ys e = refl
-below_same booleans xs ys e = refl
-below_same (integers bits signed) xs ys e = refl
-below_same (dates unit) xs ys e = refl
-below_same (timestamps unit timezone) xs ys e = refl
-below_same texts xs ys e = refl
-below_same large_texts xs ys e = refl
-below_same binaries xs ys e = refl
-below_same large_binaries xs ys e = refl
-below_same (fixed_binaries width) xs ys e = refl
 below_same (lists item) xs ys e = ap (holdings item) (same_below item_list refl xs ys e)
 below_same (large_lists item) xs ys e = ap (holdings item) (same_below item_list refl xs ys e)
 below_same (fixed_lists size item) xs ys e = ap (holdings item) (same_below item_list refl xs ys e)
 below_same (structs columns) xs ys e =
     from_same 0 columns (map part_list xs) (map part_list ys) (λ j. at_parts j xs ∙ same_below (part_of j) refl xs ys e ∙ sym (at_parts j ys))
+below_same _ xs ys e = refl
 
 pub few_same : (c : Column) (xs ys : List Cell) → without_nulls xs ≡ without_nulls ys → HaveFew (holdings c xs) → HaveFew (holdings c ys)
 unfolding holdings
@@ -107,12 +98,7 @@ no_kept (suc n) = no_kept n
 
 kept_one : (size : ℕ) (c : Cell) → without_nulls (fixed_items size c) ≡ without_nulls (item_list c)
 kept_one size null = no_kept size
-kept_one size (boolean b) = refl
-kept_one size (number n) = refl
-kept_one size (text t) = refl
-kept_one size (bytes t) = refl
-kept_one size (items cs) = refl
-kept_one size (parts cs) = refl
+kept_one size _ = refl
 
 pub fixed_kept : (size : ℕ) (cells : List Cell) → without_nulls (flat_map item_list cells) ≡ without_nulls (flat_map (fixed_items size) cells)
 fixed_kept size [] = refl

@@ -7,7 +7,7 @@ use Rattle.std.proofs.lemmas.List.Sums.{sum_by-cons, sum_by-append, sum_by-le-su
 use Rattle.std.proofs.Math.Pow.{pow_mono}
 use Rattle.std.proofs.lemmas.List.Sums.{list_all-from_AllPass}
 use Rattle.std.specs.List.{AllPass}
-use Rattle.arrow_schema.specs.Column.{Index, Kind, Column, Columns, is_bit_width, nulls, booleans, integers, dates, timestamps, texts, large_texts, binaries, large_binaries, fixed_binaries, lists, large_lists, fixed_lists, structs, column, no_column, and_column, columns_of, PlainSchema}
+use Rattle.arrow_schema.specs.Column.{Index, Kind, Column, Columns, is_bit_width, nulls, integers, texts, large_texts, binaries, large_binaries, lists, large_lists, fixed_lists, structs, column, no_column, and_column, columns_of, PlainSchema}
 use Rattle.arrow_schema.specs.Parts.{kind_of_column}
 use Rattle.arrow_schema.specs.Limits.{IsWithinLimits, is_nested, has_flat_dictionary, has_bit_widths, is_kind_of_width}
 use Rattle.arrow_schema.specs.Preorder.{preorder, preorder_below, preorder_all, every_column}
@@ -51,12 +51,7 @@ fits_or_null c x = null_or true (fits_kind (kind_of_column c)) x
 
 weaker : (p : Cell → Bool) (nullable : Bool) (x : Cell) → null_or nullable p x ≡ true → null_or true p x ≡ true
 weaker p nullable null h = refl
-weaker p nullable (boolean b) h = h
-weaker p nullable (number n) h = h
-weaker p nullable (text t) h = h
-weaker p nullable (bytes t) h = h
-weaker p nullable (items cs) h = h
-weaker p nullable (parts cs) h = h
+weaker p nullable _ h = h
 
 pub fits_weaker : (c : Column) (x : Cell) → fits c x ≡ true → fits_or_null c x ≡ true
 unfolding fits
@@ -69,22 +64,14 @@ all_listed p q h (and_cell c cs) all = let a = and_parts (p c) (all_cells p cs) 
 list_items : (item : Column) (x : Cell) → null_or true (fits_kind (lists item)) x ≡ true → list_all (fits_or_null item) (item_list x) ≡ true
 unfolding fits
 list_items item null h = refl
-list_items item (boolean b) h = cc
-list_items item (number n) h = cc
-list_items item (text t) h = cc
-list_items item (bytes t) h = cc
 list_items item (items cs) h = all_listed (fits item) (fits_or_null item) (fits_weaker item) cs h
-list_items item (parts cs) h = cc
+list_items item _ h = cc
 
 large_list_items : (item : Column) (x : Cell) → null_or true (fits_kind (large_lists item)) x ≡ true → list_all (fits_or_null item) (item_list x) ≡ true
 unfolding fits
 large_list_items item null h = refl
-large_list_items item (boolean b) h = cc
-large_list_items item (number n) h = cc
-large_list_items item (text t) h = cc
-large_list_items item (bytes t) h = cc
 large_list_items item (items cs) h = all_listed (fits item) (fits_or_null item) (fits_weaker item) cs h
-large_list_items item (parts cs) h = cc
+large_list_items item _ h = cc
 
 null_items : (c : Column) (n : ℕ) → list_all (fits_or_null c) (replicate n null) ≡ true
 null_items c zero = refl
@@ -93,12 +80,8 @@ null_items c (suc n) = null_items c n
 fixed_list_items : (size : ℕ) (item : Column) (x : Cell) → null_or true (fits_kind (fixed_lists size item)) x ≡ true → list_all (fits_or_null item) (fixed_items size x) ≡ true
 unfolding fits
 fixed_list_items size item null h = null_items item size
-fixed_list_items size item (boolean b) h = cc
-fixed_list_items size item (number n) h = cc
-fixed_list_items size item (text t) h = cc
-fixed_list_items size item (bytes t) h = cc
 fixed_list_items size item (items cs) h = all_listed (fits item) (fits_or_null item) (fits_weaker item) cs (and_parts _ (all_cells (fits item) cs) h).1
-fixed_list_items size item (parts cs) h = cc
+fixed_list_items size item _ h = cc
 
 -- each part of a row is a null or fits its column
 abbrev pub parts_fit_or_null : Columns → List Cell → Bool
@@ -121,50 +104,18 @@ each_part_fits (and_column c cs) (and_cell x xs) h =
 struct_parts : (cs : Columns) (x : Cell) → null_or true (fits_kind (structs cs)) x ≡ true → parts_fit_or_null cs (part_list x) ≡ true
 unfolding fits
 struct_parts cs null h = no_parts_fit cs
-struct_parts cs (boolean b) h = cc
-struct_parts cs (number n) h = cc
-struct_parts cs (text t) h = cc
-struct_parts cs (bytes t) h = cc
-struct_parts cs (items xs) h = cc
 struct_parts cs (parts xs) h = each_part_fits cs xs h
+struct_parts cs _ h = cc
 
 -- ---- entries
 
 entry_flat : (k : Kind) (x : Cell) → is_nested k ≡ false → null_or true (fits_kind k) x ≡ true → is_null_or_entry x ≡ true
 unfolding fits
-entry_flat k null flat h = refl
-entry_flat k (boolean b) flat h = refl
-entry_flat k (number n) flat h = refl
-entry_flat k (text t) flat h = refl
-entry_flat k (bytes t) flat h = refl
 entry_flat nulls (items cs) flat h = cc
-entry_flat booleans (items cs) flat h = cc
-entry_flat (integers bits signed) (items cs) flat h = cc
-entry_flat (dates unit) (items cs) flat h = cc
-entry_flat (timestamps unit timezone) (items cs) flat h = cc
-entry_flat texts (items cs) flat h = cc
-entry_flat large_texts (items cs) flat h = cc
-entry_flat binaries (items cs) flat h = cc
-entry_flat large_binaries (items cs) flat h = cc
-entry_flat (fixed_binaries width) (items cs) flat h = cc
-entry_flat (lists item) (items cs) flat h = cc
-entry_flat (large_lists item) (items cs) flat h = cc
-entry_flat (fixed_lists size item) (items cs) flat h = cc
-entry_flat (structs columns) (items cs) flat h = cc
 entry_flat nulls (parts cs) flat h = cc
-entry_flat booleans (parts cs) flat h = cc
-entry_flat (integers bits signed) (parts cs) flat h = cc
-entry_flat (dates unit) (parts cs) flat h = cc
-entry_flat (timestamps unit timezone) (parts cs) flat h = cc
-entry_flat texts (parts cs) flat h = cc
-entry_flat large_texts (parts cs) flat h = cc
-entry_flat binaries (parts cs) flat h = cc
-entry_flat large_binaries (parts cs) flat h = cc
-entry_flat (fixed_binaries width) (parts cs) flat h = cc
-entry_flat (lists item) (parts cs) flat h = cc
-entry_flat (large_lists item) (parts cs) flat h = cc
-entry_flat (fixed_lists size item) (parts cs) flat h = cc
-entry_flat (structs columns) (parts cs) flat h = cc
+entry_flat _ (items cs) flat h = cc
+entry_flat _ (parts cs) flat h = cc
+entry_flat k _ flat h = refl
 
 all_flat : (k : Kind) (cells : List Cell) → is_nested k ≡ false → are_nulls_or_fit k cells ≡ true → list_all is_null_or_entry cells ≡ true
 all_flat k [] flat h = refl
@@ -179,13 +130,11 @@ new_step entries c = by_known (list_any (is_entry c) entries) refl
 
 -- one entry more, or none
 entry_step : (entries : List Cell) (c : Cell) → (with_entry entries c ≡ entries) ⊎ (with_entry entries c ≡ entries ++ c ∷ [])
-entry_step entries null = inl refl
 entry_step entries (boolean b) = new_step entries (boolean b)
 entry_step entries (number n) = new_step entries (number n)
 entry_step entries (text t) = new_step entries (text t)
 entry_step entries (bytes t) = new_step entries (bytes t)
-entry_step entries (items cs) = inl refl
-entry_step entries (parts cs) = inl refl
+entry_step entries _ = inl refl
 
 pub entries_weigh : (w : Cell → ℕ) (entries cells : List Cell) → sum_by w (with_entries entries cells) ≤ sum_by w entries + sum_by w cells
 unfolding with_entries
@@ -268,16 +217,11 @@ mutual
 
   kind_can : (k : Kind) (cells : List Cell) → list_all has_flat_dictionary (preorder_below k) ≡ true → ((is_kind_of_width k && true) ≡ true) × (list_all has_bit_widths (preorder_below k) ≡ true) → are_nulls_or_fit k cells ≡ true
       → sum_by (kind_weight k) cells ≤ most → HaveFew (holdings_below k cells) → can_build_below k cells ≡ true
-  kind_can nulls cells flat wide fit small few = refl
-  kind_can booleans cells flat wide fit small few = refl
   kind_can (integers bits signed) cells flat wide fit small few = (and_parts (is_bit_width bits) true wide.0).0
-  kind_can (dates unit) cells flat wide fit small few = refl
-  kind_can (timestamps unit timezone) cells flat wide fit small few = refl
   kind_can texts cells flat wide fit small few = light texts cells small small_offset (omega arith) _ (size_below contents_of (kind_weight texts) (λ x. omega (arith, contents_weigh x)) cells)
   kind_can large_texts cells flat wide fit small few = light large_texts cells small large_offset (omega arith) _ (size_below contents_of (kind_weight large_texts) (λ x. omega (arith, contents_weigh x)) cells)
   kind_can binaries cells flat wide fit small few = light binaries cells small small_offset (omega arith) _ (size_below contents_of (kind_weight binaries) (λ x. omega (arith, contents_weigh x)) cells)
   kind_can large_binaries cells flat wide fit small few = light large_binaries cells small large_offset (omega arith) _ (size_below contents_of (kind_weight large_binaries) (λ x. omega (arith, contents_weigh x)) cells)
-  kind_can (fixed_binaries width) cells flat wide fit small few = refl
   kind_can (lists item) cells flat wide fit small few =
       let many = size_below item_list (kind_weight (lists item)) (λ x. omega (arith, count_below (weight item) (some_weight item) (items_in x))) cells in
       let below = sum_below item_list (weight item) (kind_weight (lists item)) (λ x. omega (arith, items_weigh (weight item) x)) cells in
@@ -295,6 +239,7 @@ mutual
   kind_can (structs columns) cells flat wide fit small few =
       let below = sum_map part_list (λ row. parts_weight columns (cells_of row)) (kind_weight (structs columns)) (λ x. rw (cells_list (parts_in x)) (omega arith)) cells in
       parts_can columns (map part_list cells) (flat, wide.1) (all_mapped part_list (null_or true (fits_kind (structs columns))) (parts_fit_or_null columns) (struct_parts columns) cells fit) (omega (arith, below, small)) few
+  kind_can _ cells flat wide fit small few = refl
 
   pub parts_can : (cs : Columns) (rows : List (List Cell)) → AreSoundColumns (preorder_all cs) → list_all (parts_fit_or_null cs) rows ≡ true → sum_by (λ row. parts_weight cs (cells_of row)) rows ≤ most
       → HaveFew (holdings_from 0 cs rows) → can_build_parts cs rows ≡ true

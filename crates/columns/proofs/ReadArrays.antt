@@ -4,7 +4,7 @@ use Rattle.std.specs.List.{flat_map}
 use Rattle.std.proofs.lemmas.Grind.{flat_map-append}
 use Rattle.std.proofs.lemmas.List.{map-append, length-map, drop_at}
 use Rattle.std.proofs.lemmas.List.Concat.{flat_map-cons}
-use Rattle.arrow_schema.specs.Column.{Kind, Column, Columns, nulls, booleans, integers, dates, timestamps, texts, large_texts, binaries, large_binaries, fixed_binaries, lists, large_lists, fixed_lists, structs, column, no_column, and_column}
+use Rattle.arrow_schema.specs.Column.{Kind, Column, Columns, nulls, lists, large_lists, fixed_lists, structs, column, no_column, and_column}
 use Rattle.columns.specs.Array.{Array, Arrays, array, slots_in, validity_in, offsets_in, indices_in, items_in, children_in, dictionary_in, array_list, empty_array, first_array, other_arrays, list_layout, fixed_list_layout, struct_layout, dictionary_layout}
 use Rattle.cells.specs.Cell.{Cell}
 use Rattle.cells.specs.Dictionary.{item_list, part_list}
@@ -22,19 +22,7 @@ buffers_with t = column_buffers t.column t.array
 
 same_own_buffers : (k : Kind) (a b : Array) → length (kind_buffers k a) ≡ length (kind_buffers k b)
 same_own_buffers nulls a b = refl
-same_own_buffers booleans a b = refl
-same_own_buffers (integers bits signed) a b = refl
-same_own_buffers (dates unit) a b = refl
-same_own_buffers (timestamps unit timezone) a b = refl
-same_own_buffers texts a b = refl
-same_own_buffers large_texts a b = refl
-same_own_buffers binaries a b = refl
-same_own_buffers large_binaries a b = refl
-same_own_buffers (fixed_binaries width) a b = refl
-same_own_buffers (lists item) a b = refl
-same_own_buffers (large_lists item) a b = refl
-same_own_buffers (fixed_lists size item) a b = refl
-same_own_buffers (structs columns) a b = refl
+same_own_buffers _ a b = refl
 
 same_buffers : (c : Column) (a b : Array) → length (column_buffers c a) ≡ length (column_buffers c b)
 same_buffers (column name nullable kind None pairs) a b = same_own_buffers kind a b
@@ -52,20 +40,11 @@ mutual
   same_columns (column name nullable kind (Some index) pairs) a b = refl
 
   same_below : (k : Kind) (a b : Array) → columns_in (arrays_below k a) ≡ columns_in (arrays_below k b)
-  same_below nulls a b = refl
-  same_below booleans a b = refl
-  same_below (integers bits signed) a b = refl
-  same_below (dates unit) a b = refl
-  same_below (timestamps unit timezone) a b = refl
-  same_below texts a b = refl
-  same_below large_texts a b = refl
-  same_below binaries a b = refl
-  same_below large_binaries a b = refl
-  same_below (fixed_binaries width) a b = refl
   same_below (lists item) a b = same_columns item (items_in a) (items_in b)
   same_below (large_lists item) a b = same_columns item (items_in a) (items_in b)
   same_below (fixed_lists size item) a b = same_columns item (items_in a) (items_in b)
   same_below (structs columns) a b = same_all columns (children_in a) (children_in b)
+  same_below _ a b = refl
 
   pub same_all : (cs : Columns) (xs ys : Arrays) → columns_in (every_array cs xs) ≡ columns_in (every_array cs ys)
   same_all no_column xs ys = refl
@@ -141,20 +120,11 @@ mutual
 
   kind_again : (k : Kind) (a : Array) (nulls_in : ℕ) → HasKindLayout k a → (ns : List Node) (bs : List (List ℕ)) (ds : List (List Array))
       → kind_array_from k (record { slots = slots_in a; null_count = nulls_in } ∷ (map node_of (arrays_below k a) ++ ns)) (kind_buffers k a ++ (flat_map buffers_with (arrays_below k a) ++ bs)) (flat_map own_dictionary_arrays (arrays_below k a) ++ ds) ≡ a
-  kind_again nulls a n h ns bs ds = sym h
-  kind_again booleans a n h ns bs ds = sym h
-  kind_again (integers bits signed) a n h ns bs ds = sym h
-  kind_again (dates unit) a n h ns bs ds = sym h
-  kind_again (timestamps unit timezone) a n h ns bs ds = sym h
-  kind_again texts a n h ns bs ds = sym h
-  kind_again large_texts a n h ns bs ds = sym h
-  kind_again binaries a n h ns bs ds = sym h
-  kind_again large_binaries a n h ns bs ds = sym h
-  kind_again (fixed_binaries width) a n h ns bs ds = sym h
   kind_again (lists item) a n h ns bs ds = ap (λ (x : Array). array (slots_in a) (validity_in a) (list_layout (offsets_in a) x)) (column_again item (items_in a) h.1 ns bs ds) ∙ sym h.0
   kind_again (large_lists item) a n h ns bs ds = ap (λ (x : Array). array (slots_in a) (validity_in a) (list_layout (offsets_in a) x)) (column_again item (items_in a) h.1 ns bs ds) ∙ sym h.0
   kind_again (fixed_lists size item) a n h ns bs ds = ap (λ (x : Array). array (slots_in a) (validity_in a) (fixed_list_layout x)) (column_again item (items_in a) h.1 ns bs ds) ∙ sym h.0
   kind_again (structs columns) a n h ns bs ds = ap (λ (xs : Arrays). array (slots_in a) (validity_in a) (struct_layout xs)) (all_again columns (children_in a) h.1 ns bs ds) ∙ sym h.0
+  kind_again _ a n h ns bs ds = sym h
 
   all_again : (cs : Columns) (xs : Arrays) → HaveLayouts cs xs → (ns : List Node) (bs : List (List ℕ)) (ds : List (List Array))
       → arrays_from cs (map node_of (every_array cs xs) ++ ns) (flat_map buffers_with (every_array cs xs) ++ bs) (flat_map own_dictionary_arrays (every_array cs xs) ++ ds) ≡ xs
@@ -191,20 +161,11 @@ mutual
   built_layout (column name nullable kind (Some index) pairs) cells = refl
 
   kind_layout : (k : Kind) (cells : List Cell) → HasKindLayout k (built_kind k cells)
-  kind_layout nulls cells = refl
-  kind_layout booleans cells = refl
-  kind_layout (integers bits signed) cells = refl
-  kind_layout (dates unit) cells = refl
-  kind_layout (timestamps unit timezone) cells = refl
-  kind_layout texts cells = refl
-  kind_layout large_texts cells = refl
-  kind_layout binaries cells = refl
-  kind_layout large_binaries cells = refl
-  kind_layout (fixed_binaries width) cells = refl
   kind_layout (lists item) cells = (refl, built_layout item (flat_map item_list cells))
   kind_layout (large_lists item) cells = (refl, built_layout item (flat_map item_list cells))
   kind_layout (fixed_lists size item) cells = (refl, built_layout item (flat_map (fixed_items size) cells))
   kind_layout (structs columns) cells = (refl, parts_layout columns (map part_list cells))
+  kind_layout _ cells = refl
 
   pub parts_layout : (cs : Columns) (rows : List (List Cell)) → HaveLayouts cs (built_parts cs rows)
   parts_layout no_column rows = refl

@@ -6,7 +6,7 @@ use Rattle.std.proofs.lemmas.Bool.{and_parts, ne_eqb}
 use Rattle.std.proofs.lemmas.List.{length-map}
 use Rattle.bitmap.specs.Bits.{bit, packed}
 use Rattle.bitmap.specs.laws.Packed.{length-packed_in}
-use Rattle.cells.specs.Cell.{Cell, null, boolean, number, text, bytes, items, parts}
+use Rattle.cells.specs.Cell.{Cell, null}
 use Rattle.columns.specs.Array.{Array, Layout}
 use Rattle.cells.specs.Nulls.{is_there}
 use Rattle.columns.specs.Built.{with_validity}
@@ -25,12 +25,7 @@ all_at p (x ∷ xs) (suc i) d h lt = all_at p xs i d (and_parts (p x) (list_all 
 
 pub absent_is_null : (c : Cell) → is_there c ≡ false → c ≡ null
 absent_is_null null h = refl
-absent_is_null (boolean b) h = cc
-absent_is_null (number n) h = cc
-absent_is_null (text t) h = cc
-absent_is_null (bytes t) h = cc
-absent_is_null (items cs) h = cc
-absent_is_null (parts cs) h = cc
+absent_is_null _ h = cc
 
 pub bit_of : PackedReadsBack → (p : Cell → Bool) (cells : List Cell) (i : ℕ) → i < length cells → bit (packed (map p cells)) i ≡ p (get_or cells i null)
 bit_of back p cells i lt = back (map p cells) i ∙ there cells i lt

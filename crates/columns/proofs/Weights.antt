@@ -3,8 +3,8 @@ use Rattle.std.proofs.Common.{◌≡◌, ℕ, zero, suc, ◌+◌, ◌*◌, ◌�
 use Rattle.std.specs.List.{flat_map}
 use Rattle.std.proofs.lemmas.List.Concat.{flat_map-cons}
 use Rattle.std.proofs.lemmas.List.Sums.{sum_by-cons, sum_by-append}
-use Rattle.arrow_schema.specs.Column.{Column, nulls, booleans, integers, dates, timestamps, texts, large_texts, binaries, large_binaries, fixed_binaries, lists, large_lists, fixed_lists, structs, column}
-use Rattle.cells.specs.Cell.{Cell, Cells, null, boolean, number, text, bytes, items, parts, no_cell, and_cell, cell_list}
+use Rattle.arrow_schema.specs.Column.{Column, nulls, column}
+use Rattle.cells.specs.Cell.{Cell, Cells, null, items, no_cell, and_cell, cell_list}
 use Rattle.cells.specs.Dictionary.{item_list}
 use Rattle.cells.specs.Weight.{byte_count, items_in, sum_of, fixed_sum, weight}
 use Rattle.columns.specs.Built.{contents_of, fixed_items}
@@ -44,28 +44,11 @@ sum_map f w v h (x ∷ xs) =
 pub some_weight : (c : Column) (x : Cell) → 1 ≤ weight c x
 unfolding weight
 some_weight (column name nullable nulls dictionary pairs) x = omega arith
-some_weight (column name nullable booleans dictionary pairs) x = omega arith
-some_weight (column name nullable (integers bits signed) dictionary pairs) x = omega arith
-some_weight (column name nullable (dates unit) dictionary pairs) x = omega arith
-some_weight (column name nullable (timestamps unit timezone) dictionary pairs) x = omega arith
-some_weight (column name nullable texts dictionary pairs) x = omega arith
-some_weight (column name nullable large_texts dictionary pairs) x = omega arith
-some_weight (column name nullable binaries dictionary pairs) x = omega arith
-some_weight (column name nullable large_binaries dictionary pairs) x = omega arith
-some_weight (column name nullable (fixed_binaries width) dictionary pairs) x = omega arith
-some_weight (column name nullable (lists item) dictionary pairs) x = omega arith
-some_weight (column name nullable (large_lists item) dictionary pairs) x = omega arith
-some_weight (column name nullable (fixed_lists size item) dictionary pairs) x = omega arith
-some_weight (column name nullable (structs columns) dictionary pairs) x = omega arith
+some_weight _ x = omega arith
 
 pub contents_weigh : (x : Cell) → length (contents_of x) ≡ byte_count x
 contents_weigh null = refl
-contents_weigh (boolean b) = refl
-contents_weigh (number n) = refl
-contents_weigh (text t) = refl
-contents_weigh (bytes t) = refl
-contents_weigh (items cs) = refl
-contents_weigh (parts cs) = refl
+contents_weigh _ = refl
 
 listed_sum : (w : Cell → ℕ) (cs : Cells) → sum_by w (cell_list cs) ≡ sum_of w cs
 listed_sum w no_cell = refl
@@ -84,9 +67,5 @@ null_sum w (suc n) = let rest = null_sum w n in let one : sum_by w (null ∷ rep
 
 pub fixed_weigh : (size : ℕ) (w : Cell → ℕ) (x : Cell) → sum_by w (fixed_items size x) ≡ fixed_sum size w x
 fixed_weigh size w null = null_sum w size
-fixed_weigh size w (boolean b) = listed_sum w no_cell
-fixed_weigh size w (number n) = listed_sum w no_cell
-fixed_weigh size w (text t) = listed_sum w no_cell
-fixed_weigh size w (bytes t) = listed_sum w no_cell
 fixed_weigh size w (items cs) = listed_sum w cs
-fixed_weigh size w (parts cs) = listed_sum w no_cell
+fixed_weigh size w _ = listed_sum w no_cell

@@ -2,7 +2,7 @@
 use Rattle.std.proofs.Common.{◌≡◌, ◌+◌, ◌≤◌, Bool, true, false, List, [], ◌∷◌, ◌++◌, length, refl, arith, length-append}
 use Rattle.std.specs.Prelude.{if◌then◌else◌, Option, Some, None}
 use Rattle.std.specs.List.{list_any}
-use Rattle.arrow_schema.specs.Column.{Kind, nulls, booleans, integers, dates, timestamps, texts, large_texts, binaries, large_binaries, fixed_binaries, lists, large_lists, fixed_lists, structs}
+use Rattle.arrow_schema.specs.Column.{Kind, lists, large_lists, fixed_lists, structs}
 use Rattle.arrow_schema.specs.Limits.{is_nested}
 use Rattle.cells.specs.Cell.{Cell}
 use Rattle.cells.specs.Dictionary.{is_entry, entry_in, with_option, with_entry, with_entries, holdings, holdings_below}
@@ -36,17 +36,8 @@ entries_append es (c ∷ xs) ys = entries_append (with_entry es c) xs ys
 -- a type without children has no dictionary below it
 pub none_below : (k : Kind) (cells : List Cell) → is_nested k ≡ false → holdings_below k cells ≡ []
 unfolding holdings
-none_below nulls cells flat = refl
-none_below booleans cells flat = refl
-none_below (integers bits signed) cells flat = refl
-none_below (dates unit) cells flat = refl
-none_below (timestamps unit timezone) cells flat = refl
-none_below texts cells flat = refl
-none_below large_texts cells flat = refl
-none_below binaries cells flat = refl
-none_below large_binaries cells flat = refl
-none_below (fixed_binaries width) cells flat = refl
 none_below (lists item) cells flat = cc
 none_below (large_lists item) cells flat = cc
 none_below (fixed_lists size item) cells flat = cc
 none_below (structs columns) cells flat = cc
+none_below _ cells flat = refl

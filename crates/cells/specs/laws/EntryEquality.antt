@@ -25,10 +25,7 @@ entry_eq_is (entries.Bool a) (entries.Bool b) = beq_is a b
 entry_eq_is (entries.Int a) (entries.Int b) = refl
 entry_eq_is (entries.Text a) (entries.Text b) = refl
 entry_eq_is (entries.Bytes a) (entries.Bytes b) = refl
-entry_eq_is (entries.Bool a) _ = refl
-entry_eq_is (entries.Int a) _ = refl
-entry_eq_is (entries.Text a) _ = refl
-entry_eq_is (entries.Bytes a) _ = refl
+entry_eq_is _ _ = refl
 
 any_entry : (e : Entry) (es : List Entry) → list_any (entry_eq e) es ≡ list_any (is_entry (entry_cell e)) (map entry_cell es)
 any_entry e [] = refl

@@ -1,7 +1,7 @@
 -- Rows of schemas with one shape: dictionaries and pairs affect neither fit nor weight.
 use Rattle.std.proofs.Common.{◌≡◌, ℕ, ◌+◌, Bool, List, sym, ap, ◌∙◌, refl}
 use Rattle.std.specs.Prelude.{◌&&◌, ◌==◌, sum_by}
-use Rattle.arrow_schema.specs.Column.{Kind, Column, Columns, nulls, booleans, integers, dates, timestamps, texts, large_texts, binaries, large_binaries, fixed_binaries, lists, large_lists, fixed_lists, structs, column, no_column, and_column, columns_of, PlainSchema}
+use Rattle.arrow_schema.specs.Column.{Kind, Column, Columns, lists, large_lists, fixed_lists, structs, column, no_column, and_column, columns_of, PlainSchema}
 use Rattle.arrow_schema.specs.Shape.{seen, seen_kind, seen_all, shape_of, HaveOneShape}
 use Rattle.cells.specs.Cell.{Cell, Cells, no_cell, and_cell, cells_of}
 use Rattle.cells.specs.Fit.{fits, fits_kind, each_fits, null_or, items_where, parts_where, all_cells, count_of}
@@ -17,20 +17,11 @@ mutual
   column_fits d (column name nullable kind dictionary pairs) = ap (null_or nullable) (kind_fits d kind)
 
   kind_fits : (d : _) → (k : Kind) → fits_kind (seen_kind d k) ≡ fits_kind k
-  kind_fits d nulls = refl
-  kind_fits d booleans = refl
-  kind_fits d (integers bits signed) = refl
-  kind_fits d (dates unit) = refl
-  kind_fits d (timestamps unit timezone) = refl
-  kind_fits d texts = refl
-  kind_fits d large_texts = refl
-  kind_fits d binaries = refl
-  kind_fits d large_binaries = refl
-  kind_fits d (fixed_binaries width) = refl
   kind_fits d (lists item) = ap (λ (f : Cell → Bool). items_where (all_cells f)) (column_fits d item)
   kind_fits d (large_lists item) = ap (λ (f : Cell → Bool). items_where (all_cells f)) (column_fits d item)
   kind_fits d (fixed_lists size item) = ap (λ (f : Cell → Bool). items_where (λ cs. count_of cs == size && all_cells f cs)) (column_fits d item)
   kind_fits d (structs columns) = λ i. parts_where (λ cs. each_column_fits d columns cs i)
+  kind_fits d _ = refl
 
   each_column_fits : (d : _) → (cs : Columns) (xs : Cells) → each_fits (seen_all d cs) xs ≡ each_fits cs xs
   each_column_fits d no_column no_cell = refl
@@ -47,20 +38,11 @@ mutual
   column_weight d (column name nullable kind dictionary pairs) = kind_weighs d kind
 
   kind_weighs : (d : _) → (k : Kind) → kind_weight (seen_kind d k) ≡ kind_weight k
-  kind_weighs d nulls = refl
-  kind_weighs d booleans = refl
-  kind_weighs d (integers bits signed) = refl
-  kind_weighs d (dates unit) = refl
-  kind_weighs d (timestamps unit timezone) = refl
-  kind_weighs d texts = refl
-  kind_weighs d large_texts = refl
-  kind_weighs d binaries = refl
-  kind_weighs d large_binaries = refl
-  kind_weighs d (fixed_binaries width) = refl
   kind_weighs d (lists item) = ap (λ (w : Cell → ℕ). λ c. 1 + sum_of w (items_in c)) (column_weight d item)
   kind_weighs d (large_lists item) = ap (λ (w : Cell → ℕ). λ c. 1 + sum_of w (items_in c)) (column_weight d item)
   kind_weighs d (fixed_lists size item) = ap (λ (w : Cell → ℕ). λ c. 1 + fixed_sum size w c) (column_weight d item)
   kind_weighs d (structs columns) = λ i c. 1 + parts_weigh d columns (parts_in c) i
+  kind_weighs d _ = refl
 
   parts_weigh : (d : _) → (cs : Columns) (xs : Cells) → parts_weight (seen_all d cs) xs ≡ parts_weight cs xs
   parts_weigh d no_column xs = refl

@@ -3,8 +3,8 @@ use Rattle.std.specs.Prelude.{◌==◌}
 use Rattle.std.specs.Str.{is_utf8}
 use Rattle.std.proofs.Common.{◌≡◌, ℕ, Bool, true, List, refl}
 use Rattle.std.proofs.lemmas.Bool.{and_from, and_parts}
-use Rattle.arrow_schema.specs.Column.{Kind, Column, Columns, nulls, booleans, integers, dates, timestamps, texts, large_texts, binaries, large_binaries, fixed_binaries, lists, large_lists, fixed_lists, structs, column, no_column, and_column}
-use Rattle.cells.specs.Cell.{Cell, Cells, null, boolean, number, text, bytes, items, parts, no_cell, and_cell}
+use Rattle.arrow_schema.specs.Column.{Kind, Column, Columns, texts, large_texts, lists, large_lists, fixed_lists, structs, column, no_column, and_column}
+use Rattle.cells.specs.Cell.{Cell, Cells, text, items, parts, no_cell, and_cell}
 use Rattle.cells.specs.Fit.{fits, fits_kind, each_fits, all_cells, count_of}
 use Rattle.columns.specs.Texts.{has_utf8_texts, have_utf8_texts}
 
@@ -12,18 +12,7 @@ pub good_text : (k : Kind) (t : List ℕ) → fits_kind k (text t) ≡ true → 
 unfolding fits_kind
 good_text texts t h = h
 good_text large_texts t h = h
-good_text nulls t h = cc
-good_text booleans t h = cc
-good_text (integers bits signed) t h = cc
-good_text (dates unit) t h = cc
-good_text (timestamps unit timezone) t h = cc
-good_text binaries t h = cc
-good_text large_binaries t h = cc
-good_text (fixed_binaries width) t h = cc
-good_text (lists item) t h = cc
-good_text (large_lists item) t h = cc
-good_text (fixed_lists size item) t h = cc
-good_text (structs columns) t h = cc
+good_text _ t h = cc
 
 -- if each cell that passes a test has only UTF-8 texts, then so do cells that all pass it
 all_texts : (p : Cell → Bool) → ((x : Cell) → p x ≡ true → has_utf8_texts x ≡ true) → (cs : Cells) → all_cells p cs ≡ true → have_utf8_texts cs ≡ true
@@ -37,45 +26,20 @@ mutual
   unfolding fits has_utf8_texts
 
   cell_texts : (c : Column) (x : Cell) → fits c x ≡ true → has_utf8_texts x ≡ true
-  cell_texts (column name nullable kind dictionary pairs) null h = refl
-  cell_texts (column name nullable kind dictionary pairs) (boolean b) h = refl
-  cell_texts (column name nullable kind dictionary pairs) (number n) h = refl
   cell_texts (column name nullable kind dictionary pairs) (text t) h = good_text kind t h
-  cell_texts (column name nullable kind dictionary pairs) (bytes t) h = refl
   cell_texts (column name nullable kind dictionary pairs) (items cs) h = item_texts kind cs h
   cell_texts (column name nullable kind dictionary pairs) (parts cs) h = part_texts kind cs h
+  cell_texts _ _ h = refl
 
   item_texts : (k : Kind) (cs : Cells) → fits_kind k (items cs) ≡ true → have_utf8_texts cs ≡ true
-  item_texts nulls cs h = cc
-  item_texts booleans cs h = cc
-  item_texts (integers bits signed) cs h = cc
-  item_texts (dates unit) cs h = cc
-  item_texts (timestamps unit timezone) cs h = cc
-  item_texts texts cs h = cc
-  item_texts large_texts cs h = cc
-  item_texts binaries cs h = cc
-  item_texts large_binaries cs h = cc
-  item_texts (fixed_binaries width) cs h = cc
   item_texts (lists item) cs h = all_texts (fits item) (cell_texts item) cs h
   item_texts (large_lists item) cs h = all_texts (fits item) (cell_texts item) cs h
   item_texts (fixed_lists size item) cs h = all_texts (fits item) (cell_texts item) cs (and_parts (count_of cs == size) (all_cells (fits item) cs) h).1
-  item_texts (structs columns) cs h = cc
+  item_texts _ cs h = cc
 
   part_texts : (k : Kind) (cs : Cells) → fits_kind k (parts cs) ≡ true → have_utf8_texts cs ≡ true
-  part_texts nulls cs h = cc
-  part_texts booleans cs h = cc
-  part_texts (integers bits signed) cs h = cc
-  part_texts (dates unit) cs h = cc
-  part_texts (timestamps unit timezone) cs h = cc
-  part_texts texts cs h = cc
-  part_texts large_texts cs h = cc
-  part_texts binaries cs h = cc
-  part_texts large_binaries cs h = cc
-  part_texts (fixed_binaries width) cs h = cc
-  part_texts (lists item) cs h = cc
-  part_texts (large_lists item) cs h = cc
-  part_texts (fixed_lists size item) cs h = cc
   part_texts (structs columns) cs h = row_texts columns cs h
+  part_texts _ cs h = cc
 
   pub row_texts : (columns : Columns) (cs : Cells) → each_fits columns cs ≡ true → have_utf8_texts cs ≡ true
   row_texts no_column no_cell h = refl

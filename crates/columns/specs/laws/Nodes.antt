@@ -1,19 +1,15 @@
 -- How many cells stand in a cell, itself and those below it: what a recursion over borrowed values goes down.
 use Rattle.std.proofs.Common.{ℕ, ◌+◌, ◌*◌}
-use Rattle.cells.specs.Cell.{Cell, Cells, null, boolean, number, text, bytes, items, parts, no_cell, and_cell, cells_of}
+use Rattle.cells.specs.Cell.{Cell, Cells, items, parts, no_cell, and_cell, cells_of}
 use Rattle.columns.specs.declared.borrowed.Values.{Values}
 use Rattle.columns.specs.declared.borrowed.ValueRef.{ValueRef}
 use Rattle.columns.specs.Borrowed.{borrowed_cell, borrowed_cells}
 
 abbrev mutual
   pub nodes : Cell → ℕ
-  nodes null = 1
-  nodes (boolean b) = 1
-  nodes (number n) = 1
-  nodes (text t) = 1
-  nodes (bytes t) = 1
   nodes (items cs) = 1 + nodes_all cs
   nodes (parts cs) = 1 + nodes_all cs
+  nodes _ = 1
 
   pub nodes_all : Cells → ℕ
   nodes_all no_cell = 0

@@ -3,7 +3,7 @@ use Rattle.std.specs.Prelude.{not, nat_le, nat_lt, ◌==◌}
 use Rattle.std.specs.List.{list_any}
 use Rattle.std.proofs.Common.{◌≡◌, ℕ, zero, suc, ◌+◌, ◌≤◌, true, false, List, [], ◌∷◌, ◌++◌, map, length, drop, refl, ap, arith}
 use Rattle.std.proofs.lemmas.Bool.{and_parts, eqb-true, le-leb, le-ltb, leb-true, not-false, or_from, or_parts}
-use Rattle.arrow_schema.specs.Column.{Kind, Column, Columns, nulls, booleans, integers, dates, timestamps, texts, large_texts, binaries, large_binaries, fixed_binaries, lists, large_lists, fixed_lists, structs, no_column, and_column}
+use Rattle.arrow_schema.specs.Column.{Kind, Column, Columns, nulls, no_column, and_column}
 use Rattle.cells.specs.Cell.{Cell}
 use Rattle.columns.specs.Array.{Array, Arrays, slots_in, first_array, other_arrays}
 use Rattle.columns.specs.Built.{built, built_kind, first_cell, other_cells}
@@ -65,16 +65,4 @@ none_shorter n (x ∷ xs) h =
 pub slots_built : (kind : Kind) (cells : List Cell) → slots_in (built_kind kind cells) ≡ length cells
 unfolding built
 slots_built nulls cells = refl
-slots_built booleans cells = refl
-slots_built (integers bits signed) cells = refl
-slots_built (dates unit) cells = refl
-slots_built (timestamps unit timezone) cells = refl
-slots_built texts cells = refl
-slots_built large_texts cells = refl
-slots_built binaries cells = refl
-slots_built large_binaries cells = refl
-slots_built (fixed_binaries width) cells = refl
-slots_built (lists item) cells = refl
-slots_built (large_lists item) cells = refl
-slots_built (fixed_lists size item) cells = refl
-slots_built (structs columns) cells = refl
+slots_built _ cells = refl

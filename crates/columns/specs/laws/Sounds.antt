@@ -5,7 +5,7 @@ use Rattle.std.proofs.Common.{◌≡◌, ℕ, ◌*◌, Bool, true, false, List, 
 use Rattle.std.proofs.lemmas.Bool.{and_parts, or_parts}
 use Rattle.std.proofs.lemmas.Bool.Decides.{nat_tests}
 use Rattle.std.proofs.lemmas.List.Folds.{list_all-append}
-use Rattle.arrow_schema.specs.Column.{Pair, Kind, Column, Columns, nulls, booleans, integers, dates, timestamps, texts, large_texts, binaries, large_binaries, fixed_binaries, lists, large_lists, fixed_lists, structs, column, no_column, and_column}
+use Rattle.arrow_schema.specs.Column.{Pair, Kind, Column, Columns, lists, large_lists, fixed_lists, structs, column, no_column, and_column}
 use Rattle.columns.specs.Array.{Array, Arrays, slots_in, items_in, indices_in, dictionary_in, array_list}
 use Rattle.columns.specs.Tests.{Typed, typed, arrays_at, arrays_below, every_array, is_short, is_unordered, has_short_child, has_short_validity, has_short_buffer, has_bad_offsets, are_few}
 use Rattle.columns.specs.Sound.{is_sound, has_sound_children, are_sound, is_kind_sound}
@@ -107,16 +107,7 @@ mutual
       let a : Array = kind_array_from (fixed_lists size item) ns bs ds in
       rw (long_enough (slots_in (items_in a)) (slots_in a * size) short) (sound_from item (drop 1 ns) (drop 1 bs) ds h)
   children_sound name nullable (structs columns) pairs ns bs ds short h = all_sound columns (slots_in (kind_array_from (structs columns) ns bs ds)) (drop 1 ns) (drop 1 bs) ds h short
-  children_sound name nullable nulls pairs ns bs ds short h = refl
-  children_sound name nullable booleans pairs ns bs ds short h = refl
-  children_sound name nullable (integers bits signed) pairs ns bs ds short h = refl
-  children_sound name nullable (dates unit) pairs ns bs ds short h = refl
-  children_sound name nullable (timestamps unit timezone) pairs ns bs ds short h = refl
-  children_sound name nullable texts pairs ns bs ds short h = refl
-  children_sound name nullable large_texts pairs ns bs ds short h = refl
-  children_sound name nullable binaries pairs ns bs ds short h = refl
-  children_sound name nullable large_binaries pairs ns bs ds short h = refl
-  children_sound name nullable (fixed_binaries width) pairs ns bs ds short h = refl
+  children_sound name nullable _ pairs ns bs ds short h = refl
 
   -- the arrays of columns, none of which has fewer than `slots` slots, are sound
   pub all_sound : (cs : Columns) (slots : ℕ) (ns : List Node) (bs : List (List ℕ)) (ds : List (List Array)) → AreClean (every_array cs (arrays_from cs ns bs ds))
