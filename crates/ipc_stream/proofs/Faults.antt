@@ -29,7 +29,7 @@ use Rattle.ipc_stream.specs.Meaning.{Known, known_first, with_dictionary, with_r
 record Go (os : List (Option Fault)) : Type 0 where
   whole : first_some os ≡ Some Truncated → ⊥
 
-goes : (b : Bool) (fault : Fault) (os : List (Option Fault)) → (fault ≡ Truncated → ⊥) → (first_some os ≡ Some Truncated → ⊥) → first_some (when b fault ∷ os) ≡ Some Truncated → ⊥
+pub goes : (b : Bool) (fault : Fault) (os : List (Option Fault)) → (fault ≡ Truncated → ⊥) → (first_some os ≡ Some Truncated → ⊥) → first_some (when b fault ∷ os) ≡ Some Truncated → ⊥
 goes true fault os other rest h = other cc
 goes false fault os other rest h = rest h
 

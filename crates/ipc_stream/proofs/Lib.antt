@@ -11,6 +11,8 @@ mod TableMeant
 mod Longer
 mod Faults
 mod Settled
+mod CutOff
+mod Unsettled
 mod Reached
 mod Stays
 mod Decoding

@@ -14,7 +14,7 @@ use Rattle.ipc_message.specs.Framing.{NextMessage, message, end_of_stream, taken
 
 -- ---- bytes with more after them
 
-starts_longer : (xs ys : List ℕ) → 4 ≤ length xs → starts_with nat_eq (xs ++ ys) continuation_marker ≡ starts_with nat_eq xs continuation_marker
+pub starts_longer : (xs ys : List ℕ) → 4 ≤ length xs → starts_with nat_eq (xs ++ ys) continuation_marker ≡ starts_with nat_eq xs continuation_marker
 starts_longer [] ys h = absurd (omega (arith, h))
 starts_longer (a ∷ []) ys h = absurd (omega (arith, h))
 starts_longer (a ∷ b ∷ []) ys h = absurd (omega (arith, h))
@@ -23,11 +23,11 @@ starts_longer (a ∷ b ∷ c ∷ d ∷ xs) ys h = refl
 
 -- ---- the continuation marker
 
-too_short : (bytes : List ℕ) → nat_lt (length bytes) 4 ≡ true → next_message bytes ≡ Err Truncated
+pub too_short : (bytes : List ℕ) → nat_lt (length bytes) 4 ≡ true → next_message bytes ≡ Err Truncated
 unfolding next_message marker_faults
 too_short bytes four = rw four refl
 
-no_marker : (bytes : List ℕ) → nat_lt (length bytes) 4 ≡ false → starts_with nat_eq bytes continuation_marker ≡ false → next_message bytes ≡ Err NoContinuation
+pub no_marker : (bytes : List ℕ) → nat_lt (length bytes) 4 ≡ false → starts_with nat_eq bytes continuation_marker ≡ false → next_message bytes ≡ Err NoContinuation
 unfolding next_message marker_faults
 no_marker bytes four starts = rw (four, starts) refl
 
@@ -37,20 +37,20 @@ no_size bytes four starts eight = rw (four, starts, eight) refl
 
 -- ---- after the marker and the size
 
-abbrev message_checks : List ℕ → List (Option Fault)
+abbrev pub message_checks : List ℕ → List (Option Fault)
 message_checks bytes = size_faults bytes ++ message_faults (metadata_in bytes) (length (after_metadata bytes))
 
-abbrev checked_message : List ℕ → Result NextMessage Fault
+abbrev pub checked_message : List ℕ → Result NextMessage Fault
 checked_message bytes = unless (first_some (message_checks bytes)) (Ok (message_with (metadata_in bytes) (after_metadata bytes)))
 
-abbrev sized_message : List ℕ → Result NextMessage Fault
+abbrev pub sized_message : List ℕ → Result NextMessage Fault
 sized_message bytes = if metadata_size bytes == 0 then Ok end_of_stream else checked_message bytes
 
-sized : (bytes : List ℕ) → nat_lt (length bytes) 4 ≡ false → starts_with nat_eq bytes continuation_marker ≡ true → nat_lt (length bytes) 8 ≡ false → next_message bytes ≡ sized_message bytes
+pub sized : (bytes : List ℕ) → nat_lt (length bytes) 4 ≡ false → starts_with nat_eq bytes continuation_marker ≡ true → nat_lt (length bytes) 8 ≡ false → next_message bytes ≡ sized_message bytes
 unfolding next_message marker_faults
 sized bytes four starts eight = rw (four, starts, eight) refl
 
-size_longer : (bytes more : List ℕ) → 8 ≤ length bytes → metadata_size (bytes ++ more) ≡ metadata_size bytes
+pub size_longer : (bytes more : List ℕ) → 8 ≤ length bytes → metadata_size (bytes ++ more) ≡ metadata_size bytes
 unfolding metadata_size number
 size_longer [] more h = absurd (omega (arith, h))
 size_longer (a ∷ []) more h = absurd (omega (arith, h))
@@ -65,7 +65,7 @@ size_longer (a ∷ b ∷ c ∷ d ∷ e ∷ f ∷ g ∷ i ∷ bytes) more h = ref
 -- ---- the metadata and the body
 
 -- the checks of the metadata alone, before that of its body's length
-abbrev table_checks : List ℕ → List (Option Fault)
+abbrev pub table_checks : List ℕ → List (Option Fault)
 table_checks metadata =
     walk_fault (run metadata (message_things metadata) 0)
     ∷ when (not (version_of metadata == 4)) MetadataVersion
@@ -73,11 +73,11 @@ table_checks metadata =
     ∷ when (not (nat_lt (body_length metadata) (2 ^ 63))) BodyLength
     ∷ []
 
-message_found : (metadata : List ℕ) (following : ℕ) (fault : Fault) → first_some (table_checks metadata) ≡ Some fault → first_some (message_faults metadata following) ≡ Some fault
+pub message_found : (metadata : List ℕ) (following : ℕ) (fault : Fault) → first_some (table_checks metadata) ≡ Some fault → first_some (message_faults metadata following) ≡ Some fault
 unfolding message_faults
 message_found metadata following fault found = first_some-before (table_checks metadata) (when (nat_lt following (body_length metadata)) Truncated ∷ []) fault found
 
-message_last : (metadata : List ℕ) (following : ℕ) → first_some (table_checks metadata) ≡ None
+pub message_last : (metadata : List ℕ) (following : ℕ) → first_some (table_checks metadata) ≡ None
     → first_some (message_faults metadata following) ≡ first_some (when (nat_lt following (body_length metadata)) Truncated ∷ [])
 unfolding message_faults
 message_last metadata following none = first_some-after (table_checks metadata) (when (nat_lt following (body_length metadata)) Truncated ∷ []) none
@@ -87,7 +87,7 @@ size_checked : (bytes : List ℕ) → nat_lt MAX_BUFFER_BYTES (metadata_size byt
 unfolding size_faults
 size_checked bytes small room = rw (small, room) refl
 
-size_refused : (bytes : List ℕ) → nat_lt MAX_BUFFER_BYTES (metadata_size bytes) ≡ true → checked_message bytes ≡ Err MetadataSize
+pub size_refused : (bytes : List ℕ) → nat_lt MAX_BUFFER_BYTES (metadata_size bytes) ≡ true → checked_message bytes ≡ Err MetadataSize
 unfolding size_faults
 size_refused bytes large = rw large refl
 
@@ -95,13 +95,13 @@ size_cut : (bytes : List ℕ) → nat_lt MAX_BUFFER_BYTES (metadata_size bytes) 
 unfolding size_faults
 size_cut bytes small short = rw (small, short) refl
 
-metadata_longer : (bytes more : List ℕ) → 8 + metadata_size bytes ≤ length bytes → metadata_size (bytes ++ more) ≡ metadata_size bytes → metadata_in (bytes ++ more) ≡ metadata_in bytes
+pub metadata_longer : (bytes more : List ℕ) → 8 + metadata_size bytes ≤ length bytes → metadata_size (bytes ++ more) ≡ metadata_size bytes → metadata_in (bytes ++ more) ≡ metadata_in bytes
 unfolding metadata_in
 metadata_longer bytes more room same =
     ap (λ (n : ℕ). take n (drop 8 (bytes ++ more))) same ∙ ap (take (metadata_size bytes)) (drop-append-le 8 bytes more (omega (arith, room)))
     ∙ take-append-le (metadata_size bytes) (drop 8 bytes) more (omega (arith, room, length-drop 8 bytes))
 
-after_longer : (bytes more : List ℕ) → 8 + metadata_size bytes ≤ length bytes → metadata_size (bytes ++ more) ≡ metadata_size bytes → after_metadata (bytes ++ more) ≡ after_metadata bytes ++ more
+pub after_longer : (bytes more : List ℕ) → 8 + metadata_size bytes ≤ length bytes → metadata_size (bytes ++ more) ≡ metadata_size bytes → after_metadata (bytes ++ more) ≡ after_metadata bytes ++ more
 unfolding after_metadata
 after_longer bytes more room same =
     ap (λ (n : ℕ). drop n (drop 8 (bytes ++ more))) same ∙ ap (drop (metadata_size bytes)) (drop-append-le 8 bytes more (omega (arith, room)))
@@ -115,10 +115,10 @@ module _ (bytes more : List ℕ) (small : nat_lt MAX_BUFFER_BYTES (metadata_size
   abbrev following : List ℕ
   following = after_metadata bytes
 
-  checks_here : first_some (message_checks bytes) ≡ first_some (message_faults metadata (length following))
+  pub checks_here : first_some (message_checks bytes) ≡ first_some (message_faults metadata (length following))
   checks_here = size_checked bytes small (le-ltb (length bytes) (8 + metadata_size bytes) room)
 
-  checks_there : first_some (message_checks (bytes ++ more)) ≡ first_some (message_faults metadata (length (following ++ more)))
+  pub checks_there : first_some (message_checks (bytes ++ more)) ≡ first_some (message_faults metadata (length (following ++ more)))
   checks_there =
       size_checked (bytes ++ more) (ap (nat_lt MAX_BUFFER_BYTES) same ∙ small)
       (le-ltb (length (bytes ++ more)) (8 + metadata_size (bytes ++ more)) (omega (arith, room, same, length-append bytes more)))

@@ -58,11 +58,14 @@ pub fn meaning_is_a_table()
     read_rows_are_rows();
 }
 
-/// A settled fault, which a decoder reports, stays: it is the first fault of the bytes so far, and of these with any bytes appended.
+/// A settled fault, which a decoder reports, stays: it is the first fault of the bytes so far, and of these with any bytes appended. Any other fault
+/// may go: with some bytes appended there is another fault or none.
 pub fn settled_faults_stay()
     ensures stays { (bytes more : List ℕ) (fault : Fault) → settled_fault supported_codes bytes ≡ Some fault
         → settled_fault supported_codes (bytes ++ more) ≡ Some fault }
     ensures meant { (bytes : List ℕ) (fault : Fault) → settled_fault supported_codes bytes ≡ Some fault → meaning supported_codes bytes ≡ Err fault }
+    ensures goes { (bytes : List ℕ) (fault : Fault) → meaning supported_codes bytes ≡ Err fault → settled_fault supported_codes bytes ≡ None
+        → (more : List ℕ) × AreBytes more × (meaning supported_codes (bytes ++ more) ≡ Err fault → ⊥) }
 {}
 
 /// Whether a type code is supported matters only to streams whose schema names it. So a stream that names no later code has the meaning that it had
