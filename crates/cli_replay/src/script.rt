@@ -11,6 +11,7 @@ ghost use Rattle.cli_replay.specs.declared.script.ScriptError.TheVariants.{OutOf
 use field_texts::{ParseError, parse_fields};
 use std::alloc::{AllocError, AllocFailed, Global};
 use text_import::text_of;
+use thiserror::Error;
 
 /// A line of a script: one command.
 #[derive(Drop)]
@@ -32,10 +33,12 @@ pub enum ScriptLine<'a> {
 }
 
 /// Why a script is refused.
-#[derive(Clone, Copy, Debug, PartialEq, Eq)]
+#[derive(Clone, Copy, Debug, PartialEq, Eq, Error)]
 pub enum ScriptError {
     /// The number of the first invalid line, counted from 1.
+    #[error("G3 BadScript {0}")]
     BadLine(u64),
+    #[error("OutOfMemory")]
     OutOfMemory,
 }
 

@@ -19,14 +19,19 @@ ghost use Rattle.flatbuf.specs.Lookup.{target};
 ghost use Rattle.flatbuf.specs.Held.{Has, Fits};
 ghost use Rattle.flatbuf.specs.Stands.{At};
 
+use thiserror::Error;
+
 /// The first bad thing that a reader met.
-#[derive(Clone, Copy, Debug)]
+#[derive(Clone, Copy, Debug, Error)]
 pub enum FlatError {
     /// Something lies outside the bytes.
+    #[error("something outside the bytes")]
     Bounds,
     /// A vtable's size is odd or below 4.
+    #[error("a vtable whose size is odd or below 4")]
     VtableSize,
     /// More than `MAX_BUFFER_TABLES` tables, or a table more than `MAX_LEVELS` levels deep.
+    #[error("more than {tables} tables, or one more than {levels} levels deep", tables = MAX_BUFFER_TABLES, levels = MAX_LEVELS)]
     Budget,
 }
 

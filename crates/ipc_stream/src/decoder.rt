@@ -13,7 +13,9 @@ use crate::reading::{Reading, read_on, read_to_end};
 use crate::whole::table_of_front;
 use ipc_message::{Fault, ImportError};
 use std::alloc::Global;
+use std::fmt;
 use std::marker::Model;
+use thiserror::Error;
 use values::Table;
 
 /// Reads a stream that arrives in pieces, cut anywhere. It keeps all bytes so far, since the arrays of the table are places in them; after a fault it
@@ -38,10 +40,22 @@ impl Model for Decoder {
 }
 
 /// Why a decoder returns no table: its stream has a fault, or memory was refused. In the second case the decoder is returned unchanged.
-#[derive(Drop)]
+#[derive(Drop, Error)]
 pub enum FinishError {
+    #[error(transparent)]
     Fault(Fault),
+    #[error("OutOfMemory")]
     OutOfMemory(Decoder),
+}
+
+// The bytes of the decoder are not printed.
+impl fmt::Debug for FinishError {
+    fn fmt<W: fmt::Write>(&self, f: &mut fmt::Formatter<W>) -> fmt::Result {
+        match self {
+            FinishError::Fault(fault) => write!(f, "Fault({fault:?})"),
+            FinishError::OutOfMemory(_) => f.write_str("OutOfMemory(..)"),
+        }
+    }
 }
 
 // The state before anything is read.
