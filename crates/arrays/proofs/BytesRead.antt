@@ -7,7 +7,7 @@ use Rattle.std.proofs.lemmas.List.Folds.{list_all-append}
 use Rattle.arrays.proofs.Ends.{all_left}
 use Rattle.facts.specs.Checks.{first_some}
 use Rattle.facts.specs.laws.Checks.{unless_passed}
-use Rattle.arrow_schema.specs.Column.{Kind, Column, Columns, nulls, booleans, integers, dates, timestamps, texts, large_texts, binaries, large_binaries, fixed_binaries, lists, large_lists, fixed_lists, structs, column, no_column, and_column}
+use Rattle.arrow_schema.specs.Column.{Kind, Column, Columns, integers, dates, timestamps, fixed_binaries, lists, large_lists, fixed_lists, structs, column, no_column, and_column}
 use Rattle.ipc_message.specs.Raw.{RawBuffer, RawBatch, RawDictionaryBatch}
 use Rattle.columns.specs.Array.{Array, Arrays, arrays_of, first_array}
 use Rattle.columns.specs.Buffers.{Node}
@@ -45,20 +45,15 @@ mutual
   array_bytes (column name nullable kind None pairs) ns bs ds small known = kind_bytes kind ns bs ds small known
 
   kind_bytes : (k : Kind) (ns : List Node) (bs : List (List ℕ)) (ds : List (List Array)) → list_all are_bytes bs ≡ true → list_all (list_all has_bytes) ds ≡ true → has_bytes (kind_array_from k ns bs ds) ≡ true
-  kind_bytes nulls ns bs ds small known = refl
-  kind_bytes booleans ns bs ds small known = refl
   kind_bytes (integers bits signed) ns bs ds small known = there_passes are_bytes 1 bs [] refl small
   kind_bytes (dates unit) ns bs ds small known = there_passes are_bytes 1 bs [] refl small
   kind_bytes (timestamps unit timezone) ns bs ds small known = there_passes are_bytes 1 bs [] refl small
-  kind_bytes texts ns bs ds small known = refl
-  kind_bytes large_texts ns bs ds small known = refl
-  kind_bytes binaries ns bs ds small known = refl
-  kind_bytes large_binaries ns bs ds small known = refl
   kind_bytes (fixed_binaries width) ns bs ds small known = there_passes are_bytes 1 bs [] refl small
   kind_bytes (lists item) ns bs ds small known = array_bytes item (drop 1 ns) (drop 2 bs) ds (all_left are_bytes 2 bs small) known
   kind_bytes (large_lists item) ns bs ds small known = array_bytes item (drop 1 ns) (drop 2 bs) ds (all_left are_bytes 2 bs small) known
   kind_bytes (fixed_lists size item) ns bs ds small known = array_bytes item (drop 1 ns) (drop 1 bs) ds (all_left are_bytes 1 bs small) known
   kind_bytes (structs columns) ns bs ds small known = arrays_bytes columns (drop 1 ns) (drop 1 bs) ds (all_left are_bytes 1 bs small) known
+  kind_bytes _ ns bs ds small known = refl
 
   arrays_bytes : (cs : Columns) (ns : List Node) (bs : List (List ℕ)) (ds : List (List Array)) → list_all are_bytes bs ≡ true → list_all (list_all has_bytes) ds ≡ true → have_bytes (arrays_from cs ns bs ds) ≡ true
   arrays_bytes no_column ns bs ds small known = refl

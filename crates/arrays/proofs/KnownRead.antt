@@ -5,7 +5,7 @@ use Rattle.std.proofs.lemmas.Bool.{and_parts, not-true}
 use Rattle.std.proofs.lemmas.Grind.{flat_map-append}
 use Rattle.std.proofs.lemmas.List.{append-nil, length-append}
 use Rattle.std.proofs.lemmas.List.Folds.{list_all-append, list_any-append}
-use Rattle.arrow_schema.specs.Column.{Pair, Index, Kind, Column, Columns, nulls, booleans, integers, dates, timestamps, texts, large_texts, binaries, large_binaries, fixed_binaries, lists, large_lists, fixed_lists, structs, column, no_column, and_column}
+use Rattle.arrow_schema.specs.Column.{Pair, Index, Kind, Column, Columns, nulls, texts, lists, large_lists, fixed_lists, structs, column, no_column, and_column}
 use Rattle.columns.specs.Array.{Array, Arrays, array_list, arrays_of, empty_array, no_array, slots_in, dictionary_in}
 use Rattle.columns.specs.Buffers.{Node, typed_dictionaries, dictionaries_of}
 use Rattle.columns.specs.CellAt.{cell_at, cells_from, entries_of_kind, unless_null, kind_cell}
@@ -98,19 +98,7 @@ plain_good name nullable kind pairs a below none h = record {
 no_layout : (k : Kind) (ns : List Node) (bs : List (List ℕ)) (ds : List (List Array)) → dictionary_in (kind_array_from k ns bs ds) ≡ no_array
 unfolding kind_array_from
 no_layout nulls ns bs ds = refl
-no_layout booleans ns bs ds = refl
-no_layout (integers bits signed) ns bs ds = refl
-no_layout (dates unit) ns bs ds = refl
-no_layout (timestamps unit timezone) ns bs ds = refl
-no_layout texts ns bs ds = refl
-no_layout large_texts ns bs ds = refl
-no_layout binaries ns bs ds = refl
-no_layout large_binaries ns bs ds = refl
-no_layout (fixed_binaries width) ns bs ds = refl
-no_layout (lists item) ns bs ds = refl
-no_layout (large_lists item) ns bs ds = refl
-no_layout (fixed_lists size item) ns bs ds = refl
-no_layout (structs columns) ns bs ds = refl
+no_layout _ ns bs ds = refl
 
 mutual
   unfolding arrays_at arrays_below every_array array_from kind_array_from arrays_from
@@ -129,16 +117,7 @@ mutual
   good_below (large_lists item) ns bs ds h = good_at item (drop 1 ns) (drop 2 bs) ds h
   good_below (fixed_lists size item) ns bs ds h = good_at item (drop 1 ns) (drop 1 bs) ds h
   good_below (structs columns) ns bs ds h = all_good columns (drop 1 ns) (drop 1 bs) ds h
-  good_below nulls ns bs ds h = none_good
-  good_below booleans ns bs ds h = none_good
-  good_below (integers bits signed) ns bs ds h = none_good
-  good_below (dates unit) ns bs ds h = none_good
-  good_below (timestamps unit timezone) ns bs ds h = none_good
-  good_below texts ns bs ds h = none_good
-  good_below large_texts ns bs ds h = none_good
-  good_below binaries ns bs ds h = none_good
-  good_below large_binaries ns bs ds h = none_good
-  good_below (fixed_binaries width) ns bs ds h = none_good
+  good_below _ ns bs ds h = none_good
 
   all_good : (cs : Columns) (ns : List Node) (bs : List (List ℕ)) (ds : List (List Array)) → are_readable (values_in (every_array cs no_array)) ds ≡ true → AreGood (every_array cs (arrays_from cs ns bs ds))
   all_good no_column ns bs ds h = none_good

@@ -7,6 +7,7 @@ pub mod Layouts
 pub mod Counted
 pub mod Firsts
 pub mod SchemaValues
+pub mod LayoutRules
 pub mod Everys
 pub mod Rests
 pub mod Ends

@@ -4,7 +4,7 @@ use Rattle.std.specs.Prelude.{◌&&◌, if◌then◌else◌, option_map}
 use Rattle.std.proofs.lemmas.List.{drop_all}
 use Rattle.arrow_schema.specs.declared.types.Field.{Field}
 use Rattle.arrow_schema.specs.View.{column_of, kind_of, index_of}
-use Rattle.arrow_schema.specs.Column.{Kind, Column, Columns, nulls, booleans, integers, dates, timestamps, texts, large_texts, binaries, large_binaries, fixed_binaries, lists, large_lists, fixed_lists, structs, column, no_column, and_column, columns_of}
+use Rattle.arrow_schema.specs.Column.{Kind, Column, Columns, texts, large_texts, binaries, large_binaries, lists, large_lists, structs, column, no_column, and_column, columns_of}
 use Rattle.arrow_schema.specs.Parts.{kind_of_column, index_of_column}
 use Rattle.arrow_schema.specs.laws.Parts.{kind_of_field, index_of_field}
 use Rattle.cells.specs.Cell.{Cell, Cells, null, parts, no_cell, and_cell, cells_of}
@@ -41,16 +41,7 @@ own_weight texts width a i is ordered lt = let e : 4 ≡ width = cc in one_more 
 own_weight large_texts width a i is ordered lt = let e : 8 ≡ width = cc in one_more width 8 a i e ordered lt
 own_weight binaries width a i is ordered lt = let e : 4 ≡ width = cc in one_more width 4 a i e ordered lt
 own_weight large_binaries width a i is ordered lt = let e : 8 ≡ width = cc in one_more width 8 a i e ordered lt
-own_weight nulls width a i is ordered lt = absurd cc
-own_weight booleans width a i is ordered lt = absurd cc
-own_weight (integers bits signed) width a i is ordered lt = absurd cc
-own_weight (dates unit) width a i is ordered lt = absurd cc
-own_weight (timestamps unit timezone) width a i is ordered lt = absurd cc
-own_weight (fixed_binaries size) width a i is ordered lt = absurd cc
-own_weight (lists item) width a i is ordered lt = absurd cc
-own_weight (large_lists item) width a i is ordered lt = absurd cc
-own_weight (fixed_lists size item) width a i is ordered lt = absurd cc
-own_weight (structs columns) width a i is ordered lt = absurd cc
+own_weight _ width a i is ordered lt = absurd cc
 
 pub null_weight : (k : Kind) (width : ℕ) → contents_width k ≡ Some width → kind_weight k null ≡ 1
 unfolding kind_weight
@@ -58,16 +49,7 @@ null_weight texts width is = refl
 null_weight large_texts width is = refl
 null_weight binaries width is = refl
 null_weight large_binaries width is = refl
-null_weight nulls width is = absurd cc
-null_weight booleans width is = absurd cc
-null_weight (integers bits signed) width is = absurd cc
-null_weight (dates unit) width is = absurd cc
-null_weight (timestamps unit timezone) width is = absurd cc
-null_weight (fixed_binaries size) width is = absurd cc
-null_weight (lists item) width is = absurd cc
-null_weight (large_lists item) width is = absurd cc
-null_weight (fixed_lists size item) width is = absurd cc
-null_weight (structs columns) width is = absurd cc
+null_weight _ width is = absurd cc
 
 tests_of : (width own : ℕ) (a : Array) → own ≡ width → are_few_offsets own a ≡ false → are_unordered own (length (contents_in a)) a ≡ false
     → (are_few_offsets width a ≡ false) × (are_unordered width (length (contents_in a)) a ≡ false)
@@ -80,16 +62,7 @@ sound_offsets_of texts width a is few ordered = let e : 4 ≡ width = cc in test
 sound_offsets_of large_texts width a is few ordered = let e : 8 ≡ width = cc in tests_of width 8 a e few ordered
 sound_offsets_of binaries width a is few ordered = let e : 4 ≡ width = cc in tests_of width 4 a e few ordered
 sound_offsets_of large_binaries width a is few ordered = let e : 8 ≡ width = cc in tests_of width 8 a e few ordered
-sound_offsets_of nulls width a is few ordered = absurd cc
-sound_offsets_of booleans width a is few ordered = absurd cc
-sound_offsets_of (integers bits signed) width a is few ordered = absurd cc
-sound_offsets_of (dates unit) width a is few ordered = absurd cc
-sound_offsets_of (timestamps unit timezone) width a is few ordered = absurd cc
-sound_offsets_of (fixed_binaries size) width a is few ordered = absurd cc
-sound_offsets_of (lists item) width a is few ordered = absurd cc
-sound_offsets_of (large_lists item) width a is few ordered = absurd cc
-sound_offsets_of (fixed_lists size item) width a is few ordered = absurd cc
-sound_offsets_of (structs columns) width a is few ordered = absurd cc
+sound_offsets_of _ width a is few ordered = absurd cc
 
 -- a sound array of them has offsets enough, in order
 pub contents_sound : (k : Kind) (width : ℕ) (a : Array) → contents_width k ≡ Some width → is_kind_sound k a ≡ true
@@ -128,14 +101,7 @@ sized_weight texts width a i is sound lt = let own = own_weight texts width a i 
 sized_weight large_texts width a i is sound lt = let own = own_weight large_texts width a i is (contents_sound large_texts width a is sound).1 lt in omega (arith, own)
 sized_weight binaries width a i is sound lt = let own = own_weight binaries width a i is (contents_sound binaries width a is sound).1 lt in omega (arith, own)
 sized_weight large_binaries width a i is sound lt = let own = own_weight large_binaries width a i is (contents_sound large_binaries width a is sound).1 lt in omega (arith, own)
-sized_weight nulls width a i is sound lt = absurd cc
-sized_weight booleans width a i is sound lt = absurd cc
-sized_weight (integers bits signed) width a i is sound lt = absurd cc
-sized_weight (dates unit) width a i is sound lt = absurd cc
-sized_weight (timestamps unit timezone) width a i is sound lt = absurd cc
-sized_weight (fixed_binaries size) width a i is sound lt = absurd cc
-sized_weight (fixed_lists size item) width a i is sound lt = absurd cc
-sized_weight (structs columns) width a i is sound lt = absurd cc
+sized_weight _ width a i is sound lt = absurd cc
 
 pub sized_null : (k : Kind) (width : ℕ) → sized_width k ≡ Some width → kind_weight k null ≡ 1
 unfolding kind_weight
@@ -145,14 +111,7 @@ sized_null texts width is = refl
 sized_null large_texts width is = refl
 sized_null binaries width is = refl
 sized_null large_binaries width is = refl
-sized_null nulls width is = absurd cc
-sized_null booleans width is = absurd cc
-sized_null (integers bits signed) width is = absurd cc
-sized_null (dates unit) width is = absurd cc
-sized_null (timestamps unit timezone) width is = absurd cc
-sized_null (fixed_binaries size) width is = absurd cc
-sized_null (fixed_lists size item) width is = absurd cc
-sized_null (structs columns) width is = absurd cc
+sized_null _ width is = absurd cc
 
 own_case : (w : Cell → ℕ) (cell : Cell) (size unit : ℕ) (valid : Bool) → w cell ≡ 1 + size * unit → w null ≡ 1
     → w (if valid then cell else null) ≡ 1 + (if valid && valid then size else 0) * unit
@@ -201,14 +160,7 @@ sized_sound texts width a is sound = let own = contents_sound texts width a is s
 sized_sound large_texts width a is sound = let own = contents_sound large_texts width a is sound in (own.0, (length (contents_in a), own.1))
 sized_sound binaries width a is sound = let own = contents_sound binaries width a is sound in (own.0, (length (contents_in a), own.1))
 sized_sound large_binaries width a is sound = let own = contents_sound large_binaries width a is sound in (own.0, (length (contents_in a), own.1))
-sized_sound nulls width a is sound = absurd cc
-sized_sound booleans width a is sound = absurd cc
-sized_sound (integers bits signed) width a is sound = absurd cc
-sized_sound (dates unit) width a is sound = absurd cc
-sized_sound (timestamps unit timezone) width a is sound = absurd cc
-sized_sound (fixed_binaries size) width a is sound = absurd cc
-sized_sound (fixed_lists size item) width a is sound = absurd cc
-sized_sound (structs columns) width a is sound = absurd cc
+sized_sound _ width a is sound = absurd cc
 
 -- ---- structs
 

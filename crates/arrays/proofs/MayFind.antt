@@ -7,7 +7,7 @@ use Rattle.std.proofs.lemmas.List.{drop_all}
 use Rattle.std.proofs.lemmas.List.Folds.{list_any-append}
 use Rattle.facts.specs.laws.Lists.{drop-item, none_in_range}
 use Rattle.arrow_schema.specs.declared.types.Field.{Field, out-Field}
-use Rattle.arrow_schema.specs.Column.{Kind, Column, Columns, nulls, booleans, integers, dates, timestamps, texts, large_texts, binaries, large_binaries, fixed_binaries, lists, large_lists, fixed_lists, structs, column, no_column, and_column}
+use Rattle.arrow_schema.specs.Column.{Kind, Column, Columns, lists, large_lists, fixed_lists, structs, column, no_column, and_column}
 use Rattle.arrow_schema.specs.Parts.{kind_of_column}
 use Rattle.arrow_schema.specs.laws.Parts.{kind_of_field}
 use Rattle.arrow_schema.specs.View.{column_of, kind_of}
@@ -60,16 +60,7 @@ mutual
   none_below test (large_lists item) a i h = each_not_found (finds test) (visible item (items_in a)) (λ k. none_at test item (items_in a) k h) (range_with_len (span_start 8 a i) (span_size 8 a i))
   none_below test (fixed_lists size item) a i h = each_not_found (finds test) (visible item (items_in a)) (λ k. none_at test item (items_in a) k h) (range_with_len (i * size) size)
   none_below test (structs columns) a i h = none_in_parts test columns (children_in a) i h
-  none_below test nulls a i h = refl
-  none_below test booleans a i h = refl
-  none_below test (integers bits signed) a i h = refl
-  none_below test (dates unit) a i h = refl
-  none_below test (timestamps unit timezone) a i h = refl
-  none_below test texts a i h = refl
-  none_below test large_texts a i h = refl
-  none_below test binaries a i h = refl
-  none_below test large_binaries a i h = refl
-  none_below test (fixed_binaries width) a i h = refl
+  none_below test _ a i h = refl
 
   none_in_parts : (test : SlotTest) (cs : Columns) (arrays : Arrays) (i : ℕ) → any_may_find test cs ≡ false → list_any (finds test) (visible_parts cs arrays i) ≡ false
   none_in_parts test no_column arrays i h = refl

@@ -7,7 +7,7 @@ use Rattle.arrow_schema.specs.declared.types.DictSpec.{DictSpec}
 use Rattle.arrow_schema.specs.Parts.{is_nulls, kind_of_column, index_of_column}
 use Rattle.arrow_schema.specs.View.{column_of, kind_of, index_of}
 use Rattle.arrow_schema.specs.laws.Parts.{kind_of_field, index_of_field}
-use Rattle.arrow_schema.specs.Column.{Index, Column, Columns, column, columns_of, Kind, nulls, booleans, integers, dates, timestamps, texts, large_texts, binaries, large_binaries, fixed_binaries, lists, large_lists, fixed_lists, structs}
+use Rattle.arrow_schema.specs.Column.{Index, Column, Columns, column, columns_of, Kind, nulls}
 use Rattle.columns.specs.declared.array.PlacedArray.{PlacedArray}
 use Rattle.columns.specs.Array.{Array, Arrays, Layout, array, dictionary_layout, no_array, and_array, arrays_of, array_list, slots_in, validity_in, layout_in}
 use Rattle.columns.specs.Buffers.{Node}
@@ -20,54 +20,18 @@ use Rattle.arrays.specs.inner.Rest.{rest_nodes, rest_buffers, rest_known, rest_d
 slots_from : (k : Kind) (nodes : List Node) (buffers : List (List ℕ)) (dictionaries : List (List Array)) → slots_in (kind_array_from k nodes buffers dictionaries) ≡ first_slots nodes
 unfolding kind_array_from
 slots_from nulls nodes buffers dictionaries = refl
-slots_from booleans nodes buffers dictionaries = refl
-slots_from (integers bits signed) nodes buffers dictionaries = refl
-slots_from (dates unit) nodes buffers dictionaries = refl
-slots_from (timestamps unit timezone) nodes buffers dictionaries = refl
-slots_from texts nodes buffers dictionaries = refl
-slots_from large_texts nodes buffers dictionaries = refl
-slots_from binaries nodes buffers dictionaries = refl
-slots_from large_binaries nodes buffers dictionaries = refl
-slots_from (fixed_binaries width) nodes buffers dictionaries = refl
-slots_from (lists item) nodes buffers dictionaries = refl
-slots_from (large_lists item) nodes buffers dictionaries = refl
-slots_from (fixed_lists size item) nodes buffers dictionaries = refl
-slots_from (structs columns) nodes buffers dictionaries = refl
+slots_from _ nodes buffers dictionaries = refl
 
 -- every type but that of nulls has a validity bitmap, which is the first buffer
 pub no_validity : (k : Kind) (r : Rest) → is_nulls k ≡ true → validity_in (kind_placed k r) ≡ []
 unfolding kind_array_from
 no_validity nulls r is = refl
-no_validity booleans r is = absurd cc
-no_validity (integers bits signed) r is = absurd cc
-no_validity (dates unit) r is = absurd cc
-no_validity (timestamps unit timezone) r is = absurd cc
-no_validity texts r is = absurd cc
-no_validity large_texts r is = absurd cc
-no_validity binaries r is = absurd cc
-no_validity large_binaries r is = absurd cc
-no_validity (fixed_binaries width) r is = absurd cc
-no_validity (lists item) r is = absurd cc
-no_validity (large_lists item) r is = absurd cc
-no_validity (fixed_lists size item) r is = absurd cc
-no_validity (structs columns) r is = absurd cc
+no_validity _ r is = absurd cc
 
 pub first_validity : (k : Kind) (r : Rest) → is_nulls k ≡ false → validity_in (kind_placed k r) ≡ buffer_at (rest_buffers r) 0
 unfolding kind_array_from
 first_validity nulls r is = absurd cc
-first_validity booleans r is = refl
-first_validity (integers bits signed) r is = refl
-first_validity (dates unit) r is = refl
-first_validity (timestamps unit timezone) r is = refl
-first_validity texts r is = refl
-first_validity large_texts r is = refl
-first_validity binaries r is = refl
-first_validity large_binaries r is = refl
-first_validity (fixed_binaries width) r is = refl
-first_validity (lists item) r is = refl
-first_validity (large_lists item) r is = refl
-first_validity (fixed_lists size item) r is = refl
-first_validity (structs columns) r is = refl
+first_validity _ r is = refl
 
 whole : (a : Array) (slots : ℕ) (validity : List ℕ) (layout : Layout) → slots ≡ slots_in a → validity ≡ validity_in a → layout ≡ layout_in a → array slots validity layout ≡ a
 whole (array n v l) slots validity layout s e f = λ j. array (s j) (e j) (f j)

@@ -42,14 +42,12 @@ module _ (bytes : List ℕ) (known : DictionaryPart → List Array) (small : are
   layout_has : (y : PlacedLayout-F LayoutOfBytes ArrayOfBytes)
       → has_layout_bytes (layout_step bytes known (map-PlacedLayout _ _ _ _ layout_of (array_in bytes known) (map-PlacedLayout _ _ _ _ (λ e. e.0) (λ e. e.0) y))) ≡ true
   unfolding has_layout_bytes
-  layout_has placed.Null = refl
-  layout_has (placed.Bits bits) = refl
   layout_has (placed.Fixed values) = span_bytes values
-  layout_has (placed.Binary offsets contents) = refl
   layout_has (placed.List offsets items) = items.value.1
   layout_has (placed.FixedList items) = items.value.1
   layout_has (placed.Struct children) = all_have children.items
   layout_has (placed.Dictionary indices part) = and_from _ _ (span_bytes indices) (smalls part)
+  layout_has _ = refl
 
   array_has : (y : PlacedArray-F LayoutOfBytes ArrayOfBytes)
       → has_bytes (array_step bytes (map-PlacedArray _ _ _ _ layout_of (array_in bytes known) (map-PlacedArray _ _ _ _ (λ e. e.0) (λ e. e.0) y))) ≡ true

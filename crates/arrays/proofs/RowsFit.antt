@@ -11,13 +11,13 @@ use Rattle.byteorder.specs.Numbers.{little_from-lt}
 use Rattle.arrow_schema.specs.Column.{is_bit_width, DateKind, days, date_milliseconds, Kind, Column, Columns, nulls, booleans, integers, dates, timestamps, texts, large_texts, binaries, large_binaries, fixed_binaries, lists, large_lists, fixed_lists, structs, column, no_column, and_column, columns_of, PlainSchema}
 use Rattle.arrow_schema.specs.Limits.{IsWithinLimits, is_nested, is_kind_of_width, has_flat_dictionary, has_bit_widths}
 use Rattle.arrow_schema.specs.Preorder.{preorder, preorder_below, preorder_all, every_column}
-use Rattle.cells.specs.Cell.{Cell, Cells, null, boolean, number, text, bytes, items, parts, cells_of}
+use Rattle.cells.specs.Cell.{Cell, Cells, null, cells_of}
 use Rattle.cells.specs.Fit.{in_range, date_bits, all_cells, count_of, null_or, fits, fits_kind, each_fits}
 use Rattle.cells.specs.Nulls.{is_null}
 use Rattle.cells.specs.Row.{row_fits}
 use Rattle.cells.specs.laws.Cells.{cells_list}
 use Rattle.cells.specs.laws.Ranges.{integer_fits}
-use Rattle.columns.specs.Array.{Array, Arrays, array, no_array, and_array, null_layout, bit_layout, fixed_layout, binary_layout, list_layout, fixed_list_layout, struct_layout, dictionary_layout, slots_in, values_in, items_in, children_in, dictionary_in, indices_in, array_list, first_array, other_arrays}
+use Rattle.columns.specs.Array.{Array, Arrays, array, no_array, and_array, fixed_layout, list_layout, fixed_list_layout, struct_layout, dictionary_layout, slots_in, values_in, items_in, children_in, dictionary_in, indices_in, array_list, first_array, other_arrays}
 use Rattle.columns.specs.CellAt.{is_valid, number_at, integer_at, contents_at, value_at, span_start, span_size, cells_from, unless_null, entries_of_kind, entry_at, index_at, cell_at, kind_cell, part_cells, rows_in, row_at}
 use Rattle.columns.specs.Sound.{is_sound, is_kind_sound, has_sound_children, are_sound}
 use Rattle.columns.specs.Tests.{arrays_at, arrays_below, every_array, are_few, are_unordered, has_short_validity}
@@ -107,47 +107,24 @@ small_number width k values h = little_from-lt 0 width (drop (k * width) values)
 
 pub values_bytes : (a : Array) → has_bytes a ≡ true → are_bytes (values_in a) ≡ true
 unfolding has_bytes
-values_bytes (array slots validity null_layout) h = refl
-values_bytes (array slots validity (bit_layout bits)) h = refl
 values_bytes (array slots validity (fixed_layout values)) h = h
-values_bytes (array slots validity (binary_layout offsets contents)) h = refl
-values_bytes (array slots validity (list_layout offsets child)) h = refl
-values_bytes (array slots validity (fixed_list_layout child)) h = refl
-values_bytes (array slots validity (struct_layout children)) h = refl
-values_bytes (array slots validity (dictionary_layout indices dictionary)) h = refl
+values_bytes _ h = refl
 
 pub items_bytes : (a : Array) → has_bytes a ≡ true → has_bytes (items_in a) ≡ true
 unfolding has_bytes
-items_bytes (array slots validity null_layout) h = refl
-items_bytes (array slots validity (bit_layout bits)) h = refl
-items_bytes (array slots validity (fixed_layout values)) h = refl
-items_bytes (array slots validity (binary_layout offsets contents)) h = refl
 items_bytes (array slots validity (list_layout offsets child)) h = h
 items_bytes (array slots validity (fixed_list_layout child)) h = h
-items_bytes (array slots validity (struct_layout children)) h = refl
-items_bytes (array slots validity (dictionary_layout indices dictionary)) h = refl
+items_bytes _ h = refl
 
 pub children_bytes : (a : Array) → has_bytes a ≡ true → have_bytes (children_in a) ≡ true
 unfolding has_bytes
-children_bytes (array slots validity null_layout) h = refl
-children_bytes (array slots validity (bit_layout bits)) h = refl
-children_bytes (array slots validity (fixed_layout values)) h = refl
-children_bytes (array slots validity (binary_layout offsets contents)) h = refl
-children_bytes (array slots validity (list_layout offsets child)) h = refl
-children_bytes (array slots validity (fixed_list_layout child)) h = refl
 children_bytes (array slots validity (struct_layout children)) h = h
-children_bytes (array slots validity (dictionary_layout indices dictionary)) h = refl
+children_bytes _ h = refl
 
 pub dictionary_bytes : (a : Array) → has_bytes a ≡ true → (are_bytes (indices_in a) ≡ true) × (have_bytes (dictionary_in a) ≡ true)
 unfolding has_bytes
-dictionary_bytes (array slots validity null_layout) h = (refl, refl)
-dictionary_bytes (array slots validity (bit_layout bits)) h = (refl, refl)
-dictionary_bytes (array slots validity (fixed_layout values)) h = (refl, refl)
-dictionary_bytes (array slots validity (binary_layout offsets contents)) h = (refl, refl)
-dictionary_bytes (array slots validity (list_layout offsets child)) h = (refl, refl)
-dictionary_bytes (array slots validity (fixed_list_layout child)) h = (refl, refl)
-dictionary_bytes (array slots validity (struct_layout children)) h = (refl, refl)
 dictionary_bytes (array slots validity (dictionary_layout indices dictionary)) h = and_parts (are_bytes indices) (have_bytes dictionary) h
+dictionary_bytes _ h = (refl, refl)
 
 pub first_bytes : (arrays : Arrays) → have_bytes arrays ≡ true → (has_bytes (first_array arrays) ≡ true) × (have_bytes (other_arrays arrays) ≡ true)
 unfolding has_bytes
@@ -160,21 +137,11 @@ first_bytes (and_array a others) h = and_parts (has_bytes a) (have_bytes others)
 null_or_from : (nullable : Bool) (p : Cell → Bool) (c : Cell) → (not nullable && is_null c) ≡ false → (is_null c ≡ false → p c ≡ true) → null_or nullable p c ≡ true
 null_or_from true p null taken there = refl
 null_or_from false p null taken there = absurd cc
-null_or_from nullable p (boolean b) taken there = there refl
-null_or_from nullable p (number n) taken there = there refl
-null_or_from nullable p (text t) taken there = there refl
-null_or_from nullable p (bytes t) taken there = there refl
-null_or_from nullable p (items cs) taken there = there refl
-null_or_from nullable p (parts cs) taken there = there refl
+null_or_from nullable p _ taken there = there refl
 
 there_fits : (p : Cell → Bool) (c : Cell) → null_or true p c ≡ true → is_null c ≡ false → p c ≡ true
 there_fits p null h there = absurd cc
-there_fits p (boolean b) h there = h
-there_fits p (number n) h there = h
-there_fits p (text t) h there = h
-there_fits p (bytes t) h there = h
-there_fits p (items cs) h there = h
-there_fits p (parts cs) h there = h
+there_fits p _ h there = h
 
 date_wide : (unit : DateKind) → is_bit_width (date_bits unit) ≡ true
 date_wide days = refl
@@ -196,7 +163,6 @@ whole_value width slots i values few less =
 flat_fits : (k : Kind) (a : Array) (i : ℕ) → is_nested k ≡ false → is_kind_of_width k ≡ true → is_kind_sound k a ≡ true → has_bytes a ≡ true → i < slots_in a
     → is_bad_text (kind_cell k a i) ≡ false → is_null (kind_cell k a i) ≡ false → fits_kind k (kind_cell k a i) ≡ true
 unfolding kind_cell fits_kind
-flat_fits nulls a i flat wide sound small less good there = absurd cc
 flat_fits booleans a i flat wide sound small less good there = refl
 flat_fits (integers bits signed) a i flat wide sound small less good there = integer_here bits signed (values_in a) i wide (values_bytes a small)
 flat_fits (dates unit) a i flat wide sound small less good there = integer_here (date_bits unit) true (values_in a) i (date_wide unit) (values_bytes a small)
@@ -206,10 +172,7 @@ flat_fits large_texts a i flat wide sound small less good there = not-false (is_
 flat_fits binaries a i flat wide sound small less good there = refl
 flat_fits large_binaries a i flat wide sound small less good there = refl
 flat_fits (fixed_binaries width) a i flat wide sound small less good there = whole_value width (slots_in a) i (values_in a) (sound_buffer (fixed_binaries width) a sound) less
-flat_fits (lists item) a i flat wide sound small less good there = absurd cc
-flat_fits (large_lists item) a i flat wide sound small less good there = absurd cc
-flat_fits (fixed_lists size item) a i flat wide sound small less good there = absurd cc
-flat_fits (structs columns) a i flat wide sound small less good there = absurd cc
+flat_fits _ a i flat wide sound small less good there = absurd cc
 
 -- ---- entries of dictionaries
 

@@ -12,7 +12,7 @@ use Rattle.std.proofs.lemmas.List.Folds.{list_all-append, list_any-append}
 use Rattle.std.proofs.lemmas.Map.Keys.{IsDistinct-push}
 use Rattle.std.proofs.lemmas.Map.Steps.{length-le_from_distinct_below}
 use Rattle.std.proofs.lemmas.Slice.Eq.{bytes_eq-Decides}
-use Rattle.arrow_schema.specs.Column.{is_bit_width, Index, Pair, Kind, Column, Columns, nulls, booleans, integers, dates, timestamps, texts, large_texts, binaries, large_binaries, fixed_binaries, lists, large_lists, fixed_lists, structs, column, no_column, and_column, columns_of, PlainSchema}
+use Rattle.arrow_schema.specs.Column.{is_bit_width, Index, Pair, Kind, Column, Columns, lists, large_lists, fixed_lists, structs, column, no_column, and_column, columns_of, PlainSchema}
 use Rattle.arrow_schema.specs.Limits.{IsWithinLimits, is_nested, is_kind_of_width, has_flat_dictionary, has_bit_widths}
 use Rattle.arrow_schema.specs.Preorder.{preorder, preorder_below, preorder_all}
 use Rattle.cells.specs.Cell.{Cell, null, boolean, number, text, bytes, items, parts, cells_of, cell_list}
@@ -54,14 +54,12 @@ record Tracks (entries : List Cell) (most : ℕ) (found : List Cell) : Type 0 wh
   below : (n : ℕ) → list_any (nat_eq n) numbers ≡ true → n < most
 
 same_entry : (c : Cell) → entry_in c ≡ Some c → is_entry c c ≡ true
-same_entry null h = absurd cc
 same_entry (boolean true) h = refl
 same_entry (boolean false) h = refl
 same_entry (number n) h = (Decides-int_eq n n).1 refl
 same_entry (text t) h = (bytes_eq-Decides t t).1 refl
 same_entry (bytes t) h = (bytes_eq-Decides t t).1 refl
-same_entry (items cs) h = absurd cc
-same_entry (parts cs) h = absurd cc
+same_entry _ h = absurd cc
 
 -- a number that is among the numbers has its entry among the entries
 number_lacking : (entries : List Cell) (n : ℕ) (ns : List ℕ) → is_entry (get_or entries n null) (get_or entries n null) ≡ true
@@ -110,9 +108,6 @@ with_one entries most n found c t less is entry = one (list_any (is_entry c) fou
         }
 
 next_tracked : (entries : List Cell) (most : ℕ) (found : List Cell) (c : Cell) → Tracks entries most found → IsNamed entries most c → Tracks entries most (with_entry found c)
-next_tracked entries most found null t named = t
-next_tracked entries most found (items cs) t named = t
-next_tracked entries most found (parts cs) t named = t
 next_tracked entries most found (boolean b) t (inl e) = absurd cc
 next_tracked entries most found (boolean b) t (inr n) = with_one entries most n.0 found (boolean b) t n.1 n.2 refl
 next_tracked entries most found (number z) t (inl e) = absurd cc
@@ -121,6 +116,7 @@ next_tracked entries most found (text x) t (inl e) = absurd cc
 next_tracked entries most found (text x) t (inr n) = with_one entries most n.0 found (text x) t n.1 n.2 refl
 next_tracked entries most found (bytes x) t (inl e) = absurd cc
 next_tracked entries most found (bytes x) t (inr n) = with_one entries most n.0 found (bytes x) t n.1 n.2 refl
+next_tracked entries most found _ t named = t
 
 all_tracked : (entries : List Cell) (most : ℕ) (found cells : List Cell) → Tracks entries most found → AllByRecursion (IsNamed entries most) cells → Tracks entries most (with_entries found cells)
 unfolding with_entries
@@ -287,16 +283,7 @@ mutual
       (each_mapped (IsCellOf (column name nullable (structs columns) None pairs) a) (IsRowOf 0 columns (children_in a)) part_list
       (λ x is. by_cell (column name nullable (structs columns) None pairs) a (λ y. IsRowOf 0 columns (children_in a) (part_list y)) (inl refl)
       (λ b j small shares. parts_here columns (children_in a) (children_in b) (is_valid b j) j (children_bytes b small) shares) x is) cells each)
-  below_few name nullable nulls pairs a cells limits each = refl
-  below_few name nullable booleans pairs a cells limits each = refl
-  below_few name nullable (integers bits signed) pairs a cells limits each = refl
-  below_few name nullable (dates unit) pairs a cells limits each = refl
-  below_few name nullable (timestamps unit timezone) pairs a cells limits each = refl
-  below_few name nullable texts pairs a cells limits each = refl
-  below_few name nullable large_texts pairs a cells limits each = refl
-  below_few name nullable binaries pairs a cells limits each = refl
-  below_few name nullable large_binaries pairs a cells limits each = refl
-  below_few name nullable (fixed_binaries width) pairs a cells limits each = refl
+  below_few name nullable _ pairs a cells limits each = refl
 
   parts_few : (i : ℕ) (cs : Columns) (arrays : Arrays) (rows : List (List Cell)) → AreSoundColumns (preorder_all cs) → AllByRecursion (IsRowOf i cs arrays) rows → HaveFew (holdings_from i cs rows)
   parts_few i no_column arrays rows limits each = refl
@@ -319,16 +306,7 @@ mutual
   shares_below (large_lists item) a = shares_own item (items_in a)
   shares_below (fixed_lists size item) a = shares_own item (items_in a)
   shares_below (structs columns) a = share_own columns (children_in a)
-  shares_below nulls a = tt
-  shares_below booleans a = tt
-  shares_below (integers bits signed) a = tt
-  shares_below (dates unit) a = tt
-  shares_below (timestamps unit timezone) a = tt
-  shares_below texts a = tt
-  shares_below large_texts a = tt
-  shares_below binaries a = tt
-  shares_below large_binaries a = tt
-  shares_below (fixed_binaries width) a = tt
+  shares_below _ a = tt
 
   pub share_own : (cs : Columns) (arrays : Arrays) → ShareEntries cs arrays arrays
   share_own no_column arrays = tt

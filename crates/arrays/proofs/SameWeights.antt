@@ -6,7 +6,7 @@ use Rattle.std.proofs.lemmas.Bool.{or_parts}
 use Rattle.std.proofs.lemmas.List.{drop_all}
 use Rattle.arrays.proofs.MayFind.{next_field}
 use Rattle.arrow_schema.specs.declared.types.Field.{Field}
-use Rattle.arrow_schema.specs.Column.{Kind, Column, Columns, nulls, booleans, integers, dates, timestamps, texts, large_texts, binaries, large_binaries, fixed_binaries, lists, large_lists, fixed_lists, structs, column, no_column, and_column}
+use Rattle.arrow_schema.specs.Column.{Kind, Column, Columns, texts, large_texts, binaries, large_binaries, lists, large_lists, fixed_lists, structs, column, no_column, and_column}
 use Rattle.arrow_schema.specs.View.{column_of, kind_of}
 use Rattle.arrow_schema.specs.Parts.{kind_of_column}
 use Rattle.arrow_schema.specs.laws.Parts.{kind_of_field}
@@ -58,22 +58,17 @@ mutual
   unfolding may_vary may_vary_in any_may_vary weight kind_weight parts_weight cell_at kind_cell part_cells
 
   same_weight : (k : Kind) → may_vary k ≡ false → (a : Array) (i : ℕ) → kind_weight k (kind_cell k a i) ≡ kind_weight k null
-  same_weight nulls h a i = refl
-  same_weight booleans h a i = refl
-  same_weight (integers bits signed) h a i = refl
-  same_weight (dates unit) h a i = refl
-  same_weight (timestamps unit timezone) h a i = refl
   same_weight texts h a i = absurd cc
   same_weight large_texts h a i = absurd cc
   same_weight binaries h a i = absurd cc
   same_weight large_binaries h a i = absurd cc
-  same_weight (fixed_binaries width) h a i = refl
   same_weight (lists item) h a i = absurd cc
   same_weight (large_lists item) h a i = absurd cc
   same_weight (fixed_lists size item) h a i =
       fixed_own size item a i
       ∙ ap (λ (n : ℕ). 1 + n) (each_same (weight item) (cell_at item (items_in a)) (weight item null) (i * size) size (λ j from to. same_cell item h (items_in a) j))
   same_weight (structs columns) h a i = ap (λ (n : ℕ). 1 + n) (same_parts columns h (children_in a) i)
+  same_weight _ h a i = refl
 
   same_cell : (c : Column) → may_vary_in c ≡ false → (a : Array) (i : ℕ) → weight c (cell_at c a i) ≡ weight c null
   same_cell (column name nullable kind None pairs) h a i = or_null (kind_weight kind) (kind_cell kind a i) (is_valid a i) (same_weight kind h a i)

@@ -12,7 +12,7 @@ use Rattle.arrays.proofs.Ranges.{any-fewer}
 use Rattle.bitmap.specs.Bits.{bit, count_of}
 use Rattle.arrow_schema.specs.declared.types.DictSpec.{DictSpec}
 use Rattle.arrow_schema.specs.View.{index_of}
-use Rattle.arrow_schema.specs.Column.{Index, Column, column, Kind, nulls, booleans, integers, dates, timestamps, texts, large_texts, binaries, large_binaries, fixed_binaries, lists, large_lists, fixed_lists, structs}
+use Rattle.arrow_schema.specs.Column.{Index, Column, column, Kind, nulls, texts, large_texts}
 use Rattle.cells.specs.Cell.{Cell, null, text}
 use Rattle.columns.specs.declared.numbers.OffsetWidth.{OffsetWidth}
 use Rattle.columns.specs.declared.view.ArrayView.{ArrayView}
@@ -58,35 +58,13 @@ pub text_at : (kind : Kind) (w : ℕ) (a : Array) (i : ℕ) → text_width kind 
 unfolding kind_cell
 text_at texts w a i h = let e : 4 ≡ w = cc in if_text (is_valid a i) (contents_at 4 a i) ∙ ap (λ (k : ℕ). is_valid a i && not (is_utf8 (contents_at k a i))) e
 text_at large_texts w a i h = let e : 8 ≡ w = cc in if_text (is_valid a i) (contents_at 8 a i) ∙ ap (λ (k : ℕ). is_valid a i && not (is_utf8 (contents_at k a i))) e
-text_at nulls w a i h = absurd cc
-text_at booleans w a i h = absurd cc
-text_at (integers bits signed) w a i h = absurd cc
-text_at (dates unit) w a i h = absurd cc
-text_at (timestamps unit timezone) w a i h = absurd cc
-text_at binaries w a i h = absurd cc
-text_at large_binaries w a i h = absurd cc
-text_at (fixed_binaries width) w a i h = absurd cc
-text_at (lists item) w a i h = absurd cc
-text_at (large_lists item) w a i h = absurd cc
-text_at (fixed_lists size item) w a i h = absurd cc
-text_at (structs columns) w a i h = absurd cc
+text_at _ w a i h = absurd cc
 
 pub no_text_at : (kind : Kind) (a : Array) (i : ℕ) → text_width kind ≡ None → is_bad_text (unless_null (kind_cell kind) a i) ≡ false
 unfolding kind_cell
 no_text_at texts a i h = absurd cc
 no_text_at large_texts a i h = absurd cc
-no_text_at nulls a i h = if_other (is_valid a i) _ refl
-no_text_at booleans a i h = if_other (is_valid a i) _ refl
-no_text_at (integers bits signed) a i h = if_other (is_valid a i) _ refl
-no_text_at (dates unit) a i h = if_other (is_valid a i) _ refl
-no_text_at (timestamps unit timezone) a i h = if_other (is_valid a i) _ refl
-no_text_at binaries a i h = if_other (is_valid a i) _ refl
-no_text_at large_binaries a i h = if_other (is_valid a i) _ refl
-no_text_at (fixed_binaries width) a i h = if_other (is_valid a i) _ refl
-no_text_at (lists item) a i h = if_other (is_valid a i) _ refl
-no_text_at (large_lists item) a i h = if_other (is_valid a i) _ refl
-no_text_at (fixed_lists size item) a i h = if_other (is_valid a i) _ refl
-no_text_at (structs columns) a i h = if_other (is_valid a i) _ refl
+no_text_at _ a i h = if_other (is_valid a i) _ refl
 
 -- ---- nulls
 
@@ -101,19 +79,7 @@ if_filled false c h = refl
 pub null_at : (kind : Kind) (a : Array) (i : ℕ) → is_null (unless_null (kind_cell kind) a i) ≡ (is_nulls kind || not (is_valid a i))
 unfolding kind_cell
 null_at nulls a i = if_null (is_valid a i)
-null_at booleans a i = if_filled (is_valid a i) _ refl
-null_at (integers bits signed) a i = if_filled (is_valid a i) _ refl
-null_at (dates unit) a i = if_filled (is_valid a i) _ refl
-null_at (timestamps unit timezone) a i = if_filled (is_valid a i) _ refl
-null_at texts a i = if_filled (is_valid a i) _ refl
-null_at large_texts a i = if_filled (is_valid a i) _ refl
-null_at binaries a i = if_filled (is_valid a i) _ refl
-null_at large_binaries a i = if_filled (is_valid a i) _ refl
-null_at (fixed_binaries width) a i = if_filled (is_valid a i) _ refl
-null_at (lists item) a i = if_filled (is_valid a i) _ refl
-null_at (large_lists item) a i = if_filled (is_valid a i) _ refl
-null_at (fixed_lists size item) a i = if_filled (is_valid a i) _ refl
-null_at (structs columns) a i = if_filled (is_valid a i) _ refl
+null_at _ a i = if_filled (is_valid a i) _ refl
 
 pub unset_if : (v : List ℕ) (a : Array) (from n : ℕ) → v ≡ validity_in a
     → list_any (λ i. not (is_valid a i)) (range_with_len from n) ≡ (not (length v == 0) && nat_lt (count_of v from n) n)

@@ -7,7 +7,7 @@ use Rattle.arrow_schema.specs.Parts.{kind_of_column}
 use Rattle.arrow_schema.specs.laws.Parts.{kind_of_field}
 use Rattle.arrays.proofs.Ranges.{any-split, any-both, any-first_and_others, flat_map-alike, flat_map-none, flat_map-spans}
 use Rattle.arrow_schema.specs.declared.types.Field.{Field, out-Field}
-use Rattle.arrow_schema.specs.Column.{Kind, Column, Columns, nulls, booleans, integers, dates, timestamps, texts, large_texts, binaries, large_binaries, fixed_binaries, lists, large_lists, fixed_lists, structs, column, no_column, and_column}
+use Rattle.arrow_schema.specs.Column.{Kind, Column, Columns, lists, large_lists, fixed_lists, structs, column, no_column, and_column}
 use Rattle.arrow_schema.specs.Limits.{is_nested}
 use Rattle.arrow_schema.specs.View.{column_of, kind_of}
 use Rattle.columns.specs.declared.array.PlacedArray.{PlacedArray}
@@ -44,16 +44,7 @@ flat_below (lists item) a i h = absurd cc
 flat_below (large_lists item) a i h = absurd cc
 flat_below (fixed_lists size item) a i h = absurd cc
 flat_below (structs columns) a i h = absurd cc
-flat_below nulls a i h = refl
-flat_below booleans a i h = refl
-flat_below (integers bits signed) a i h = refl
-flat_below (dates unit) a i h = refl
-flat_below (timestamps unit timezone) a i h = refl
-flat_below texts a i h = refl
-flat_below large_texts a i h = refl
-flat_below binaries a i h = refl
-flat_below large_binaries a i h = refl
-flat_below (fixed_binaries width) a i h = refl
+flat_below _ a i h = refl
 
 slot_has_none : (c : Column) (a : Array) (i : ℕ) → has_below c ≡ false → slots_below c a i ≡ []
 slot_has_none (column name nullable kind None pairs) a i h = if_same (is_valid a i) (visible_below kind a i) (flat_below kind a i h)

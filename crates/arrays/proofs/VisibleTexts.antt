@@ -5,7 +5,7 @@ use Rattle.std.proofs.Common.{◌≡◌, ℕ, zero, suc, ◌*◌, Bool, true, fa
 use Rattle.std.proofs.lemmas.Bool.{or_parts}
 use Rattle.std.proofs.lemmas.List.Folds.{list_any-append}
 use Rattle.arrays.proofs.VisibleSlots.{if_other}
-use Rattle.arrow_schema.specs.Column.{Kind, Column, Columns, nulls, booleans, integers, dates, timestamps, texts, large_texts, binaries, large_binaries, fixed_binaries, lists, large_lists, fixed_lists, structs, column, no_column, and_column}
+use Rattle.arrow_schema.specs.Column.{Kind, Column, Columns, lists, large_lists, fixed_lists, structs, column, no_column, and_column}
 use Rattle.cells.specs.Cell.{Cell, null}
 use Rattle.columns.specs.Array.{Array, Arrays, items_in, children_in, dictionary_in, first_array, other_arrays}
 use Rattle.columns.specs.CellAt.{is_valid, cell_at, entry_at, entries_of_kind, index_at, span_start, span_size}
@@ -63,16 +63,7 @@ mutual
   alike_below (large_lists item) a i h = each_alike (visible item (items_in a)) (λ k. alike_at item (items_in a) k h) (range_with_len (span_start 8 a i) (span_size 8 a i))
   alike_below (fixed_lists size item) a i h = each_alike (visible item (items_in a)) (λ k. alike_at item (items_in a) k h) (range_with_len (i * size) size)
   alike_below (structs columns) a i h = alike_parts columns (children_in a) i h
-  alike_below nulls a i h = refl
-  alike_below booleans a i h = refl
-  alike_below (integers bits signed) a i h = refl
-  alike_below (dates unit) a i h = refl
-  alike_below (timestamps unit timezone) a i h = refl
-  alike_below texts a i h = refl
-  alike_below large_texts a i h = refl
-  alike_below binaries a i h = refl
-  alike_below large_binaries a i h = refl
-  alike_below (fixed_binaries width) a i h = refl
+  alike_below _ a i h = refl
 
   alike_parts : (cs : Columns) (arrays : Arrays) (i : ℕ) → list_any has_bad_entry (every_array cs arrays) ≡ false → Alike (visible_parts cs arrays i)
   alike_parts no_column arrays i h = refl

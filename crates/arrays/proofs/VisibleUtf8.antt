@@ -6,10 +6,10 @@ use Rattle.std.proofs.lemmas.Bool.{and_parts, or_parts, cases_lt, not-false}
 use Rattle.std.proofs.lemmas.List.Folds.{list_all-append, list_any-append}
 use Rattle.facts.specs.Checks.{first_some}
 use Rattle.facts.specs.laws.Checks.{unless_passed, first_some-both}
-use Rattle.arrow_schema.specs.Column.{Kind, Column, Columns, columns_of, PlainSchema, nulls, booleans, integers, dates, timestamps, texts, large_texts, binaries, large_binaries, fixed_binaries, lists, large_lists, fixed_lists, structs, column, no_column, and_column}
+use Rattle.arrow_schema.specs.Column.{Kind, Column, Columns, columns_of, PlainSchema, texts, large_texts, lists, large_lists, fixed_lists, structs, column, no_column, and_column}
 use Rattle.arrow_schema.specs.Limits.{is_nested, has_flat_dictionary}
 use Rattle.arrow_schema.specs.Preorder.{preorder, preorder_below, preorder_all, every_column}
-use Rattle.cells.specs.Cell.{Cell, null, boolean, number, text, bytes, items, parts, cells_of}
+use Rattle.cells.specs.Cell.{Cell, null, text, items, parts, cells_of}
 use Rattle.columns.specs.Array.{Array, Arrays, slots_in, items_in, children_in, dictionary_in, array_list, first_array, other_arrays}
 use Rattle.columns.specs.CellAt.{is_valid, cell_at, kind_cell, part_cells, cells_from, entry_at, entries_of_kind, index_at, span_start, span_size, unless_null}
 use Rattle.columns.specs.Texts.{has_utf8_texts, have_utf8_texts}
@@ -27,30 +27,18 @@ is_flat_cell _ = true
 
 flat_texts : (c : Cell) → is_flat_cell c ≡ true → is_bad_text c ≡ false → has_utf8_texts c ≡ true
 unfolding has_utf8_texts
-flat_texts null f h = refl
-flat_texts (boolean b) f h = refl
-flat_texts (number n) f h = refl
 flat_texts (text t) f h = not-false _ h
-flat_texts (bytes t) f h = refl
 flat_texts (items cs) f h = absurd cc
 flat_texts (parts cs) f h = absurd cc
+flat_texts _ f h = refl
 
 flat_kind : (k : Kind) (a : Array) (i : ℕ) → is_nested k ≡ false → is_flat_cell (kind_cell k a i) ≡ true
 unfolding kind_cell
-flat_kind nulls a i h = refl
-flat_kind booleans a i h = refl
-flat_kind (integers bits signed) a i h = refl
-flat_kind (dates unit) a i h = refl
-flat_kind (timestamps unit timezone) a i h = refl
-flat_kind texts a i h = refl
-flat_kind large_texts a i h = refl
-flat_kind binaries a i h = refl
-flat_kind large_binaries a i h = refl
-flat_kind (fixed_binaries width) a i h = refl
 flat_kind (lists item) a i h = absurd cc
 flat_kind (large_lists item) a i h = absurd cc
 flat_kind (fixed_lists size item) a i h = absurd cc
 flat_kind (structs columns) a i h = absurd cc
+flat_kind _ a i h = refl
 
 flat_unless : (b : Bool) (c : Cell) → is_flat_cell c ≡ true → is_flat_cell (if b then c else null) ≡ true
 flat_unless true c h = h
@@ -114,16 +102,8 @@ mutual
 
   texts_below : (k : Kind) (a : Array) (i : ℕ) → list_all has_flat_dictionary (preorder_below k) ≡ true → is_bad_text (kind_cell k a i) ≡ false → list_any is_no_text (visible_below k a i) ≡ false
       → has_utf8_texts (kind_cell k a i) ≡ true
-  texts_below nulls a i flat own h = refl
-  texts_below booleans a i flat own h = refl
-  texts_below (integers bits signed) a i flat own h = refl
-  texts_below (dates unit) a i flat own h = refl
-  texts_below (timestamps unit timezone) a i flat own h = refl
   texts_below texts a i flat own h = not-false _ own
   texts_below large_texts a i flat own h = not-false _ own
-  texts_below binaries a i flat own h = refl
-  texts_below large_binaries a i flat own h = refl
-  texts_below (fixed_binaries width) a i flat own h = refl
   texts_below (lists item) a i flat own h =
       each_texts (visible item (items_in a)) (cell_at item (items_in a)) (λ k none. texts_at item (items_in a) k flat none) (range_with_len (span_start 4 a i) (span_size 4 a i)) h
   texts_below (large_lists item) a i flat own h =
@@ -131,6 +111,7 @@ mutual
   texts_below (fixed_lists size item) a i flat own h =
       each_texts (visible item (items_in a)) (cell_at item (items_in a)) (λ k none. texts_at item (items_in a) k flat none) (range_with_len (i * size) size) h
   texts_below (structs columns) a i flat own h = texts_of_parts columns (children_in a) i flat h
+  texts_below _ a i flat own h = refl
 
   texts_of_parts : (cs : Columns) (arrays : Arrays) (i : ℕ) → list_all has_flat_dictionary (preorder_all cs) ≡ true → list_any is_no_text (visible_parts cs arrays i) ≡ false
       → have_utf8_texts (part_cells cs arrays i) ≡ true

@@ -78,7 +78,7 @@ pub(crate) fn column_counts(field: &Field) -> Counts
 }
 
 // What is below an array.
-#[tactic(auto, unfolding(columns::specs::Tests::arrays_below))]
+#[tactic(auto, using(arrow_schema::specs::declared::types::Field::the_lemmas), unfolding(columns::specs::Tests::arrays_below))]
 #[cycle(counts)]
 fn counts_below(data_type: &DataType) -> Counts
     ensures nodes { result.nodes ≡ capped (length (arrays_below (kind_of data_type.now) empty_array)) }

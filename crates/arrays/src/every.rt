@@ -37,7 +37,7 @@ fn add_array<'a>(
     }
 }
 
-#[tactic(auto, unfolding(columns::specs::Tests::arrays_below))]
+#[tactic(auto, using(arrow_schema::specs::declared::types::Field::the_lemmas), unfolding(columns::specs::Tests::arrays_below))]
 #[cycle(every)]
 fn add_below<'a>(
     every: Vec<TypedView<'a>>,

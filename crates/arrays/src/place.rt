@@ -70,7 +70,7 @@ fn place_children(
     place_all(alloc, fields, rest.below(1))
 }
 
-#[tactic(auto, unfolding(columns::specs::FromBuffers::kind_array_from))]
+#[tactic(auto, using(crate::proofs::LayoutRules::layout_rules), unfolding(columns::specs::FromBuffers::kind_array_from))]
 #[cycle(place)]
 fn place_layout(
     alloc: Global,

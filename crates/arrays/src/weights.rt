@@ -246,7 +246,7 @@ fn run_weight(
 }
 
 // Slots that are all valid: one each, and what they have below.
-#[tactic(auto, unfolding(columns::specs::Sound::has_sound_children, crate::specs::inner::Varying::may_vary))]
+#[tactic(auto, using(columns::proofs::KindParts::kind_rules), unfolding(columns::specs::Sound::has_sound_children, crate::specs::inner::Varying::may_vary))]
 #[cycle(weights)]
 fn valid_weight(
     data_type: &DataType,

@@ -62,13 +62,11 @@ both_ways false = refl
 
 -- a value is the entry that it is added as
 pub is_itself : (c : Cell) → is_some (entry_in c) ≡ true → is_entry c c ≡ true
-is_itself null h = cc
 is_itself (boolean b) h = both_ways b
 is_itself (number n) h = (Decides-int_eq n n).1 refl
 is_itself (text t) h = (bytes_eq-Decides t t).1 refl
 is_itself (bytes t) h = (bytes_eq-Decides t t).1 refl
-is_itself (items cs) h = cc
-is_itself (parts cs) h = cc
+is_itself _ h = cc
 
 longer : (es : List Cell) (e : Cell) → es ++ e ∷ [] ≡ es → false ≡ true
 longer es e h =
@@ -111,13 +109,11 @@ new_twice es e own = let found : list_any (is_entry e) (with_new es e) ≡ true 
 
 -- what was added adds nothing
 twice : (es : List Cell) (c : Cell) → with_entry (with_entry es c) c ≡ with_entry es c
-twice es null = refl
 twice es (boolean b) = new_twice es (boolean b) (is_itself (boolean b) refl)
 twice es (number n) = new_twice es (number n) (is_itself (number n) refl)
 twice es (text t) = new_twice es (text t) (is_itself (text t) refl)
 twice es (bytes t) = new_twice es (bytes t) (is_itself (bytes t) refl)
-twice es (items cs) = refl
-twice es (parts cs) = refl
+twice es _ = refl
 
 abbrev Adds : (es new : List Cell) → Type 0
 Adds es new = (ys : List Cell) × (new ≡ es ++ ys)
@@ -200,21 +196,13 @@ nulls_coded es n = record { entries = sym (nulls_add_nothing es n); places = λ 
 -- a cell that is no entry has no code
 pub none_coded : (es : List Cell) (c : Cell) → None ≡ entry_in c → None ≡ code_in es c
 none_coded es null is = no_code (is_entry null) es (λ c. refl)
-none_coded es (boolean b) is = cc
-none_coded es (number n) is = cc
-none_coded es (text t) is = cc
-none_coded es (bytes t) is = cc
 none_coded es (items cs) is = no_code (is_entry (items cs)) es (λ c. refl)
 none_coded es (parts cs) is = no_code (is_entry (parts cs)) es (λ c. refl)
+none_coded es _ is = cc
 
 pub entry_is : (c e : Cell) → Some e ≡ entry_in c → e ≡ c
 entry_is null e is = cc
-entry_is (boolean b) e is = cc
-entry_is (number n) e is = cc
-entry_is (text t) e is = cc
-entry_is (bytes t) e is = cc
-entry_is (items cs) e is = cc
-entry_is (parts cs) e is = cc
+entry_is _ e is = cc
 
 -- a null has no code, and adds nothing
 pub null_code : (es : List Cell) (c : Cell) → c ≡ null → (es ≡ with_entry es c) × (None ≡ code_in es c)

@@ -2,6 +2,7 @@
 use Rattle.std.specs.Prelude.{IfSome, Option, Some, None, not, set, slice_get, get_or, ◌||◌, if◌then◌else◌}
 use Rattle.std.specs.List.{All, AllByRecursion, IsDistinct, list_any, position_from}
 use Rattle.std.proofs.Common.{◌≡◌, ◌≢◌, ◌<◌, ℕ, zero, suc, ◌+◌, ◌++◌, ◌⊎◌, Bool, true, false, List, [], ◌∷◌, map, length, inl, inr, refl, ap, ap₂, sym, ◌∙◌, subst, arith}
+use Rattle.std.proofs.Math.Bool.{or-true}
 use Rattle.std.proofs.lemmas.Bool.{cases_lt}
 use Rattle.std.proofs.lemmas.Bool.Decides.{Decides-int_eq}
 use Rattle.std.proofs.lemmas.Iterator.Adapters.{position_from-zero}
@@ -26,56 +27,22 @@ same_bits false false is = refl
 
 -- two cells that are one entry are one cell
 pub same_entry : (a b : Cell) → is_entry a b ≡ true → a ≡ b
-same_entry null b is = cc
-same_entry (boolean x) null is = cc
 same_entry (boolean x) (boolean y) is = ap boolean (same_bits x y is)
-same_entry (boolean x) (number y) is = cc
-same_entry (boolean x) (text y) is = cc
-same_entry (boolean x) (bytes y) is = cc
-same_entry (boolean x) (items y) is = cc
-same_entry (boolean x) (parts y) is = cc
-same_entry (number x) null is = cc
-same_entry (number x) (boolean y) is = cc
 same_entry (number x) (number y) is = ap number ((Decides-int_eq x y).0 is)
-same_entry (number x) (text y) is = cc
-same_entry (number x) (bytes y) is = cc
-same_entry (number x) (items y) is = cc
-same_entry (number x) (parts y) is = cc
-same_entry (text x) null is = cc
-same_entry (text x) (boolean y) is = cc
-same_entry (text x) (number y) is = cc
 same_entry (text x) (text y) is = ap text ((bytes_eq-Decides x y).0 is)
-same_entry (text x) (bytes y) is = cc
-same_entry (text x) (items y) is = cc
-same_entry (text x) (parts y) is = cc
-same_entry (bytes x) null is = cc
-same_entry (bytes x) (boolean y) is = cc
-same_entry (bytes x) (number y) is = cc
-same_entry (bytes x) (text y) is = cc
 same_entry (bytes x) (bytes y) is = ap bytes ((bytes_eq-Decides x y).0 is)
-same_entry (bytes x) (items y) is = cc
-same_entry (bytes x) (parts y) is = cc
-same_entry (items x) b is = cc
-same_entry (parts x) b is = cc
+same_entry _ _ is = cc
 
 -- a cell that is an entry is one
 pub is_one : (c d : Cell) → is_entry c d ≡ true → entry_in c ≡ Some c
 is_one null d is = cc
-is_one (boolean x) d is = refl
-is_one (number x) d is = refl
-is_one (text x) d is = refl
-is_one (bytes x) d is = refl
 is_one (items x) d is = cc
 is_one (parts x) d is = cc
+is_one _ d is = refl
 
 never_null : (c : Cell) → is_entry c null ≡ false
 never_null null = refl
-never_null (boolean x) = refl
-never_null (number x) = refl
-never_null (text x) = refl
-never_null (bytes x) = refl
-never_null (items x) = refl
-never_null (parts x) = refl
+never_null _ = refl
 
 -- ---- numbers
 
@@ -160,17 +127,13 @@ none_at : (test : Cell → Bool) (f : ℕ → Cell) (xs : List ℕ) → ((q y : 
 none_at test f [] none = refl
 none_at test f (y ∷ xs) none = rw (none 0 y refl) (none_at test f xs (λ q z found. none (suc q) z found))
 
-or_true : (b : Bool) → (b || true) ≡ true
-or_true true = refl
-or_true false = refl
-
 any_at : (test : Cell → Bool) (f : ℕ → Cell) (xs : List ℕ) (p x : ℕ) → slice_get xs p ≡ Some x → test (f x) ≡ true → list_any test (map f xs) ≡ true
 any_at test f [] p x at is = cc
 any_at test f (y ∷ xs) zero x at is =
     let e : y ≡ x = cc in
     let here : test (f y) ≡ true = ap (λ (z : ℕ). test (f z)) e ∙ is in
     rw here refl
-any_at test f (y ∷ xs) (suc p) x at is = ap (λ (b : Bool). test (f y) || b) (any_at test f xs p x at is) ∙ or_true (test (f y))
+any_at test f (y ∷ xs) (suc p) x at is = ap (λ (b : Bool). test (f y) || b) (any_at test f xs p x at is) ∙ or-true (test (f y))
 
 -- ---- places of what is named
 

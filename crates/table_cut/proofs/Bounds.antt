@@ -6,7 +6,7 @@ use Rattle.std.proofs.lemmas.Bool.Decides.{nat_tests}
 use Rattle.std.proofs.lemmas.Bool.{and_from, and_parts, cases_lt, le-leb, leb-true}
 use Rattle.std.proofs.lemmas.List.{append-nil, drop_all, length-drop, take_all}
 use Rattle.std.proofs.lemmas.List.Sums.{sum_by-cons}
-use Rattle.arrow_schema.specs.Column.{Index, Kind, Pair, Column, Columns, PlainSchema, column, no_column, and_column, columns_of, nulls, booleans, integers, dates, timestamps, texts, large_texts, binaries, large_binaries, fixed_binaries, lists, large_lists, fixed_lists, structs}
+use Rattle.arrow_schema.specs.Column.{Index, Kind, Pair, Column, Columns, PlainSchema, column, no_column, and_column, columns_of, texts, large_texts, binaries, large_binaries}
 use Rattle.arrow_schema.specs.View.{column_of, index_of, kind_of, pair_of}
 use Rattle.arrow_schema.specs.declared.types.DictSpec.{DictSpec}
 use Rattle.arrow_schema.specs.declared.types.Field.{Field}
@@ -133,16 +133,7 @@ none_light texts w size is = omega arith
 none_light large_texts w size is = omega arith
 none_light binaries w size is = omega arith
 none_light large_binaries w size is = omega arith
-none_light nulls w size is = cc
-none_light booleans w size is = cc
-none_light (integers bits signed) w size is = cc
-none_light (dates unit) w size is = cc
-none_light (timestamps unit timezone) w size is = cc
-none_light (fixed_binaries width) w size is = cc
-none_light (lists item) w size is = cc
-none_light (large_lists item) w size is = cc
-none_light (fixed_lists count item) w size is = cc
-none_light (structs columns) w size is = cc
+none_light _ w size is = cc
 
 either_light : (w : Cell → ℕ) (b : Bool) (c : Cell) (most : ℕ) → w c ≤ most → w null ≤ most → w (if b then c else null) ≤ most
 either_light w true c most own none = own
@@ -154,16 +145,7 @@ kind_light texts w a i is = let part = part_few (span_size 4 a i) (span_start 4 
 kind_light large_texts w a i is = let part = part_few (span_size 8 a i) (span_start 8 a i) (contents_in a) in omega (arith, part)
 kind_light binaries w a i is = let part = part_few (span_size 4 a i) (span_start 4 a i) (contents_in a) in omega (arith, part)
 kind_light large_binaries w a i is = let part = part_few (span_size 8 a i) (span_start 8 a i) (contents_in a) in omega (arith, part)
-kind_light nulls w a i is = cc
-kind_light booleans w a i is = cc
-kind_light (integers bits signed) w a i is = cc
-kind_light (dates unit) w a i is = cc
-kind_light (timestamps unit timezone) w a i is = cc
-kind_light (fixed_binaries width) w a i is = cc
-kind_light (lists item) w a i is = cc
-kind_light (large_lists item) w a i is = cc
-kind_light (fixed_lists count item) w a i is = cc
-kind_light (structs columns) w a i is = cc
+kind_light _ w a i is = cc
 
 -- an entry, or a null if there is none
 entry_light : (w : Cell → ℕ) (f : ℕ → Cell) (b n : ℕ) (z : ℤ) → w null ≤ b → ((k : ℕ) → k < n → w (f k) ≤ b) → w (entry_at (cells_from f 0 n) z) ≤ b
@@ -196,16 +178,7 @@ span_light texts w a i size is few = let part = span_few 4 w a i size (cc) few i
 span_light large_texts w a i size is few = let part = span_few 8 w a i size (cc) few in omega (arith, part)
 span_light binaries w a i size is few = let part = span_few 4 w a i size (cc) few in omega (arith, part)
 span_light large_binaries w a i size is few = let part = span_few 8 w a i size (cc) few in omega (arith, part)
-span_light nulls w a i size is few = cc
-span_light booleans w a i size is few = cc
-span_light (integers bits signed) w a i size is few = cc
-span_light (dates unit) w a i size is few = cc
-span_light (timestamps unit timezone) w a i size is few = cc
-span_light (fixed_binaries width) w a i size is few = cc
-span_light (lists item) w a i size is few = cc
-span_light (large_lists item) w a i size is few = cc
-span_light (fixed_lists count item) w a i size is few = cc
-span_light (structs columns) w a i size is few = cc
+span_light _ w a i size is few = cc
 
 pub spans_light : (w : ℕ) (a : Array) (size : ℕ) → ((i : ℕ) → i < slots_in a → span_size w a i ≤ size) → AreNoLonger w size (arrays_of (a ∷ []))
 spans_light w a size h = λ kind z is. all_light kind a (1 + size) z (none_light kind w size is) (λ k lt. span_light kind w a k size is (h k lt))
@@ -235,16 +208,7 @@ short_offsets texts w a is = ap (λ (n : ℕ). are_few_offsets n a) (cc)
 short_offsets large_texts w a is = ap (λ (n : ℕ). are_few_offsets n a) (cc)
 short_offsets binaries w a is = ap (λ (n : ℕ). are_few_offsets n a) (cc)
 short_offsets large_binaries w a is = ap (λ (n : ℕ). are_few_offsets n a) (cc)
-short_offsets nulls w a is = cc
-short_offsets booleans w a is = cc
-short_offsets (integers bits signed) w a is = cc
-short_offsets (dates unit) w a is = cc
-short_offsets (timestamps unit timezone) w a is = cc
-short_offsets (fixed_binaries width) w a is = cc
-short_offsets (lists item) w a is = cc
-short_offsets (large_lists item) w a is = cc
-short_offsets (fixed_lists count item) w a is = cc
-short_offsets (structs columns) w a is = cc
+short_offsets _ w a is = cc
 
 each_enough : (kind : Kind) (w : ℕ) (arrays : List Array) → contents_width kind ≡ Some w → list_all (is_kind_sound kind) arrays ≡ true → list_all (λ a. not (are_few_offsets w a)) arrays ≡ true
 each_enough kind w [] is sound = refl

@@ -4,18 +4,19 @@ use Rattle.std.specs.List.{flat_map, list_all, range_with_len}
 use Rattle.std.proofs.Common.{◌≡◌, ℕ, zero, suc, ◌+◌, ◌<◌, ◌≤◌, Bool, true, false, List, [], ◌∷◌, ◌++◌, map, length, drop, take, get_or, length-append, inl, inr, refl, sym, ap, subst, ◌∙◌, arith}
 use Rattle.std.proofs.lemmas.Bool.{and_parts, and_from, cases_lt, le-leb, lt-leb, not-true}
 use Rattle.std.proofs.lemmas.List.{map-append, take-append-drop, take-map, take-take}
+use Rattle.std.proofs.Math.Bool.{and-true}
 use Rattle.std.proofs.lemmas.List.Folds.{list_all-append}
 use Rattle.std.proofs.lemmas.List.FromFn.{length-map-range_with_len}
 use Rattle.std.proofs.lemmas.List.Concat.{flat_map-append}
 use Rattle.facts.specs.laws.Lists.{flat_map-item}
-use Rattle.arrow_schema.specs.Column.{Index, Pair, Kind, Column, Columns, PlainSchema, columns_of, column, no_column, and_column, nulls, booleans, integers, dates, timestamps, texts, large_texts, binaries, large_binaries, fixed_binaries, lists, large_lists, fixed_lists, structs}
+use Rattle.arrow_schema.specs.Column.{Index, Pair, Kind, Column, Columns, PlainSchema, columns_of, column, no_column, and_column, nulls}
 use Rattle.arrow_schema.specs.Limits.{is_nested}
 use Rattle.arrow_schema.specs.Parts.{index_of_column}
 use Rattle.arrow_schema.specs.View.{column_of, index_of, kind_of}
 use Rattle.arrow_schema.specs.declared.types.DictSpec.{DictSpec}
 use Rattle.arrow_schema.specs.declared.types.Field.{Field}
 use Rattle.arrow_schema.specs.laws.Parts.{field_parts}
-use Rattle.cells.specs.Cell.{Cell, Cells, null, boolean, number, text, bytes, items, parts, no_cell, and_cell, cells_of}
+use Rattle.cells.specs.Cell.{Cell, Cells, items, parts, no_cell, and_cell, cells_of}
 use Rattle.cells.specs.Dictionary.{cells_at, holdings, holdings_from, entry_limit, entries_of, is_within, has_few_entries, dictionaries_fit, with_entries}
 use Rattle.cells.specs.Fit.{each_fits, fits, fits_kind, null_or}
 use Rattle.cells.specs.Row.{is_row, row_fits}
@@ -38,10 +39,6 @@ use Rattle.table_cut.proofs.ColumnLemmas.{arrays_next, rows_first, rows_others, 
 
 -- ---- one column
 
-pub and_none : (b : Bool) → (b && true) ≡ b
-and_none true = refl
-and_none false = refl
-
 -- what its own dictionary names
 abbrev pub own_fits : Option Index → List Cell → Bool
 own_fits None cells = true
@@ -52,7 +49,7 @@ unfolding holdings
 fits_own (column name nullable kind None pairs) cells flat = ap (list_all has_few_entries) (none_below kind cells (not-true (is_nested kind) flat))
 fits_own (column name nullable kind (Some index) pairs) cells flat =
     let few : Bool = is_within (entry_limit index) (length (entries_of cells)) in
-    ap (λ (below : Bool). few && below) (ap (list_all has_few_entries) (none_below kind cells (not-true (is_nested kind) flat))) ∙ and_none few
+    ap (λ (below : Bool). few && below) (ap (list_all has_few_entries) (none_below kind cells (not-true (is_nested kind) flat))) ∙ and-true few
 
 pub field_fits : (f : Field) (cells : List Cell) → is_flat (column_of f) ≡ true → column_fits (column_of f) cells ≡ own_fits (option_map index_of f.dictionary) cells
 field_fits f cells flat = fits_own (column_of f) cells flat ∙ ap (λ (o : Option Index). own_fits o cells) (ap index_of_column (field_parts f))
@@ -65,45 +62,17 @@ flat_field f = ap is_flat (field_parts f)
 no_items : (k : Kind) (cs : Cells) → is_nested k ≡ false → fits_kind k (items cs) ≡ true → is_null_or_entry (items cs) ≡ true
 unfolding fits_kind
 no_items nulls cs flat h = cc
-no_items booleans cs flat h = cc
-no_items (integers bits signed) cs flat h = cc
-no_items (dates unit) cs flat h = cc
-no_items (timestamps unit timezone) cs flat h = cc
-no_items texts cs flat h = cc
-no_items large_texts cs flat h = cc
-no_items binaries cs flat h = cc
-no_items large_binaries cs flat h = cc
-no_items (fixed_binaries width) cs flat h = cc
-no_items (lists item) cs flat h = cc
-no_items (large_lists item) cs flat h = cc
-no_items (fixed_lists size item) cs flat h = cc
-no_items (structs columns) cs flat h = cc
+no_items _ cs flat h = cc
 
 no_parts : (k : Kind) (cs : Cells) → is_nested k ≡ false → fits_kind k (parts cs) ≡ true → is_null_or_entry (parts cs) ≡ true
 unfolding fits_kind
 no_parts nulls cs flat h = cc
-no_parts booleans cs flat h = cc
-no_parts (integers bits signed) cs flat h = cc
-no_parts (dates unit) cs flat h = cc
-no_parts (timestamps unit timezone) cs flat h = cc
-no_parts texts cs flat h = cc
-no_parts large_texts cs flat h = cc
-no_parts binaries cs flat h = cc
-no_parts large_binaries cs flat h = cc
-no_parts (fixed_binaries width) cs flat h = cc
-no_parts (lists item) cs flat h = cc
-no_parts (large_lists item) cs flat h = cc
-no_parts (fixed_lists size item) cs flat h = cc
-no_parts (structs columns) cs flat h = cc
+no_parts _ cs flat h = cc
 
 entry_or_null : (nullable : Bool) (k : Kind) (x : Cell) → is_nested k ≡ false → null_or nullable (fits_kind k) x ≡ true → is_null_or_entry x ≡ true
-entry_or_null nullable k null flat h = refl
-entry_or_null nullable k (boolean b) flat h = refl
-entry_or_null nullable k (number n) flat h = refl
-entry_or_null nullable k (text t) flat h = refl
-entry_or_null nullable k (bytes t) flat h = refl
 entry_or_null nullable k (items cs) flat h = no_items k cs flat h
 entry_or_null nullable k (parts cs) flat h = no_parts k cs flat h
+entry_or_null nullable k _ flat h = refl
 
 own_texts : (c : Column) (x : Cell) → fits c x ≡ true → has_utf8_texts x ≡ true
 unfolding each_fits have_utf8_texts

@@ -17,7 +17,7 @@ use Rattle.byteorder.specs.Endian.{little_bytes, little_number}
 use Rattle.byteorder.specs.Numbers.{little_number-reads_back}
 use Rattle.hex.specs.Hex.{decode_of}
 use Rattle.hex.specs.declared.error.FromHexError.{FromHexError}
-use Rattle.arrow_schema.specs.Column.{DateKind, days, date_milliseconds, Index, Kind, is_bit_width, booleans, integers, dates, timestamps, nulls, texts, large_texts, binaries, large_binaries, fixed_binaries, lists, large_lists, fixed_lists, structs}
+use Rattle.arrow_schema.specs.Column.{DateKind, days, date_milliseconds, Index, Kind, is_bit_width, booleans, integers, dates, timestamps, nulls, texts, large_texts, binaries, large_binaries, fixed_binaries}
 use Rattle.arrow_schema.specs.Limits.{is_nested}
 use Rattle.arrow_schema.specs.View.{bits_of}
 use Rattle.arrow_schema.specs.declared.types.BitWidth.{BitWidth}
@@ -94,39 +94,24 @@ booleans_same true = refl
 booleans_same false = refl
 
 one_value : (c : Cell) → entry_in c ≡ Some c → is_there c ≡ true → IsValue c
-one_value null own there = absurd cc
 one_value (boolean b) own there = record { there = there; own = own; same = booleans_same b }
 one_value (number n) own there = record { there = there; own = own; same = numbers_same n }
 one_value (text t) own there = record { there = there; own = own; same = bytes_same t }
 one_value (bytes t) own there = record { there = there; own = own; same = bytes_same t }
-one_value (items cs) own there = absurd cc
-one_value (parts cs) own there = absurd cc
+one_value _ own there = absurd cc
 
 pub fitting_value : (kind : Kind) (c : Cell) → is_nested kind ≡ false → fits_kind kind c ≡ true → IsValue c
 unfolding fits_kind
-fitting_value nulls c flat h = absurd cc
 fitting_value booleans (boolean b) flat h = one_value (boolean b) refl refl
-fitting_value booleans _ flat h = absurd cc
 fitting_value (integers bits signed) (number n) flat h = one_value (number n) refl refl
-fitting_value (integers bits signed) _ flat h = absurd cc
 fitting_value (dates unit) (number n) flat h = one_value (number n) refl refl
-fitting_value (dates unit) _ flat h = absurd cc
 fitting_value (timestamps unit timezone) (number n) flat h = one_value (number n) refl refl
-fitting_value (timestamps unit timezone) _ flat h = absurd cc
 fitting_value texts (text t) flat h = one_value (text t) refl refl
-fitting_value texts _ flat h = absurd cc
 fitting_value large_texts (text t) flat h = one_value (text t) refl refl
-fitting_value large_texts _ flat h = absurd cc
 fitting_value binaries (bytes t) flat h = one_value (bytes t) refl refl
-fitting_value binaries _ flat h = absurd cc
 fitting_value large_binaries (bytes t) flat h = one_value (bytes t) refl refl
-fitting_value large_binaries _ flat h = absurd cc
 fitting_value (fixed_binaries size) (bytes t) flat h = one_value (bytes t) refl refl
-fitting_value (fixed_binaries size) _ flat h = absurd cc
-fitting_value (lists item) c flat h = absurd cc
-fitting_value (large_lists item) c flat h = absurd cc
-fitting_value (fixed_lists size item) c flat h = absurd cc
-fitting_value (structs columns) c flat h = absurd cc
+fitting_value _ _ flat h = absurd cc
 
 pub all_there : (kind : Kind) (es : List Cell) → is_nested kind ≡ false → list_all (fits_kind kind) es ≡ true → list_all is_there es ≡ true
 all_there kind [] flat h = refl
@@ -172,40 +157,18 @@ date_wide date_milliseconds = omega arith
 
 pub same_entry : (kind : Kind) (a b : Cell) → is_nested kind ≡ false → HasWidth kind → fits_kind kind a ≡ true → fits_kind kind b ≡ true → is_entry a b ≡ bytes_eq (key_of kind a) (key_of kind b)
 unfolding fits_kind
-same_entry nulls a b flat w h k = absurd cc
 same_entry booleans (boolean a) (boolean b) flat w h k = booleans_differ a b
-same_entry booleans (boolean a) _ flat w h k = absurd cc
-same_entry booleans _ b flat w h k = absurd cc
 same_entry (integers bits signed) (number m) (number n) flat w h k =
     numbers_differ (bits / 8) signed m n (width_cases bits w).1 (of_width bits signed m w h) (of_width bits signed n w k)
-same_entry (integers bits signed) (number m) _ flat w h k = absurd cc
-same_entry (integers bits signed) _ b flat w h k = absurd cc
 same_entry (dates unit) (number m) (number n) flat w h k =
     numbers_differ (date_bits unit / 8) true m n (date_wide unit) (rw (date_width unit) h) (rw (date_width unit) k)
-same_entry (dates unit) (number m) _ flat w h k = absurd cc
-same_entry (dates unit) _ b flat w h k = absurd cc
 same_entry (timestamps unit timezone) (number m) (number n) flat w h k = numbers_differ 8 true m n (omega arith) h k
-same_entry (timestamps unit timezone) (number m) _ flat w h k = absurd cc
-same_entry (timestamps unit timezone) _ b flat w h k = absurd cc
 same_entry texts (text a) (text b) flat w h k = refl
-same_entry texts (text a) _ flat w h k = absurd cc
-same_entry texts _ b flat w h k = absurd cc
 same_entry large_texts (text a) (text b) flat w h k = refl
-same_entry large_texts (text a) _ flat w h k = absurd cc
-same_entry large_texts _ b flat w h k = absurd cc
 same_entry binaries (bytes a) (bytes b) flat w h k = refl
-same_entry binaries (bytes a) _ flat w h k = absurd cc
-same_entry binaries _ b flat w h k = absurd cc
 same_entry large_binaries (bytes a) (bytes b) flat w h k = refl
-same_entry large_binaries (bytes a) _ flat w h k = absurd cc
-same_entry large_binaries _ b flat w h k = absurd cc
 same_entry (fixed_binaries size) (bytes a) (bytes b) flat w h k = refl
-same_entry (fixed_binaries size) (bytes a) _ flat w h k = absurd cc
-same_entry (fixed_binaries size) _ b flat w h k = absurd cc
-same_entry (lists item) a b flat w h k = absurd cc
-same_entry (large_lists item) a b flat w h k = absurd cc
-same_entry (fixed_lists size item) a b flat w h k = absurd cc
-same_entry (structs columns) a b flat w h k = absurd cc
+same_entry _ _ _ flat w h k = absurd cc
 
 -- the one cell that values are has their bytes
 pub value_key : (kind : Kind) (c : Cell) (v : ColumnValues) → Takes kind (c ∷ []) v → fits_kind kind c ≡ true → value_bytes v ≡ key_of kind c
@@ -483,11 +446,7 @@ unfolding cell_of_text kind_weight fits_kind
 string_is texts (Texts width offsets contents) t strings is utf8 = record { read = rw utf8 refl; weighs = refl; key = refl; fits = utf8 }
 string_is large_texts (Texts width offsets contents) t strings is utf8 = record { read = rw utf8 refl; weighs = refl; key = refl; fits = utf8 }
 string_is _ (Texts width offsets contents) t strings is utf8 = absurd is
-string_is _ Nulls t strings is utf8 = absurd cc
-string_is _ (Booleans bits) t strings is utf8 = absurd cc
-string_is _ (Integers i own) t strings is utf8 = absurd cc
-string_is _ (Binaries width offsets contents) t strings is utf8 = absurd cc
-string_is _ (FixedBinaries width own) t strings is utf8 = absurd cc
+string_is _ _ t strings is utf8 = absurd cc
 
 pub utf8_coded : (t : List ℕ) (old new : Coding) (values values2 : ColumnValues) → has_texts values ≡ true → is_utf8 t ≡ true
     → PushesPlace old.index t old.indices.items new.indices.items old.keys.keys new.keys.keys values values2 → new.index ≡ old.index → new.one ≡ old.one
@@ -520,7 +479,6 @@ boolean_fits (Some b) x h = (let same : boolean b ≡ x = cc in rw (← same) re
 
 pub text_fits : (kind : Kind) (t : List ℕ) (x : Cell) → is_nested kind ≡ false → cell_of_text kind t ≡ Ok x → fits_kind kind x ≡ true
 unfolding cell_of_text
-text_fits nulls t x flat h = absurd cc
 text_fits booleans t x flat h = boolean_fits (typed_boolean t) x h
 text_fits (integers bits signed) t x flat h = number_fits_kind (integers bits signed) (typed_integer t) x h
 text_fits (dates unit) t x flat h = number_fits_kind (dates unit) (typed_integer t) x h
@@ -530,10 +488,7 @@ text_fits large_texts t x flat h = fitting_fits large_texts NotUtf8 (text t) x h
 text_fits binaries t x flat h = bytes_fit_kind binaries (decode_of t) x h
 text_fits large_binaries t x flat h = bytes_fit_kind large_binaries (decode_of t) x h
 text_fits (fixed_binaries size) t x flat h = bytes_fit_kind (fixed_binaries size) (decode_of t) x h
-text_fits (lists item) t x flat h = absurd cc
-text_fits (large_lists item) t x flat h = absurd cc
-text_fits (fixed_lists size item) t x flat h = absurd cc
-text_fits (structs columns) t x flat h = absurd cc
+text_fits _ t x flat h = absurd cc
 
 -- the buffers of the one value were cleared and then have the value that is coded
 pub text_coded : (t : List ℕ) (weight : ℕ) (old new : Coding) (values values2 : ColumnValues) (cleared one : ColumnValues) → Clears old.one cleared → TakesText t weight cleared one

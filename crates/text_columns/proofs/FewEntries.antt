@@ -4,7 +4,7 @@ use Rattle.std.specs.List.{flat_map, list_all}
 use Rattle.std.proofs.Common.{◌≡◌, ℕ, zero, suc, ◌+◌, ◌≤◌, Bool, true, false, List, [], ◌∷◌, ◌++◌, length, refl, arith, ap, sym, ◌∙◌, inl, inr, append-nil}
 use Rattle.std.proofs.lemmas.Bool.{and_from, le-leb, or_from}
 use Rattle.std.proofs.lemmas.List.Folds.{list_all-append}
-use Rattle.arrow_schema.specs.Column.{Index, Kind, Column, nulls, booleans, integers, dates, timestamps, texts, large_texts, binaries, large_binaries, fixed_binaries, lists, large_lists, fixed_lists, structs, column, Columns, no_column, and_column, columns_of, PlainSchema, list_of}
+use Rattle.arrow_schema.specs.Column.{Index, Kind, Column, lists, large_lists, fixed_lists, structs, column, Columns, no_column, and_column, columns_of, PlainSchema, list_of}
 use Rattle.arrow_schema.specs.Limits.{is_nested}
 use Rattle.arrow_schema.specs.Parts.{index_of_column}
 use Rattle.arrow_schema.specs.View.{bits_of}
@@ -32,20 +32,11 @@ few_in nullable index kind cells none few = rw none (rw few refl)
 
 flat_unlimited : (kind : Kind) → is_nested kind ≡ false → is_kind_limited kind ≡ false
 unfolding is_kind_limited
-flat_unlimited nulls h = refl
-flat_unlimited booleans h = refl
-flat_unlimited (integers bits signed) h = refl
-flat_unlimited (dates unit) h = refl
-flat_unlimited (timestamps unit timezone) h = refl
-flat_unlimited texts h = refl
-flat_unlimited large_texts h = refl
-flat_unlimited binaries h = refl
-flat_unlimited large_binaries h = refl
-flat_unlimited (fixed_binaries size) h = refl
 flat_unlimited (lists item) h = absurd cc
 flat_unlimited (large_lists item) h = absurd cc
 flat_unlimited (fixed_lists size item) h = absurd cc
 flat_unlimited (structs columns) h = absurd cc
+flat_unlimited _ h = refl
 
 -- a column with some cells
 record IsHeld (c : Column) : Type 0 where

@@ -1,6 +1,6 @@
 -- The bytes of integers that were converted.
 use Rattle.std.specs.Prelude.{Option, Some, pos, negsuc, ℤ, int_le, int_lt, unsigned_abs}
-use Rattle.std.specs.Int.{FitsUnsignedBits, cast_unsigned, Width, w8, w16, w32, w64}
+use Rattle.std.specs.Int.{FitsUnsignedBits, cast_unsigned, Width, w8}
 use Rattle.std.proofs.Common.{◌≡◌, ℕ, ◌^◌, ◌≤◌, Bool, true, false, List, ◌++◌, refl, arith, ap, sym, ◌∙◌}
 use Rattle.std.proofs.lemmas.Bool.{and_from}
 use Rattle.std.proofs.lemmas.Int.{ints}
@@ -12,7 +12,7 @@ use Rattle.columns.specs.Built.{integer_bytes}
 use Rattle.arrow_schema.specs.Column.{integers}
 use Rattle.arrow_schema.specs.View.{bits_of}
 use Rattle.arrow_schema.specs.declared.types.BitWidth.{BitWidth}
-use Rattle.arrow_schema.specs.declared.types.BitWidth.TheVariants.{Eight, Sixteen, ThirtyTwo, SixtyFour}
+use Rattle.arrow_schema.specs.declared.types.BitWidth.TheVariants.{Eight}
 use Rattle.arrow_schema.specs.declared.types.IntegerType.{IntegerType}
 use Rattle.cells.specs.Typed.{typed_integer}
 use Rattle.text_import.specs.Flat.{number_cell}
@@ -32,16 +32,10 @@ unsigned_appended width (negsuc n) value old new fits is e = absurd fits
 stored : (width : Width) (z : ℤ) → cast_unsigned width z ≡ number_of (bytes width) z
 stored width (pos n) = refl
 stored w8 (negsuc n) = omega arith
-stored w16 (negsuc n) = omega arith
-stored w32 (negsuc n) = omega arith
-stored w64 (negsuc n) = omega arith
 stored _ (negsuc n) = omega arith
 
 fits_range : (width : Width) (z : ℤ) → SFits width z → in_range (bits width) true z ≡ true
 fits_range w8 z fits = grind (arith, ints)
-fits_range w16 z fits = grind (arith, ints)
-fits_range w32 z fits = grind (arith, ints)
-fits_range w64 z fits = grind (arith, ints)
 fits_range _ z fits = grind (arith, ints)
 
 pub signed_appended : (width : Width) (z value : ℤ) (old new : List ℕ) → SFits width z → value ≡ z → new ≡ old ++ little_bytes (bytes width) (cast_unsigned width value)
@@ -52,9 +46,7 @@ signed_appended width z value old new fits is e =
 -- an integer that a text spells is the cell of the text, if the type holds it
 few_bits : (width : BitWidth) → bits_of width ≤ 64
 few_bits Eight = omega arith
-few_bits Sixteen = omega arith
-few_bits ThirtyTwo = omega arith
-few_bits SixtyFour = omega arith
+few_bits _ = omega arith
 
 pub spelled_appended : (i : IntegerType) (t : List ℕ) (o : Option ℤ) (n : ℤ) (old new : List ℕ) → o ≡ Some n
     → ((width : ℕ) (signed : Bool) → width ≤ 64 → number_cell (integers width signed) o ≡ number_cell (integers width signed) (typed_integer t))

@@ -15,7 +15,7 @@ use Rattle.arrow_schema.specs.Column.{Column, Columns, and_column, columns_of}
 use Rattle.cells.specs.Cell.{Cell, null, cells_of}
 use Rattle.cells.specs.Weight.{parts_weight}
 use Rattle.text_import.specs.Objects.{cell_in, cells_by_place, column_count, item_count}
-use Rattle.text_import.proofs.ObjectLemmas.{places_end}
+use Rattle.text_import.proofs.ObjectLemmas.{columns_counted, places_end}
 use Rattle.text_import.proofs.RowLemmas.{cells_behind, cells_behind_more}
 use Rattle.text_columns.specs.declared.builder.ColumnBuilder.{ColumnBuilder}
 use Rattle.text_columns.specs.inner.Kept.{KeepAll, Keeps, column_at}
@@ -196,10 +196,6 @@ items_all depth all left new i weight bs0 bs ends le whole m =
     }
 
 -- ---- the array of a line
-
-columns_counted : (cs : List Column) → column_count (columns_of cs) ≡ length cs
-columns_counted [] = refl
-columns_counted (c ∷ cs) = let e = columns_counted cs in omega (arith, e)
 
 -- for a row as for a struct
 pub items_row : (depth : ℕ) (names : List (List ℕ)) (inside rest : List Token) (weight : ℕ) (bs bs2 : List ColumnBuilder) → (k : KeepsItems depth inside rest weight bs bs2)

@@ -236,29 +236,17 @@ unfolding lex word
 null_lexeme t r is h = ap (lex between) is ∙ (λ i. token (cond (h i) tokens.null tokens.bad) ∷ word_ended r h i)
 
 literal_lexeme : (k : Token) (t r : List ℕ) → 0 < length (literal_text k) → t ≡ literal_text k ++ r → ends_word r ≡ true → lex between t ≡ token k ∷ lex between r
-literal_lexeme tokens.begin_object t r some is h = absurd (omega arith)
-literal_lexeme tokens.end_object t r some is h = absurd (omega arith)
-literal_lexeme tokens.begin_array t r some is h = absurd (omega arith)
-literal_lexeme tokens.end_array t r some is h = absurd (omega arith)
-literal_lexeme (tokens.key s) t r some is h = absurd (omega arith)
-literal_lexeme (tokens.string s) t r some is h = absurd (omega arith)
-literal_lexeme (tokens.number s) t r some is h = absurd (omega arith)
 literal_lexeme (tokens.boolean true) t r some is h = true_lexeme t r is h
 literal_lexeme (tokens.boolean false) t r some is h = false_lexeme t r is h
 literal_lexeme tokens.null t r some is h = null_lexeme t r is h
-literal_lexeme tokens.bad t r some is h = absurd (omega arith)
+literal_lexeme _ t r some is h = absurd (omega arith)
 
 pub literal_is_scalar : (k : Token) → 0 < length (literal_text k) → IsScalar k
-literal_is_scalar tokens.begin_object some = absurd (omega arith)
-literal_is_scalar tokens.end_object some = absurd (omega arith)
-literal_is_scalar tokens.begin_array some = absurd (omega arith)
-literal_is_scalar tokens.end_array some = absurd (omega arith)
-literal_is_scalar (tokens.key s) some = absurd (omega arith)
 literal_is_scalar (tokens.string s) some = tt
 literal_is_scalar (tokens.number s) some = tt
 literal_is_scalar (tokens.boolean b) some = tt
 literal_is_scalar tokens.null some = tt
-literal_is_scalar tokens.bad some = absurd (omega arith)
+literal_is_scalar _ some = absurd (omega arith)
 
 pub literal_here : (d name : List ℕ) (from end : ℕ) (k : Token) → IsLiteral name k → end ≡ from + length name → end ≤ length d → take (end - from) (drop from d) ≡ name → ends_word (drop end d) ≡ true
     → IsLexeme d from end k
@@ -276,16 +264,11 @@ allowed b t k next e = ap (λ (x : Bool). if_allowed x t k next) e
 
 pub scalar_first : (p : Place) (t : Token) (ls : List Lexeme) → IsScalar t → may_begin p ≡ true → begins_colon ls ≡ false → punctuate p (token t ∷ ls) ≡ t ∷ punctuate after_value ls
 unfolding punctuate
-scalar_first p tokens.begin_object ls h may e = absurd h
-scalar_first p tokens.end_object ls h may e = absurd h
-scalar_first p tokens.begin_array ls h may e = absurd h
-scalar_first p tokens.end_array ls h may e = absurd h
-scalar_first p (tokens.key s) ls h may e = absurd h
 scalar_first p (tokens.string s) ls h may e = ap (λ (b : Bool). place_token p (tokens.string s) b (λ n. punctuate n ls)) e ∙ allowed (may_begin p) (tokens.string s) (λ n. punctuate n ls) after_value may
 scalar_first p (tokens.number s) ls h may e = allowed (may_begin p) (tokens.number s) (λ n. punctuate n ls) after_value may
 scalar_first p (tokens.boolean b) ls h may e = allowed (may_begin p) (tokens.boolean b) (λ n. punctuate n ls) after_value may
 scalar_first p tokens.null ls h may e = allowed (may_begin p) tokens.null (λ n. punctuate n ls) after_value may
-scalar_first p tokens.bad ls h may e = absurd h
+scalar_first p _ ls h may e = absurd h
 
 pub key_first : (p : Place) (s : List ℕ) (ls : List Lexeme) → may_begin p ≡ true → punctuate p (token (tokens.string s) ∷ colon ∷ ls) ≡ tokens.key s ∷ punctuate fresh ls
 unfolding punctuate

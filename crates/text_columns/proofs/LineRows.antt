@@ -3,11 +3,9 @@ use Rattle.std.specs.Global.{Vec}
 use Rattle.std.specs.Str.{is_utf8}
 use Rattle.std.specs.Cmp.Lexicographic.{slice_cmp}
 use Rattle.std.specs.Ordering.{match_ordering, nat_cmp}
-use Rattle.std.specs.Prelude.{Option, Some, None, Ok, Err, Result, IfOk, IfSome, slice_get, get_or, bytes_eq, not, nat_lt, filter, is_some, ◌==◌, option_map, if◌then◌else◌}
+use Rattle.std.specs.Prelude.{Option, Some, None, Ok, Err, Result, IfOk, IfSome, slice_get, get_or, bytes_eq, not, nat_lt, is_some, option_map, if◌then◌else◌}
 use Rattle.std.proofs.Common.{Ordering, Less, Equal, Greater, ◌≡◌, ℕ, zero, suc, ◌+◌, ◌-◌, ◌≤◌, ◌<◌, Bool, true, false, List, [], ◌∷◌, ◌++◌, length, take, drop, set, refl, arith, ap, sym, subst, ◌∙◌, inl, inr, length-append}
-use Rattle.std.specs.List.{All, slice_split}
-use Rattle.std.proofs.lemmas.Bool.{cases_lt, eq-eqb, false≢true, le-ltb, ne_eqb, or_from, or_parts}
-use Rattle.std.proofs.lemmas.List.Splits.{slice_split_at, slice_split_none}
+use Rattle.std.proofs.lemmas.Bool.{cases_lt, false≢true, le-ltb, or_from, or_parts}
 use Rattle.std.proofs.lemmas.List.Sums.{sum_by-append}
 use Rattle.std.proofs.lemmas.Option.{slice_get_within, same_Some}
 use Rattle.std.proofs.lemmas.Slice.Eq.{bytes_eq-Decides}
@@ -26,7 +24,7 @@ use Rattle.arrow_schema.specs.View.{column_of}
 use Rattle.arrow_schema.specs.declared.types.Field.{Field}
 use Rattle.arrow_schema.specs.laws.Parts.{field_parts}
 use Rattle.std.specs.Prelude.{map, string_bytes}
-use Rattle.std.proofs.lemmas.List.{drop_more, get_or-take, get_or_default, length-take-le, map-append, take-append-drop, take_more, drop_all, take_all, get_or_append_left, length-set}
+use Rattle.std.proofs.lemmas.List.{length-take-le, map-append, take_more, drop_all, take_all, get_or_append_left, length-set}
 use Rattle.std.proofs.Math.Bool.{or-true}
 use Rattle.text_import.specs.declared.refusal.Refusal.{Refusal}
 use Rattle.cells.specs.Cell.{Cell, Cells, null, cells_of}
@@ -37,6 +35,7 @@ use Rattle.text_import.specs.Objects.{cells_by_name, cells_in, has_name, has_unk
 use Rattle.text_import.specs.Refusals.{numbered}
 use Rattle.text_import.specs.Rows.{rows_from}
 use Rattle.text_import.specs.inner.Names.{text_where_utf8}
+use Rattle.text_import.specs.laws.Lines.{blank_first, filled_first, filled_lines}
 use Rattle.text_import.specs.laws.Behind.{behind, behind_none, row_more, rows_end}
 use Rattle.text_import.proofs.ObjectLemmas.{name_more, names_end}
 use Rattle.text_import.proofs.RowLemmas.{cells_behind}
@@ -136,16 +135,11 @@ member_held cs rows found k d depth place old new ws ws2 bs bs2 distinct named p
 -- ---- the members of an object, one after another
 
 pub token_read : (depth : ℕ) (t : Token) (r : List Token) (d : Data) → token_data t ≡ Some d → converted of_json (value depth (t ∷ r)) ≡ Some (d, r)
-token_read depth tokens.begin_object r d e = absurd cc
-token_read depth tokens.end_object r d e = absurd cc
-token_read depth tokens.begin_array r d e = absurd cc
-token_read depth tokens.end_array r d e = absurd cc
-token_read depth (tokens.key s) r d e = absurd cc
 token_read depth (tokens.string s) r d e = ap (converted of_json) (value_is depth (tokens.string s ∷ r)) ∙ ap (λ (o : Option Data). option_map {U = Data × List Token} (λ x. (x, r)) o) e
 token_read depth (tokens.number s) r d e = ap (converted of_json) (value_is depth (tokens.number s ∷ r)) ∙ ap (λ (o : Option Data). option_map {U = Data × List Token} (λ x. (x, r)) o) e
 token_read depth (tokens.boolean b) r d e = ap (converted of_json) (value_is depth (tokens.boolean b ∷ r)) ∙ ap (λ (o : Option Data). option_map {U = Data × List Token} (λ x. (x, r)) o) e
 token_read depth tokens.null r d e = ap (converted of_json) (value_is depth (tokens.null ∷ r)) ∙ ap (λ (o : Option Data). option_map {U = Data × List Token} (λ x. (x, r)) o) e
-token_read depth tokens.bad r d e = absurd cc
+token_read depth _ r d e = absurd cc
 
 -- some members were read, and the others follow
 pub record MembersRead (depth : ℕ) (names : List (List ℕ)) (all left : List Token) (ws0 ws : List (Option ℕ)) (bs0 bs : List ColumnBuilder) : Type 0 where
@@ -319,28 +313,11 @@ object_kept names inside rest weight bs bs2 ends k =
 
 -- ---- the rows of lines
 
--- the first line of a text that has a line feed, and the others
-pub first_of_lines : (t : List ℕ) (end : ℕ) → end < length t → ((k : ℕ) → k < end → (get_or t k 0 == 10) ≡ true → ⊥) → get_or t end 0 ≡ 10
-    → slice_split (λ b. b == 10) t ≡ take end t ∷ slice_split (λ b. b == 10) (drop (end + 1) t)
-first_of_lines t end lt none is =
-    let parts : t ≡ take end t ++ 10 ∷ drop (end + 1) t = sym (take-append-drop end t) ∙ ap (λ (ys : List ℕ). take end t ++ ys) (drop_more t end 0 lt ∙ ap (λ (x : ℕ). x ∷ drop (end + 1) t) is) in
-    let front : All (λ b. (b == 10) ≡ false) (take end t) = λ k d within. (let before : k < end = omega (arith, length-take-le end t (omega arith)) in
-    ne_eqb (get_or (take end t) k d) 10 (λ e. none k before (eq-eqb (get_or t k 0) 10 (sym (get_or-take end t k 0 before) ∙ get_or_default (take end t) k 0 d within ∙ e)))) in
-    ap (slice_split (λ b. b == 10)) parts ∙ slice_split_at (λ b. b == 10) (take end t) 10 (drop (end + 1) t) front refl
-
--- a text without one is its only line
-pub only_line : (t : List ℕ) → ((k : ℕ) → k < length t → (get_or t k 0 == 10) ≡ true → ⊥) → slice_split (λ b. b == 10) t ≡ t ∷ []
-only_line t none = slice_split_none (λ b. b == 10) t (λ k d within. ne_eqb (get_or t k d) 10 (λ e. none k within (eq-eqb (get_or t k 0) 10 (get_or_default t k 0 d within ∙ e))))
-
--- the lines that are no blanks
-abbrev pub filled : List (List ℕ) → List (List ℕ)
-filled lines = filter (λ line. not (is_blank line)) lines
-
 -- some lines have come as rows, and the others are left
 pub record LinesRead (s : PlainSchema) (lines left : List (List ℕ)) (weight : ℕ) (b : Batches) : Type 0 where
   pub number : ℕ
   pub rows : List (List Cell)
-  pub read : behind rows (rows_from (line_row s) (number + 1) (filled left)) ≡ rows_from (line_row s) 1 (filled lines)
+  pub read : behind rows (rows_from (line_row s) (number + 1) (filled_lines left)) ≡ rows_from (line_row s) 1 (filled_lines lines)
   pub weighs : table_weight s rows ≡ weight
   pub holds : HoldRows s rows b
 
@@ -351,18 +328,12 @@ lines_none s lines b k = record { number = 0; rows = []; read = behind_none _; w
 pub lines_same : (s : PlainSchema) (lines left : List (List ℕ)) (weight : ℕ) (old new : Batches) → HoldsSame s old new → LinesRead s lines left weight old → LinesRead s lines left weight new
 lines_same s lines left weight old new same h = record { number = h.number; rows = h.rows; read = h.read; weighs = h.weighs; holds = same h.rows h.holds }
 
-filled_at : (line : List ℕ) (lines : List (List ℕ)) → is_blank line ≡ false → filled (line ∷ lines) ≡ line ∷ filled lines
-filled_at line lines e = rw e refl
-
-skipped_at : (line : List ℕ) (lines : List (List ℕ)) → is_blank line ≡ true → filled (line ∷ lines) ≡ filled lines
-skipped_at line lines e = rw e refl
-
 pub lines_skipped : (s : PlainSchema) (lines left others : List (List ℕ)) (weight : ℕ) (line : List ℕ) (b : Batches) → left ≡ line ∷ others → is_blank line ≡ true
     → LinesRead s lines left weight b → LinesRead s lines others weight b
 lines_skipped s lines left others weight line b here blank h = record {
   number = h.number;
   rows = h.rows;
-  read = ap (λ (xs : List (List ℕ)). behind h.rows (rows_from (line_row s) (h.number + 1) xs)) (sym (ap filled here ∙ skipped_at line others blank)) ∙ h.read;
+  read = ap (λ (xs : List (List ℕ)). behind h.rows (rows_from (line_row s) (h.number + 1) xs)) (sym (blank_first left others line here blank)) ∙ h.read;
   weighs = h.weighs;
   holds = h.holds;
 }
@@ -384,19 +355,19 @@ lines_more s names lines left others weight more line b b2 here blank named dist
     let row = line_accepted s line keeps.data_is v.row more keeps.read v.read v.weighs few full in
     let i = h.number in
     let given : numbered (i + 1) (line_row s line) ≡ Ok v.row = rw row refl in
-    let next = ap filled here ∙ filled_at line others blank in
+    let next = filled_first left others line here blank in
     let joined = sum_by-append (row_weight s) h.rows (v.row ∷ []) in
     record {
       number = i + 1;
       rows = h.rows ++ v.row ∷ [];
-      read = sym (row_more (line_row s) (i + 1) h.rows line (filled others) v.row given)
+      read = sym (row_more (line_row s) (i + 1) h.rows line (filled_lines others) v.row given)
           ∙ ap (λ (xs : List (List ℕ)). behind h.rows (rows_from (line_row s) (i + 1) xs)) (sym next) ∙ h.read;
       weighs = omega (arith, joined, h.weighs, v.weighs);
       holds = held_more s h.rows v.row b b2 held adds v.keeps;
     }
 
 pub lines_all : (s : PlainSchema) (lines left : List (List ℕ)) (weight : ℕ) (b : Batches) → left ≡ [] → weight ≤ 268435456
-    → LinesRead s lines left weight b → HasRows s (rows_from (line_row s) 1 (filled lines)) weight b
+    → LinesRead s lines left weight b → HasRows s (rows_from (line_row s) 1 (filled_lines lines)) weight b
 lines_all s lines left weight b none few h = record {
   rows = h.rows;
   are_read = sym (rw none at h.read) ∙ rows_end (line_row s) (h.number + 1) h.rows;

@@ -52,17 +52,8 @@ text_read t d e = let j = converted_some of_json (value 127 (tokens_of t)) d [] 
 -- ---- the value that comes first
 
 first_is_none : (a : Parse json.Items) (o : Parse json.Members) (ts r : List Token) (d : Data) → converted of_json (value_with a o ts) ≡ Some (d, r) → after_end_array ts ≡ None
-first_is_none a o [] r d e = refl
-first_is_none a o (tokens.begin_object ∷ ts) r d e = refl
-first_is_none a o (tokens.end_object ∷ ts) r d e = refl
-first_is_none a o (tokens.begin_array ∷ ts) r d e = refl
 first_is_none a o (tokens.end_array ∷ ts) r d e = absurd cc
-first_is_none a o (tokens.key s ∷ ts) r d e = refl
-first_is_none a o (tokens.string s ∷ ts) r d e = refl
-first_is_none a o (tokens.number s ∷ ts) r d e = refl
-first_is_none a o (tokens.boolean b ∷ ts) r d e = refl
-first_is_none a o (tokens.null ∷ ts) r d e = refl
-first_is_none a o (tokens.bad ∷ ts) r d e = refl
+first_is_none a o _ r d e = refl
 
 -- a value ends no array
 pub value_there : (depth : ℕ) (ts r : List Token) (d : Data) → converted of_json (value depth ts) ≡ Some (d, r) → after_end_array ts ≡ None

@@ -1,32 +1,23 @@
 -- Short integers, where they are in a text.
 use mir.Syntax.{w64}
 use mir.Val.{SFits, of_z, to_z}
-use Rattle.std.specs.Prelude.{ℤ, pos, neg_ℤ, ◌-ℤ◌, not, ◌==◌, nat_le, get_or, slice_index, Some}
+use Rattle.std.specs.Prelude.{ℤ, pos, neg_ℤ, ◌-ℤ◌, not, ◌==◌, get_or, slice_index, Some}
 use Rattle.std.specs.Char.{digit_value, is_ascii_digit}
 use Rattle.std.specs.List.{list_all}
 use Rattle.std.specs.Str.{all_ascii_digits}
 use Rattle.std.specs.Str.Parse.{digits_value}
 use Rattle.std.proofs.Common.{◌≡◌, ℕ, zero, suc, ◌+◌, ◌-◌, ◌*◌, ◌^◌, ◌≤◌, ◌<◌, true, false, List, [], ◌∷◌, length, take, drop, refl, arith, ap, sym, ◌∙◌, add-one, length-drop}
 use Rattle.std.proofs.Math.Nat.{pow-le-pow_right, pow-suc}
-use Rattle.std.proofs.lemmas.Bool.{and_from, and_parts, eqb-true, leb-true, ne_eqb}
+use Rattle.std.proofs.lemmas.Bool.{and_from, and_parts, eqb-true, ne_eqb}
 use Rattle.std.proofs.lemmas.Int.{ints, to_z-of_z, to_z_pos}
 use Rattle.std.proofs.lemmas.Int.Digits.{digits_value_more}
 use Rattle.std.proofs.lemmas.List.{drop_more, get_or-drop, length-take-le}
-use Rattle.std.proofs.lemmas.Str.{digit_value_digit}
 use Rattle.cells.specs.Typed.{typed_integer, typed_number}
+use Rattle.text_import.specs.laws.Digits.{digit_bounds, digit_is}
 use Rattle.text_columns.specs.inner.Plain.{AreDigits, IsShortInteger, begins_quoted, begins_with, ends_field}
 use Rattle.text_columns.proofs.PlainText.{one_between}
 
 -- ---- digits one by one
-
-digit_bounds : (b : ℕ) → is_ascii_digit b ≡ true → (48 ≤ b) × (b ≤ 57)
-digit_bounds b h = let p = and_parts (nat_le 48 b) (nat_le b 57) h in (leb-true 48 b p.0, leb-true b 57 p.1)
-
-digit_is : (b : ℕ) → is_ascii_digit b ≡ true → digit_value b ≡ b - 48
-digit_is b h = omega (arith, digit_value_digit b (digit_bounds b h))
-
-pub digit_below : (b : ℕ) → is_ascii_digit b ≡ true → b - 48 ≤ 9
-digit_below b h = let p = digit_bounds b h in omega arith
 
 -- no digit yet
 pub no_digits : (text : List ℕ) (from : ℕ) → from ≤ length text → AreDigits text from from 0

@@ -12,7 +12,7 @@ use Rattle.serde_json.specs.Data.{Data, Num}
 use Rattle.serde_json.specs.Data as json
 use Rattle.serde_json.specs.Find.{as_integer}
 use Rattle.serde_json.specs.Read.{number_of}
-use Rattle.arrow_schema.specs.Column.{Column, Index, Kind, nulls, lists, large_lists, fixed_lists, structs, booleans, integers, dates, timestamps, texts, large_texts, binaries, large_binaries, fixed_binaries, column}
+use Rattle.arrow_schema.specs.Column.{Column, Index, Kind, booleans, integers, dates, timestamps, texts, large_texts, binaries, large_binaries, fixed_binaries, column}
 use Rattle.arrow_schema.specs.Limits.{is_nested}
 use Rattle.arrow_schema.specs.Parts.{is_nullable_column}
 use Rattle.arrow_schema.specs.View.{bits_of}
@@ -29,7 +29,7 @@ use Rattle.text_import.specs.declared.refusal.Refusal.{Refusal}
 use Rattle.text_import.specs.declared.refusal.Refusal.TheVariants.{NotUtf8}
 use Rattle.text_columns.specs.declared.coding.Coding.{Coding}
 use Rattle.text_columns.specs.declared.column_values.ColumnValues.{ColumnValues}
-use Rattle.text_columns.specs.declared.column_values.ColumnValues.TheVariants.{Nulls, Booleans, Integers, Texts, Binaries, FixedBinaries}
+use Rattle.text_columns.specs.declared.column_values.ColumnValues.TheVariants.{Booleans, Integers, Texts, Binaries, FixedBinaries}
 use Rattle.text_columns.specs.declared.builder.ColumnBuilder.{ColumnBuilder, Flat}
 use Rattle.text_columns.specs.declared.flat.FlatBuilder.{FlatBuilder}
 use Rattle.text_columns.specs.inner.Kept.{AppendsInteger, Clears, Codes, HasCell, Holds, HoldsCells, IsCoded, IsOf, Keeps, TakesCodedText, TakesNullCell, has_texts, null_weight}
@@ -207,11 +207,7 @@ null_kept old new is same valid takes (column name nullable kind dictionary pair
 -- a value that is no null has the cell of its type
 not_null : (nullable : Bool) (f : Data → Result Cell Refusal) (d : Data) → (d ≡ json.null → ⊥) → null_or_in nullable f d ≡ f d
 not_null nullable f json.null other = absurd (other refl)
-not_null nullable f (json.boolean b) other = refl
-not_null nullable f (json.number n) other = refl
-not_null nullable f (json.string t) other = refl
-not_null nullable f (json.array ds) other = refl
-not_null nullable f (json.object ms) other = refl
+not_null nullable f _ other = refl
 
 value_behind : (d : Data) (weight : ℕ) (old new : FlatBuilder) → (d ≡ json.null → ⊥) → new.nullable ≡ old.nullable → new.valid.items ≡ old.valid.items ++ true ∷ []
     → ((dictionary : Option Index) (kind : Kind) (so : List Cell) → HoldsCells dictionary kind so old.values old.coding → HasCell dictionary kind (kind_in kind d) weight so new.values new.coding)
@@ -256,7 +252,6 @@ large_fits x h = h
 
 value_fits : (kind : Kind) (d : Data) (x : Cell) → is_nested kind ≡ false → kind_in kind d ≡ Ok x → fits_kind kind x ≡ true
 unfolding kind_in
-value_fits nulls d x flat h = absurd cc
 value_fits booleans d x flat h = boolean_fits_in d x h
 value_fits (integers bits signed) d x flat h = number_fits_in (integers bits signed) d x h
 value_fits (dates unit) d x flat h = number_fits_in (dates unit) d x h
@@ -266,10 +261,7 @@ value_fits large_texts d x flat h = large_fits x (text_fits_in d x h)
 value_fits binaries d x flat h = bytes_fit_in binaries d x h
 value_fits large_binaries d x flat h = bytes_fit_in large_binaries d x h
 value_fits (fixed_binaries size) d x flat h = bytes_fit_in (fixed_binaries size) d x h
-value_fits (lists item) d x flat h = absurd cc
-value_fits (large_lists item) d x flat h = absurd cc
-value_fits (fixed_lists size item) d x flat h = absurd cc
-value_fits (structs columns) d x flat h = absurd cc
+value_fits _ d x flat h = absurd cc
 
 -- the buffers of the one value were cleared and then have the value that is coded
 pub token_coded : (t : Token) (weight : ℕ) (old new : Coding) (values values2 : ColumnValues) (cleared one : ColumnValues) → Clears old.one cleared → TakesToken t weight cleared one
@@ -296,11 +288,7 @@ unfolding kind_in cell_of_text fits_kind
 string_read texts (Texts width offsets contents) s strings is = refl
 string_read large_texts (Texts width offsets contents) s strings is = refl
 string_read _ (Texts width offsets contents) s strings is = absurd is
-string_read _ Nulls s strings is = absurd cc
-string_read _ (Booleans bits) s strings is = absurd cc
-string_read _ (Integers i own) s strings is = absurd cc
-string_read _ (Binaries width offsets contents) s strings is = absurd cc
-string_read _ (FixedBinaries width own) s strings is = absurd cc
+string_read _ _ s strings is = absurd cc
 
 pub coded_string_step : {E : Type 0} (t : Token) (s : List ℕ) (old new : Coding) (values values2 : ColumnValues) (r : Result (Option ℕ) E) → t ≡ tokens.string s → has_texts values ≡ true
     → IfOk r (λ taken. IfSome taken (λ weight. TakesCodedText s weight old values new values2)) → IfOk r (λ taken. IfSome taken (λ weight. TakesCodedToken t weight old values new values2))

@@ -3,10 +3,11 @@ ghost use Rattle.std.specs.Prelude.{◌≡◌, ◌≤◌, ◌<◌, ℕ, List, []
 ghost use Rattle.arrow_schema.specs.Column.{columns_of};
 ghost use Rattle.arrow_schema.specs.View.{schema_of};
 ghost use Rattle.json.specs.Token as tokens;
+ghost use Rattle.text_import.specs.inner.Lines.{lines_left, size_left};
 ghost use Rattle.text_import.specs.Objects.{jsonl_rows_of, names_of, repeats};
 ghost use Rattle.text_columns.specs.inner.Batches.{AddsRow, HasRows, HoldRows};
 ghost use Rattle.text_columns.specs.inner.Kept.{key_list};
-ghost use Rattle.text_columns.specs.inner.Lines.{KeepsLine, KeepsTokens, lines_left, size_left};
+ghost use Rattle.text_columns.specs.inner.Lines.{KeepsLine, KeepsTokens};
 
 use crate::batches::Batches;
 use crate::builder::ColumnBuilder;

@@ -24,9 +24,10 @@ use Rattle.text_import.specs.Records.{field_cells, record_row, are_names, whole,
 use Rattle.text_import.specs.Objects.{item_count, column_count, cells_by_place, cells_by_name, names_of, keys_of, repeats, has_unknown, value_row, line_value, line_row, lines_of, jsonl_rows_of}
 use Rattle.text_import.specs.Form.{rows_of_text}
 use Rattle.text_import.specs.ValuePart.{PlainValuePart, is_refused, first_repeated, first_unknown, part_by_place, part_by_name}
-use Rattle.text_import.specs.Part.{PlainPart, nested_column, header_name, header_count, record_count, field, line, PlainLinePart, value_part, other_count, unknown_name, repeated_name, nested_part, other_name, refused_names, header_of, refused_header, refused_field, refused_in_record, refused_in_value, refused_in_read, refused_in_line, refused_part}
+use Rattle.text_import.specs.Part.{PlainPart, nested_column, header_name, header_count, record_count, field, PlainLinePart, value_part, other_count, unknown_name, repeated_name, nested_part, other_name, refused_names, header_of, refused_header, refused_field, refused_in_record, refused_in_value, refused_in_read, refused_in_line, refused_part}
 use Rattle.text_import.specs.Cause.{IsNestedColumn, IsOtherName, IsOtherCount, IsRefusedField, IsRecordCause, IsCsvCause, IsRefusedBelow, IsLinePartCause, IsLineCause, IsCause}
 use Rattle.text_import.proofs.NameLemmas.{any_repeated, repeated_there}
+use Rattle.text_import.proofs.ObjectLemmas.{columns_counted}
 use Rattle.text_import.proofs.PartLemmas.{any_unknown, column_nested, column_flat, none_nested}
 use Rattle.text_import.proofs.ExplainedParts.{Explained, Within, mapped_explained, unknown_among, place_explained, name_explained}
 
@@ -105,12 +106,9 @@ record_cause s null_text ts part e names refuses = by (length ts == length s.col
 
 -- what is the cause of a record is that of its text
 of_record : (null_text : List ℕ) (cs : List Column) (t : List ℕ) (part : PlainPart) (e : Refusal) → IsRecordCause null_text cs part e → IsCsvCause null_text cs t part e
-of_record null_text cs t (nested_column name) e h = absurd h
-of_record null_text cs t (header_name found wanted) e h = absurd h
-of_record null_text cs t (header_count names columns) e h = absurd h
 of_record null_text cs t (record_count fields columns) e h = h
 of_record null_text cs t (field name text) e h = h
-of_record null_text cs t (line part text) e h = absurd h
+of_record null_text cs t _ e h = absurd h
 
 -- a column that is named is a list or a struct
 nested_cause : (cs : List Column) → list_any is_nested_column cs ≡ true → (name : List ℕ) × (nested_part cs ≡ Some (nested_column name)) × IsNestedColumn cs name
@@ -219,11 +217,6 @@ csv_cause s null_text t r part h names = by (list_any is_nested_column s.columns
         rw (← one, ← same) (refl, cause)
     by false flat h = behind (records_of t) refl flat h
 
--- counts of columns
-columns_counted : (cs : List Column) → column_count (columns_of cs) ≡ length cs
-columns_counted [] = refl
-columns_counted (c ∷ cs) = (let e = columns_counted cs in omega arith)
-
 -- what is made of cells that are refused
 told : (s : PlainSchema) (value : Data) (part : PlainLinePart) (e : Refusal) (r : Result Cells Refusal) (o : Option PlainValuePart) → Explained (IsRefusedBelow s.columns value) r o
     → option_map value_part o ≡ Some part → and_then (given cell_list r) (accepted s) ≡ Err e → IsLinePartCause s.columns value part e
@@ -253,10 +246,6 @@ members_told cs ms =
 -- the part of the value of a line that is named is why no row is made of it
 value_cause : (s : PlainSchema) (value : Data) (part : PlainLinePart) (e : Refusal) → refused_in_value (columns_of s.columns) value ≡ Some part → value_row s value ≡ Err e
     → IsLinePartCause s.columns value part e
-value_cause s json.null part e names h = absurd cc
-value_cause s (json.boolean b) part e names h = absurd cc
-value_cause s (json.number n) part e names h = absurd cc
-value_cause s (json.string t) part e names h = absurd cc
 value_cause s (json.array ds) part e names h = by (item_count ds == column_count cs) refl names h
   where
     cs : Columns
@@ -301,6 +290,7 @@ value_cause s (json.object ms) part e names h = by (first_repeated (names_of cs)
     by None twice names h =
         let none : repeats (names_of cs) ≡ false = sym (any_repeated (names_of cs)) ∙ ap is_some twice in
         key (first_unknown (names_of cs) (keys_of ms)) refl names (rw none at h)
+value_cause s _ part e names h = absurd cc
 
 line_cause : (s : PlainSchema) (t : List ℕ) (e : Refusal) → line_row s t ≡ Err e → IsLineCause s (refused_in_line s t) e
 line_cause s t e h = (h, by (line_value t) refl h)

@@ -183,11 +183,7 @@ column_explained : (name : List ℕ) (nullable : Bool) (kind : Kind) (i : _) (p 
 unfolding cell_in cell_part
 column_explained name true kind i p json.null more = tt
 column_explained name false kind i p json.null more = is_refused_value (column name false kind i p) json.null refl
-column_explained name nullable kind i p (json.boolean b) more = more (λ e h. h)
-column_explained name nullable kind i p (json.number n) more = more (λ e h. h)
-column_explained name nullable kind i p (json.string t) more = more (λ e h. h)
-column_explained name nullable kind i p (json.array ds) more = more (λ e h. h)
-column_explained name nullable kind i p (json.object ms) more = more (λ e h. h)
+column_explained name nullable kind i p _ more = more (λ e h. h)
 
 -- in a field of a struct
 in_struct : (c : Column) (cs : Columns) (d : Data) (p : PlainValuePart) (e : Refusal) → kind_of_column c ≡ structs cs → Within dot cs d p e → Why c (Some d) p e

@@ -28,12 +28,7 @@ record IsOf (kind : Kind) (x : Cell) : Type 0 where
 of_column : (name : List ℕ) (nullable : Bool) (kind : Kind) (d : _) (p : _) (x : Cell) → IsOf kind x → fits (column name nullable kind d p) x ≡ true
 unfolding fits
 of_column name nullable kind d p null is = absurd (let no = is.there in cc)
-of_column name nullable kind d p (boolean b) is = is.kinds
-of_column name nullable kind d p (number n) is = is.kinds
-of_column name nullable kind d p (text t) is = is.kinds
-of_column name nullable kind d p (bytes t) is = is.kinds
-of_column name nullable kind d p (items cs) is = is.kinds
-of_column name nullable kind d p (parts cs) is = is.kinds
+of_column name nullable kind d p _ is = is.kinds
 
 -- ---- texts
 
@@ -59,7 +54,6 @@ bytes_are kind (Ok t) x h = fitting_is kind FixedWidth (bytes t) x refl h
 
 text_is : (kind : Kind) (t : List ℕ) (x : Cell) → cell_of_text kind t ≡ Ok x → IsOf kind x
 unfolding cell_of_text
-text_is nulls t x h = absurd cc
 text_is booleans t x h = boolean_is (typed_boolean t) x h
 text_is (integers bits signed) t x h = number_is (integers bits signed) (typed_integer t) x h
 text_is (dates unit) t x h = number_is (dates unit) (typed_integer t) x h
@@ -69,10 +63,7 @@ text_is large_texts t x h = fitting_is large_texts NotUtf8 (text t) x refl h
 text_is binaries t x h = bytes_are binaries (decode_of t) x h
 text_is large_binaries t x h = bytes_are large_binaries (decode_of t) x h
 text_is (fixed_binaries width) t x h = bytes_are (fixed_binaries width) (decode_of t) x h
-text_is (lists below) t x h = absurd cc
-text_is (large_lists below) t x h = absurd cc
-text_is (fixed_lists size below) t x h = absurd cc
-text_is (structs columns) t x h = absurd cc
+text_is _ t x h = absurd cc
 
 field_fits : (null_text : List ℕ) (c : Column) (t : List ℕ) (x : Cell) → field_cell null_text c t ≡ Ok x → fits c x ≡ true
 unfolding field_cell fits
@@ -98,40 +89,24 @@ fields_fit null_text (c ∷ cs) (t ∷ ts) xs h = by (field_cell null_text c t) 
 -- ---- values
 
 boolean_value : (d : Data) (x : Cell) → boolean_in d ≡ Ok x → IsOf booleans x
-boolean_value json.null x h = absurd cc
 boolean_value (json.boolean b) x h = boolean_is (Some b) x h
-boolean_value (json.number n) x h = absurd cc
-boolean_value (json.string t) x h = absurd cc
-boolean_value (json.array ds) x h = absurd cc
-boolean_value (json.object ms) x h = absurd cc
+boolean_value _ x h = absurd cc
 
 number_value : (kind : Kind) (d : Data) (x : Cell) → number_in kind d ≡ Ok x → IsOf kind x
-number_value kind json.null x h = absurd cc
-number_value kind (json.boolean b) x h = absurd cc
 number_value kind (json.number n) x h = number_is kind (as_integer n) x h
-number_value kind (json.string t) x h = absurd cc
-number_value kind (json.array ds) x h = absurd cc
-number_value kind (json.object ms) x h = absurd cc
+number_value kind _ x h = absurd cc
 
 text_value : (d : Data) (x : Cell) → text_in d ≡ Ok x → IsOf texts x
-text_value json.null x h = absurd cc
-text_value (json.boolean b) x h = absurd cc
-text_value (json.number n) x h = absurd cc
 text_value (json.string t) x h = fitting_is texts NotUtf8 (text t) x refl h
-text_value (json.array ds) x h = absurd cc
-text_value (json.object ms) x h = absurd cc
+text_value _ x h = absurd cc
 
 large_text_value : (d : Data) (x : Cell) → text_in d ≡ Ok x → IsOf large_texts x
 unfolding fits_kind
 large_text_value d x h = let is = text_value d x h in record { there = is.there; kinds = is.kinds }
 
 bytes_value : (kind : Kind) (d : Data) (x : Cell) → bytes_in kind d ≡ Ok x → IsOf kind x
-bytes_value kind json.null x h = absurd cc
-bytes_value kind (json.boolean b) x h = absurd cc
-bytes_value kind (json.number n) x h = absurd cc
 bytes_value kind (json.string t) x h = bytes_are kind (decode_of t) x h
-bytes_value kind (json.array ds) x h = absurd cc
-bytes_value kind (json.object ms) x h = absurd cc
+bytes_value kind _ x h = absurd cc
 
 each_item_is : (f : Data → Result Cell Refusal) (p : Cell → Bool) → ((d : Data) (x : Cell) → f d ≡ Ok x → p x ≡ true) → (ds : Items) (cs : Cells) → each_item f ds ≡ Ok cs
     → (all_cells p cs ≡ true) × (count_of cs ≡ item_count ds)
@@ -149,25 +124,16 @@ each_item_is f p is (item d ds) cs h = by (f d) (is d) (each_item f ds) h (each_
 
 list_is : (f : Data → Result Cell Refusal) (p : Cell → Bool) → ((d : Data) (x : Cell) → f d ≡ Ok x → p x ≡ true) → (d : Data) (x : Cell) → list_in f d ≡ Ok x
     → (is_there x ≡ true) × (items_where (all_cells p) x ≡ true)
-list_is f p is json.null x h = absurd cc
-list_is f p is (json.boolean b) x h = absurd cc
-list_is f p is (json.number n) x h = absurd cc
-list_is f p is (json.string t) x h = absurd cc
-list_is f p is (json.object ms) x h = absurd cc
 list_is f p is (json.array ds) x h = by (each_item f ds) h (each_item_is f p is ds)
   where
     by : (s : Result Cells Refusal) → given items s ≡ Ok x → ((cs : Cells) → s ≡ Ok cs → (all_cells p cs ≡ true) × (count_of cs ≡ item_count ds))
         → (is_there x ≡ true) × (items_where (all_cells p) x ≡ true)
     by (Err e) h each = absurd cc
     by (Ok cs) h each = (let same : items cs ≡ x = cc in rw (← same) (refl, (each cs refl).0))
+list_is f p is _ x h = absurd cc
 
 fixed_list_is : (size : ℕ) (f : Data → Result Cell Refusal) (p : Cell → Bool) → ((d : Data) (x : Cell) → f d ≡ Ok x → p x ≡ true) → (d : Data) (x : Cell) → fixed_list_in size f d ≡ Ok x
     → (is_there x ≡ true) × (items_where (λ cs. count_of cs == size && all_cells p cs) x ≡ true)
-fixed_list_is size f p is json.null x h = absurd cc
-fixed_list_is size f p is (json.boolean b) x h = absurd cc
-fixed_list_is size f p is (json.number n) x h = absurd cc
-fixed_list_is size f p is (json.string t) x h = absurd cc
-fixed_list_is size f p is (json.object ms) x h = absurd cc
 fixed_list_is size f p is (json.array ds) x h = by (item_count ds == size) refl (each_item f ds) h (each_item_is f p is ds)
   where
     by : (b : Bool) → (item_count ds == size) ≡ b → (s : Result Cells Refusal) → given items (if b then s else Err Width) ≡ Ok x
@@ -180,6 +146,7 @@ fixed_list_is size f p is (json.array ds) x h = by (item_count ds == size) refl 
         let both = each cs refl in
         let count : (count_of cs == size) ≡ true = rw both.1 sized in
         rw (← same) (refl, and_from _ _ count both.0)
+fixed_list_is size f p is _ x h = absurd cc
 
 struct_is : (cs : Columns) (s : Result Cells Refusal) → ((ys : Cells) → s ≡ Ok ys → each_fits cs ys ≡ true) → (x : Cell) → given parts s ≡ Ok x
     → (is_there x ≡ true) × (parts_where (each_fits cs) x ≡ true)
@@ -195,11 +162,7 @@ member_fits (column name nullable kind d p) (Some e) x is h = is e x h
 nullable_is : (nullable : Bool) (f : Data → Result Cell Refusal) (d : Data) (x : Cell) → null_or_in nullable f d ≡ Ok x → ((nullable ≡ true) × (x ≡ null)) ⊎ (f d ≡ Ok x)
 nullable_is true f json.null x h = inl (refl, cc)
 nullable_is false f json.null x h = absurd cc
-nullable_is nullable f (json.boolean b) x h = inr h
-nullable_is nullable f (json.number n) x h = inr h
-nullable_is nullable f (json.string t) x h = inr h
-nullable_is nullable f (json.array ds) x h = inr h
-nullable_is nullable f (json.object ms) x h = inr h
+nullable_is nullable f _ x h = inr h
 
 column_is : (name : List ℕ) (nullable : Bool) (kind : Kind) (d : _) (p : _) (v : Data) (x : Cell) → ((y : Cell) → kind_in kind v ≡ Ok y → IsOf kind y)
     → null_or_in nullable (kind_in kind) v ≡ Ok x → fits (column name nullable kind d p) x ≡ true
@@ -219,10 +182,6 @@ one_more c cs (Ok x) (Ok ys) xs one others h = let same : and_cell x ys ≡ xs =
 
 parts_are : (cs : Columns) → ((ds : Items) (ys : Cells) → cells_by_place cs ds ≡ Ok ys → each_fits cs ys ≡ true) → ((ms : Members) (ys : Cells) → cells_by_name cs ms ≡ Ok ys → each_fits cs ys ≡ true)
     → (d : Data) (xs : Cells) → cells_in cs d ≡ Ok xs → each_fits cs xs ≡ true
-parts_are cs places names json.null xs h = absurd cc
-parts_are cs places names (json.boolean b) xs h = absurd cc
-parts_are cs places names (json.number n) xs h = absurd cc
-parts_are cs places names (json.string t) xs h = absurd cc
 parts_are cs places names (json.array ds) xs h = by (item_count ds == column_count cs) h
   where
     by : (b : Bool) → (if b then cells_by_place cs ds else Err Width) ≡ Ok xs → each_fits cs xs ≡ true
@@ -234,6 +193,7 @@ parts_are cs places names (json.object ms) xs h = by (repeats (names_of cs)) (ha
     by true b h = absurd cc
     by false true h = absurd cc
     by false false h = names ms xs h
+parts_are cs places names _ xs h = absurd cc
 
 mutual
   unfolding cell_in kind_in cells_by_place cells_by_name fits_kind each_fits

@@ -1,12 +1,10 @@
 -- Numbers that are capped are refused as those that they stand for.
 use Rattle.std.proofs.Common.{◌≡◌, ℕ, ◌+◌, ◌-◌, ◌*◌, ◌≤◌, ◌<◌, ◌^◌, Bool, true, false, List, [], ◌∷◌, length, min, add-one, refl, sym, ap, ◌∙◌, arith, inl, inr}
-use Rattle.std.specs.Prelude.{ℤ, pos, neg_ℤ, Option, Some, None, option_map, if◌then◌else◌, ◌==◌, ◌&&◌, nat_le}
+use Rattle.std.specs.Prelude.{ℤ, pos, neg_ℤ, Option, Some, None, option_map, if◌then◌else◌, ◌==◌, ◌&&◌}
 use Rattle.std.specs.Prelude.{int_lt, int_le, get_or, drop}
 use Rattle.std.proofs.lemmas.Bool.{cases_lt, false≢true, le-leb, leb-true}
 use Rattle.std.proofs.lemmas.Int.{ints}
 use Rattle.std.proofs.lemmas.List.{drop_more}
-use Rattle.std.proofs.lemmas.Bool.{and_parts}
-use Rattle.std.proofs.lemmas.Str.{digit_value_digit}
 use Rattle.std.proofs.Math.Bool.{and-false}
 use Rattle.std.specs.Char.{digit_value, is_ascii_digit}
 use Rattle.std.specs.Str.{all_ascii_digits}
@@ -19,11 +17,8 @@ use Rattle.cells.specs.Nulls.{is_there}
 use Rattle.cells.specs.Typed.{typed_number, typed_integer}
 use Rattle.cells.specs.Fit.{fits, fits_kind, in_range}
 use Rattle.text_import.specs.Flat.{number_cell}
+use Rattle.text_import.specs.laws.Digits.{digit_below, digit_is}
 use Rattle.text_import.specs.inner.Capped.{number_behind, capped, too_large, capped_integer, holds_numbers}
-
--- what the code counts of a digit
-digit_is : (b : ℕ) → is_ascii_digit b ≡ true → digit_value b ≡ b - 48
-digit_is b h = let p = and_parts (nat_le 48 b) (nat_le b 57) h in omega (arith, digit_value_digit b (leb-true 48 b p.0, leb-true b 57 p.1))
 
 capped_again : (n : ℕ) → capped n ≡ capped (capped n)
 capped_again n = omega arith
@@ -74,9 +69,6 @@ digit_none_at t n i lt is = rw (drop_more t i 0 lt) (digit_none n (get_or t i 0)
 pub digit_more_at : (t : List ℕ) (n i : ℕ) → i < length t → is_ascii_digit (get_or t i 0) ≡ true
     → option_map capped (number_behind n (drop i t)) ≡ option_map capped (number_behind (min (n * 10 + (get_or t i 0 - 48)) too_large) (drop (i + 1) t))
 digit_more_at t n i lt is = rw (drop_more t i 0 lt) (digit_more n (get_or t i 0) (drop (i + 1) t) is)
-
-pub digit_below : (b : ℕ) → is_ascii_digit b ≡ true → b - 48 ≤ 9
-digit_below b h = let p = and_parts (nat_le 48 b) (nat_le b 57) h in omega (arith, leb-true b 57 p.1)
 
 -- a number of few digits has room for one more
 pub digit_room : (t : List ℕ) (n i : ℕ) → n < 10 ^ i → i < length t → length t ≤ 19 → n * 10 + 9 < 2 ^ 64

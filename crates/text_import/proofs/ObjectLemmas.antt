@@ -34,6 +34,10 @@ use Rattle.std.proofs.lemmas.Bool.Decides.{same_from_decides, Decides-like}
 use Rattle.std.proofs.lemmas.Slice.Eq.{bytes_eq-Decides}
 use Rattle.text_import.specs.Objects.{has_name, has_unknown, named_parts, repeats, keys_of, item_count, column_count, sized, each_item, cell_in, cells_by_place, cells_by_name, is_blank, line_row}
 
+pub columns_counted : (cs : List Column) → column_count (columns_of cs) ≡ length cs
+columns_counted [] = refl
+columns_counted (c ∷ cs) = let e = columns_counted cs in omega (arith, e)
+
 pub bytes_eq_sym : (a b : List ℕ) → bytes_eq a b ≡ bytes_eq b a
 bytes_eq_sym a b = same_from_decides (bytes_eq a b) (bytes_eq b a) (bytes_eq-Decides a b) (Decides-like (bytes_eq b a) sym sym (bytes_eq-Decides b a))
 

@@ -211,7 +211,7 @@ fn any_with_run(
 }
 
 // A test of what is below runs of slots that are all valid.
-#[tactic(auto, unfolding(columns::specs::Sound::has_sound_children))]
+#[tactic(auto, using(columns::proofs::KindParts::kind_rules), unfolding(columns::specs::Sound::has_sound_children))]
 #[cycle(spans)]
 fn any_valid_below(
     test: SlotTest,

@@ -1,7 +1,5 @@
 -- What the tokens and lines of JSON leave in the buffers of columns.
-use Rattle.std.specs.Borrow.{Bor}
-use Rattle.std.specs.List.{slice_split}
-use Rattle.std.specs.Prelude.{◌≡◌, ◌==◌, ◌+◌, ◌/◌, ◌++◌, ℕ, ℤ, Bool, true, false, List, [], ◌∷◌, length, set, slice_get, Option, Some, None, option_map, option_and_then, Ok}
+use Rattle.std.specs.Prelude.{◌≡◌, ◌+◌, ◌/◌, ◌++◌, ℕ, ℤ, Bool, true, false, List, [], ◌∷◌, length, set, slice_get, Option, Some, None, option_map, option_and_then, Ok}
 use Rattle.std.specs.Str.{is_utf8}
 use Rattle.byteorder.specs.Endian.{little_bytes}
 use Rattle.fast_float.specs.Text.{Parts}
@@ -234,16 +232,6 @@ pub record PushesMembers (depth : ℕ) (names : List (List ℕ)) (old new : List
       → HoldMembers cs rows found weights2 bs2
 
 -- ---- rows
-
--- the lines of what is left of a text, if something is
-abbrev pub lines_left : Option (Bor (List ℕ)) → List (List ℕ)
-lines_left None = []
-lines_left (Some text) = slice_split (λ b. b == 10) text.now
-
--- the size of what is left, which may be an empty line after the last line feed
-abbrev pub size_left : Option (Bor (List ℕ)) → ℕ
-size_left None = 0
-size_left (Some text) = 1 + length text.now
 
 -- the cell of a member comes after the cells of a column, or a null if there is none
 pub record HasMember (c : Column) (o : Option Data) (weight : ℕ) (so : List Cell) (new : ColumnBuilder) : Type 0 where

@@ -1,24 +1,23 @@
 use Rattle.std.specs.Prelude.{◌&&◌}
 use Rattle.std.specs.List.{list_all}
-use Rattle.std.proofs.Common.{◌≡◌, Bool, map, arith, rules, ap, sym, string_bytes, ◌∙◌}
+use Rattle.std.proofs.Common.{◌≡◌, Bool, map, arith, rules, ◌∙◌}
 use Rattle.std.proofs.lemmas.Bool.{and_from}
 use Rattle.std.proofs.lemmas.Result.{IfOk-weaker}
-use Rattle.arrow_schema.specs.declared.types.Field.{the_lemmas as field_lemmas}
-use Rattle.arrow_schema.specs.Column.{Kind, columns_of, nulls, booleans, integers, dates, timestamps, texts, large_texts, binaries, large_binaries, fixed_binaries, lists, large_lists, fixed_lists, structs}
+use Rattle.arrow_schema.specs.Column.{columns_of}
 use Rattle.columns.specs.declared.array.DictionaryPart.{DictionaryPart}
 use Rattle.columns.specs.declared.array.PlacedLayout.{the_lemmas}
 use Rattle.columns.specs.declared.array.PlacedArray.{roll-PlacedArray}
 use Rattle.columns.specs.declared.array.PlacedLayout.TheVariants.{List, FixedList, Struct, Dictionary}
 use Rattle.columns.specs.declared.array.PlacedLayout.TheFolds.{fold-PlacedLayout}
 use Rattle.columns.specs.Within.{layout_within, array_within, ends_within, is_within_by, is_placed_within, stands_within}
-use Rattle.columns.specs.Array.{array, arrays_of, list_layout, fixed_list_layout, struct_layout, dictionary_layout}
+use Rattle.columns.specs.Array.{array, arrays_of, dictionary_layout}
 use Rattle.columns.specs.Places.{within}
-use Rattle.columns.specs.View.{array_in, placed_arrays}
+use Rattle.columns.specs.View.{array_in}
 use Rattle.facts.specs.laws.Lists.{drop-item}
-use Rattle.arrow_schema.specs.View.{kind_of, column_of, bits_of, date_kind, time_kind}
-use Rattle.columns.specs.FromBuffers.{kind_array_from, node_count, buffer_count, dictionary_count}
-use Rattle.arrays.specs.inner.Rest.{rest_known, rest_nodes, rest_buffers, rest_dictionaries, IsPlacedBelow, ArePlacedBelow}
-use Rattle.arrays.proofs.LaidOut.{layout_of, kind_layout, null_laid, bits_laid, fixed_laid, binary_laid, ends_of, span_ends, null_ends, bits_end, fixed_ends, binary_ends}
+use Rattle.arrow_schema.specs.View.{kind_of, column_of}
+use Rattle.columns.specs.FromBuffers.{node_count, buffer_count, dictionary_count}
+use Rattle.arrays.specs.inner.Rest.{rest_known, rest_nodes, rest_buffers, rest_dictionaries}
+use Rattle.arrays.proofs.LaidOut.{layout_of, ends_of, span_ends, null_ends, bits_end, fixed_ends, binary_ends}
 use Rattle.arrays.proofs.Placed.{own_array, plain_from, coded_from, none_placed, next_placed, finished, below_placed, all_placed_below}
 use Rattle.arrays.proofs.Ends.{behind_itself, behind_more, none_ends, end_more, ends_left, all_end_left, children_end}
 use Rattle.arrays.proofs.place.+place.Goals as goal
@@ -55,106 +54,35 @@ place_layout-returns-in_ok-place_children-in-Struct-clause-ends t c = λ size le
     ≡ list_all (λ b. b) (map (is_within_by size stands) c.in_ok-place_children-in-Struct.field-0.items) = search (rules, the_lemmas) in
     seen ∙ children_end c.args.rest c.in_ok-place_children-in-Struct.field-0.items size (c.in_ok-place_children-in-Struct.ensures.end size le known)
 
-pub place_layout-returns-in-Null-clause-laid_out : goal.place_layout-returns-in-Null-clause-laid_out
-unfolding kind_array_from
-place_layout-returns-in-Null-clause-laid_out t c =
-    let kind : kind_of c.args.data_type.now ≡ nulls = rw c.in-Null.is (search (rules, field_lemmas)) in
-    null_laid c.args.rest (kind_of c.args.data_type.now) (ap (λ (k : Kind). kind_layout k c.args.rest) kind)
-
 pub place_layout-returns-in-Null-clause-ends : goal.place_layout-returns-in-Null-clause-ends
 place_layout-returns-in-Null-clause-ends t c = null_ends c.args.rest
-
-pub place_layout-returns-in-Bool-clause-laid_out : goal.place_layout-returns-in-Bool-clause-laid_out
-unfolding kind_array_from
-place_layout-returns-in-Bool-clause-laid_out t c =
-    let kind : kind_of c.args.data_type.now ≡ booleans = rw c.in-Bool.is (search (rules, field_lemmas)) in
-    bits_laid c.args.rest (kind_of c.args.data_type.now) c.buffer.result (ap (λ (k : Kind). kind_layout k c.args.rest) kind) c.buffer.ensures.bytes
 
 pub place_layout-returns-in-Bool-clause-ends : goal.place_layout-returns-in-Bool-clause-ends
 place_layout-returns-in-Bool-clause-ends t c = bits_end c.args.rest c.buffer.result c.buffer.ensures.ends
 
-pub place_layout-returns-in-Int-clause-laid_out : goal.place_layout-returns-in-Int-clause-laid_out
-unfolding kind_array_from
-place_layout-returns-in-Int-clause-laid_out t c =
-    let kind : kind_of c.args.data_type.now ≡ integers (bits_of c.in-Int.field-0.width) c.in-Int.field-0.signed = rw c.in-Int.is (search (rules, field_lemmas)) in
-    fixed_laid c.args.rest (kind_of c.args.data_type.now) c.buffer-in-Int.result (ap (λ (k : Kind). kind_layout k c.args.rest) kind) c.buffer-in-Int.ensures.bytes
-
 pub place_layout-returns-in-Int-clause-ends : goal.place_layout-returns-in-Int-clause-ends
 place_layout-returns-in-Int-clause-ends t c = fixed_ends c.args.rest c.buffer-in-Int.result c.buffer-in-Int.ensures.ends
-
-pub place_layout-returns-in-Date-clause-laid_out : goal.place_layout-returns-in-Date-clause-laid_out
-unfolding kind_array_from
-place_layout-returns-in-Date-clause-laid_out t c =
-    let kind : kind_of c.args.data_type.now ≡ dates (date_kind c.in-Date.field-0) = rw c.in-Date.is (search (rules, field_lemmas)) in
-    fixed_laid c.args.rest (kind_of c.args.data_type.now) c.buffer-in-Date.result (ap (λ (k : Kind). kind_layout k c.args.rest) kind) c.buffer-in-Date.ensures.bytes
 
 pub place_layout-returns-in-Date-clause-ends : goal.place_layout-returns-in-Date-clause-ends
 place_layout-returns-in-Date-clause-ends t c = fixed_ends c.args.rest c.buffer-in-Date.result c.buffer-in-Date.ensures.ends
 
-pub place_layout-returns-in-Timestamp-clause-laid_out : goal.place_layout-returns-in-Timestamp-clause-laid_out
-unfolding kind_array_from
-place_layout-returns-in-Timestamp-clause-laid_out t c =
-    let kind : kind_of c.args.data_type.now ≡ timestamps (time_kind c.in-Timestamp.field-0) (string_bytes c.in-Timestamp.field-1) = rw c.in-Timestamp.is (search (rules, field_lemmas)) in
-    fixed_laid c.args.rest (kind_of c.args.data_type.now) c.buffer-in-Timestamp.result (ap (λ (k : Kind). kind_layout k c.args.rest) kind) c.buffer-in-Timestamp.ensures.bytes
-
 pub place_layout-returns-in-Timestamp-clause-ends : goal.place_layout-returns-in-Timestamp-clause-ends
 place_layout-returns-in-Timestamp-clause-ends t c = fixed_ends c.args.rest c.buffer-in-Timestamp.result c.buffer-in-Timestamp.ensures.ends
-
-pub place_layout-returns-in-Utf8-clause-laid_out : goal.place_layout-returns-in-Utf8-clause-laid_out
-unfolding kind_array_from
-place_layout-returns-in-Utf8-clause-laid_out t c =
-    let kind : kind_of c.args.data_type.now ≡ texts = rw c.in-Utf8.is (search (rules, field_lemmas)) in
-    binary_laid c.args.rest (kind_of c.args.data_type.now) c.buffer-in-Utf8.result c.buffer-in-Utf8-2.result (ap (λ (k : Kind). kind_layout k c.args.rest) kind) c.buffer-in-Utf8.ensures.bytes c.buffer-in-Utf8-2.ensures.bytes
 
 pub place_layout-returns-in-Utf8-clause-ends : goal.place_layout-returns-in-Utf8-clause-ends
 place_layout-returns-in-Utf8-clause-ends t c = binary_ends c.args.rest c.buffer-in-Utf8.result c.buffer-in-Utf8-2.result c.buffer-in-Utf8.ensures.ends c.buffer-in-Utf8-2.ensures.ends
 
-pub place_layout-returns-in-LargeUtf8-clause-laid_out : goal.place_layout-returns-in-LargeUtf8-clause-laid_out
-unfolding kind_array_from
-place_layout-returns-in-LargeUtf8-clause-laid_out t c =
-    let kind : kind_of c.args.data_type.now ≡ large_texts = rw c.in-LargeUtf8.is (search (rules, field_lemmas)) in
-    binary_laid c.args.rest (kind_of c.args.data_type.now) c.buffer-in-LargeUtf8.result c.buffer-in-LargeUtf8-2.result (ap (λ (k : Kind). kind_layout k c.args.rest) kind) c.buffer-in-LargeUtf8.ensures.bytes c.buffer-in-LargeUtf8-2.ensures.bytes
-
 pub place_layout-returns-in-LargeUtf8-clause-ends : goal.place_layout-returns-in-LargeUtf8-clause-ends
 place_layout-returns-in-LargeUtf8-clause-ends t c = binary_ends c.args.rest c.buffer-in-LargeUtf8.result c.buffer-in-LargeUtf8-2.result c.buffer-in-LargeUtf8.ensures.ends c.buffer-in-LargeUtf8-2.ensures.ends
-
-pub place_layout-returns-in-Binary-clause-laid_out : goal.place_layout-returns-in-Binary-clause-laid_out
-unfolding kind_array_from
-place_layout-returns-in-Binary-clause-laid_out t c =
-    let kind : kind_of c.args.data_type.now ≡ binaries = rw c.in-Binary.is (search (rules, field_lemmas)) in
-    binary_laid c.args.rest (kind_of c.args.data_type.now) c.buffer-in-Binary.result c.buffer-in-Binary-2.result (ap (λ (k : Kind). kind_layout k c.args.rest) kind) c.buffer-in-Binary.ensures.bytes c.buffer-in-Binary-2.ensures.bytes
 
 pub place_layout-returns-in-Binary-clause-ends : goal.place_layout-returns-in-Binary-clause-ends
 place_layout-returns-in-Binary-clause-ends t c = binary_ends c.args.rest c.buffer-in-Binary.result c.buffer-in-Binary-2.result c.buffer-in-Binary.ensures.ends c.buffer-in-Binary-2.ensures.ends
 
-pub place_layout-returns-in-LargeBinary-clause-laid_out : goal.place_layout-returns-in-LargeBinary-clause-laid_out
-unfolding kind_array_from
-place_layout-returns-in-LargeBinary-clause-laid_out t c =
-    let kind : kind_of c.args.data_type.now ≡ large_binaries = rw c.in-LargeBinary.is (search (rules, field_lemmas)) in
-    binary_laid c.args.rest (kind_of c.args.data_type.now) c.buffer-in-LargeBinary.result c.buffer-in-LargeBinary-2.result (ap (λ (k : Kind). kind_layout k c.args.rest) kind) c.buffer-in-LargeBinary.ensures.bytes c.buffer-in-LargeBinary-2.ensures.bytes
-
 pub place_layout-returns-in-LargeBinary-clause-ends : goal.place_layout-returns-in-LargeBinary-clause-ends
 place_layout-returns-in-LargeBinary-clause-ends t c = binary_ends c.args.rest c.buffer-in-LargeBinary.result c.buffer-in-LargeBinary-2.result c.buffer-in-LargeBinary.ensures.ends c.buffer-in-LargeBinary-2.ensures.ends
 
-pub place_layout-returns-in-FixedSizeBinary-clause-laid_out : goal.place_layout-returns-in-FixedSizeBinary-clause-laid_out
-unfolding kind_array_from
-place_layout-returns-in-FixedSizeBinary-clause-laid_out t c =
-    let kind : kind_of c.args.data_type.now ≡ fixed_binaries c.in-FixedSizeBinary.field-0 = rw c.in-FixedSizeBinary.is (search (rules, field_lemmas)) in
-    fixed_laid c.args.rest (kind_of c.args.data_type.now) c.buffer-in-FixedSizeBinary.result (ap (λ (k : Kind). kind_layout k c.args.rest) kind) c.buffer-in-FixedSizeBinary.ensures.bytes
-
 pub place_layout-returns-in-FixedSizeBinary-clause-ends : goal.place_layout-returns-in-FixedSizeBinary-clause-ends
 place_layout-returns-in-FixedSizeBinary-clause-ends t c = fixed_ends c.args.rest c.buffer-in-FixedSizeBinary.result c.buffer-in-FixedSizeBinary.ensures.ends
-
-pub place_layout-returns-in_ok-place_items-in-List-clause-laid_out : goal.place_layout-returns-in_ok-place_items-in-List-clause-laid_out
-unfolding kind_array_from
-place_layout-returns-in_ok-place_items-in-List-clause-laid_out t c =
-    let r = c.args.rest in
-    let offsets = c.buffer-in-List.result in
-    let box = c.in_ok-place_items-in-List.field-0 in
-    let kind : kind_of c.args.data_type.now ≡ lists (column_of c.in-List.item.value) = rw c.in-List.is (search (rules, field_lemmas)) in
-    let seen : layout_of r (List offsets box) ≡ list_layout (within r.bytes.now offsets) (array_in r.bytes.now (rest_known r) box.value) = search (rules, the_lemmas) in
-    let below : IsPlacedBelow (column_of c.in-List.item.value) r 2 box.value = rw c.deref.ensures at c.in_ok-place_items-in-List.ensures.placed in
-    seen ∙ (λ j. list_layout (c.buffer-in-List.ensures.bytes j) (below j)) ∙ sym (ap (λ (k : Kind). kind_layout k c.args.rest) kind)
 
 pub place_layout-returns-in_ok-place_items-in-List-clause-ends : goal.place_layout-returns-in_ok-place_items-in-List-clause-ends
 place_layout-returns-in_ok-place_items-in-List-clause-ends t c = λ size le known.
@@ -164,17 +92,6 @@ place_layout-returns-in_ok-place_items-in-List-clause-ends t c = λ size le know
     let seen : ends_of r size (List offsets box) ≡ (ends_within size offsets && is_placed_within size r.dictionaries.now box.value) = search (rules, the_lemmas) in
     seen ∙ and_from _ _ (span_ends r offsets size c.buffer-in-List.ensures.ends le) (c.in_ok-place_items-in-List.ensures.ends size le known)
 
-pub place_layout-returns-in_ok-place_items-in-LargeList-clause-laid_out : goal.place_layout-returns-in_ok-place_items-in-LargeList-clause-laid_out
-unfolding kind_array_from
-place_layout-returns-in_ok-place_items-in-LargeList-clause-laid_out t c =
-    let r = c.args.rest in
-    let offsets = c.buffer-in-LargeList.result in
-    let box = c.in_ok-place_items-in-LargeList.field-0 in
-    let kind : kind_of c.args.data_type.now ≡ large_lists (column_of c.in-LargeList.item.value) = rw c.in-LargeList.is (search (rules, field_lemmas)) in
-    let seen : layout_of r (List offsets box) ≡ list_layout (within r.bytes.now offsets) (array_in r.bytes.now (rest_known r) box.value) = search (rules, the_lemmas) in
-    let below : IsPlacedBelow (column_of c.in-LargeList.item.value) r 2 box.value = rw c.deref-in-LargeList.ensures at c.in_ok-place_items-in-LargeList.ensures.placed in
-    seen ∙ (λ j. list_layout (c.buffer-in-LargeList.ensures.bytes j) (below j)) ∙ sym (ap (λ (k : Kind). kind_layout k c.args.rest) kind)
-
 pub place_layout-returns-in_ok-place_items-in-LargeList-clause-ends : goal.place_layout-returns-in_ok-place_items-in-LargeList-clause-ends
 place_layout-returns-in_ok-place_items-in-LargeList-clause-ends t c = λ size le known.
     let r = c.args.rest in
@@ -183,33 +100,12 @@ place_layout-returns-in_ok-place_items-in-LargeList-clause-ends t c = λ size le
     let seen : ends_of r size (List offsets box) ≡ (ends_within size offsets && is_placed_within size r.dictionaries.now box.value) = search (rules, the_lemmas) in
     seen ∙ and_from _ _ (span_ends r offsets size c.buffer-in-LargeList.ensures.ends le) (c.in_ok-place_items-in-LargeList.ensures.ends size le known)
 
-pub place_layout-returns-in_ok-place_items-in-FixedSizeList-clause-laid_out : goal.place_layout-returns-in_ok-place_items-in-FixedSizeList-clause-laid_out
-unfolding kind_array_from
-place_layout-returns-in_ok-place_items-in-FixedSizeList-clause-laid_out t c =
-    let r = c.args.rest in
-    let box = c.in_ok-place_items-in-FixedSizeList.field-0 in
-    let kind : kind_of c.args.data_type.now ≡ fixed_lists c.in-FixedSizeList.field-0 (column_of c.in-FixedSizeList.item.value) = rw c.in-FixedSizeList.is (search (rules, field_lemmas)) in
-    let seen : layout_of r (FixedList box) ≡ fixed_list_layout (array_in r.bytes.now (rest_known r) box.value) = search (rules, the_lemmas) in
-    let below : IsPlacedBelow (column_of c.in-FixedSizeList.item.value) r 1 box.value = rw c.deref-in-FixedSizeList.ensures at c.in_ok-place_items-in-FixedSizeList.ensures.placed in
-    seen ∙ ap fixed_list_layout below ∙ sym (ap (λ (k : Kind). kind_layout k c.args.rest) kind)
-
 pub place_layout-returns-in_ok-place_items-in-FixedSizeList-clause-ends : goal.place_layout-returns-in_ok-place_items-in-FixedSizeList-clause-ends
 place_layout-returns-in_ok-place_items-in-FixedSizeList-clause-ends t c = λ size le known.
     let r = c.args.rest in
     let box = c.in_ok-place_items-in-FixedSizeList.field-0 in
     let seen : ends_of r size (FixedList box) ≡ is_placed_within size r.dictionaries.now box.value = search (rules, the_lemmas) in
     seen ∙ c.in_ok-place_items-in-FixedSizeList.ensures.ends size le known
-
-pub place_layout-returns-in_ok-place_children-in-Struct-clause-laid_out : goal.place_layout-returns-in_ok-place_children-in-Struct-clause-laid_out
-unfolding kind_array_from
-place_layout-returns-in_ok-place_children-in-Struct-clause-laid_out t c =
-    let r = c.args.rest in
-    let children = c.in_ok-place_children-in-Struct.field-0 in
-    let fields = columns_of (map column_of c.in-Struct.fields.items) in
-    let kind : kind_of c.args.data_type.now ≡ structs fields = rw c.in-Struct.is (search (rules, field_lemmas)) in
-    let seen : layout_of r (Struct children) ≡ struct_layout (placed_arrays r.bytes.now r.dictionaries.now children.items) = search (rules, the_lemmas) in
-    let below : ArePlacedBelow fields r children.items = rw c.deref-in-Struct.ensures.value at c.in_ok-place_children-in-Struct.ensures.placed in
-    seen ∙ ap struct_layout below ∙ sym (ap (λ (k : Kind). kind_layout k c.args.rest) kind)
 
 pub place-returns-in-Some-clause-placed : goal.place-returns-in-Some-clause-placed
 place-returns-in-Some-clause-placed t c =

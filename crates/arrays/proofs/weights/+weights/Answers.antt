@@ -1,10 +1,10 @@
-use Rattle.std.specs.Prelude.{IfSome, None, Option, Some, nat_le, option_map}
+use Rattle.std.specs.Prelude.{IfSome, None, Option, Some, option_map}
 use Rattle.std.specs.List.{list_all}
 use Rattle.std.proofs.Common.{◌≡◌, ◌+◌, ◌-◌, ◌*◌, ℕ, ◌<◌, ◌≤◌, List, get_or, inl, inr, length, set, subst, take, true, false, map, drop, refl, sym, ap, arith, rules, ◌∙◌}
 use Rattle.arrow_schema.specs.declared.types.Field.{Field, the_lemmas as field_lemmas}
-use Rattle.arrow_schema.specs.Column.{Kind, Column, Columns, columns_of, texts, large_texts, binaries, large_binaries, lists, large_lists, fixed_lists, structs}
+use Rattle.arrow_schema.specs.Column.{Kind, Column, Columns, columns_of, lists, large_lists, structs}
 use Rattle.arrow_schema.specs.View.{kind_of, column_of, index_of}
-use Rattle.std.proofs.lemmas.Bool.{and_parts, cases_lt}
+use Rattle.std.proofs.lemmas.Bool.{cases_lt}
 use Rattle.std.proofs.lemmas.List.{get_or-set_other, get_or-set_same, get_or-take, length-set, length-take-le}
 use Rattle.cells.specs.Cell.{Cell, null}
 use Rattle.cells.specs.Weight.{kind_weight, capped_weight}
@@ -13,7 +13,7 @@ use Rattle.columns.specs.Array.{Array, Arrays, array_list, dictionary_in, slots_
 use Rattle.columns.specs.CellAt.{entries_of_kind, is_valid, kind_cell, unless_null, indexed_cell}
 use Rattle.columns.specs.Offsets.{width_of}
 use Rattle.columns.specs.Located.{IsSoundPlace, located_cell}
-use Rattle.columns.specs.Sound.{is_sound, has_sound_children, is_kind_sound}
+use Rattle.columns.specs.Sound.{has_sound_children, is_kind_sound}
 use Rattle.columns.specs.View.{array_in, no_dictionary, view_array, placed_arrays}
 use Rattle.columns.specs.declared.entry.EntryPlace.{EntryPlace}
 use Rattle.columns.specs.declared.view.ArrayView.{ArrayView}
@@ -257,122 +257,6 @@ pub run_weight-returns-else-is_valid : goal.run_weight-returns-else-is_valid
 run_weight-returns-else-is_valid t c =
     c.nulls_weight.ensures
     ∙ ap capped_weight (sym (null_run (kind_of c.args.field.now.data_type) (view_array c.args.view) c.args.from c.args.count (sym c.if-is_valid.ensures) c.requires.alike))
-
-pub valid_weight-contents_weight-requires-clause-long : goal.valid_weight-contents_weight-requires-clause-long
-valid_weight-contents_weight-requires-clause-long t c =
-    let kind : kind_of c.args.data_type.now ≡ texts = rw c.in-Utf8.is (search (rules, field_lemmas)) in
-    (sound_parts _ texts (view_array c.args.view) kind c.requires.sound).0
-
-pub valid_weight-contents_weight-requires-clause-ordered : goal.valid_weight-contents_weight-requires-clause-ordered
-valid_weight-contents_weight-requires-clause-ordered t c =
-    let kind : kind_of c.args.data_type.now ≡ texts = rw c.in-Utf8.is (search (rules, field_lemmas)) in
-    (sound_parts _ texts (view_array c.args.view) kind c.requires.sound).1
-
-pub valid_weight-returns-in-Utf8 : goal.valid_weight-returns-in-Utf8
-valid_weight-returns-in-Utf8 t c =
-    let kind : kind_of c.args.data_type.now ≡ texts = rw c.in-Utf8.is (search (rules, field_lemmas)) in
-    c.contents_weight.ensures.texts refl ∙ ap (λ (k : Kind). capped_weight (valid_weight k (view_array c.args.view) c.args.from c.args.count)) (sym kind)
-
-pub valid_weight-contents_weight-requires-in-LargeUtf8-clause-long : goal.valid_weight-contents_weight-requires-in-LargeUtf8-clause-long
-valid_weight-contents_weight-requires-in-LargeUtf8-clause-long t c =
-    let kind : kind_of c.args.data_type.now ≡ large_texts = rw c.in-LargeUtf8.is (search (rules, field_lemmas)) in
-    (sound_parts _ large_texts (view_array c.args.view) kind c.requires.sound).0
-
-pub valid_weight-contents_weight-requires-in-LargeUtf8-clause-ordered : goal.valid_weight-contents_weight-requires-in-LargeUtf8-clause-ordered
-valid_weight-contents_weight-requires-in-LargeUtf8-clause-ordered t c =
-    let kind : kind_of c.args.data_type.now ≡ large_texts = rw c.in-LargeUtf8.is (search (rules, field_lemmas)) in
-    (sound_parts _ large_texts (view_array c.args.view) kind c.requires.sound).1
-
-pub valid_weight-returns-in-LargeUtf8 : goal.valid_weight-returns-in-LargeUtf8
-valid_weight-returns-in-LargeUtf8 t c =
-    let kind : kind_of c.args.data_type.now ≡ large_texts = rw c.in-LargeUtf8.is (search (rules, field_lemmas)) in
-    c.contents_weight-in-LargeUtf8.ensures.large_texts refl ∙ ap (λ (k : Kind). capped_weight (valid_weight k (view_array c.args.view) c.args.from c.args.count)) (sym kind)
-
-pub valid_weight-contents_weight-requires-in-Binary-clause-long : goal.valid_weight-contents_weight-requires-in-Binary-clause-long
-valid_weight-contents_weight-requires-in-Binary-clause-long t c =
-    let kind : kind_of c.args.data_type.now ≡ binaries = rw c.in-Binary.is (search (rules, field_lemmas)) in
-    (sound_parts _ binaries (view_array c.args.view) kind c.requires.sound).0
-
-pub valid_weight-contents_weight-requires-in-Binary-clause-ordered : goal.valid_weight-contents_weight-requires-in-Binary-clause-ordered
-valid_weight-contents_weight-requires-in-Binary-clause-ordered t c =
-    let kind : kind_of c.args.data_type.now ≡ binaries = rw c.in-Binary.is (search (rules, field_lemmas)) in
-    (sound_parts _ binaries (view_array c.args.view) kind c.requires.sound).1
-
-pub valid_weight-returns-in-Binary : goal.valid_weight-returns-in-Binary
-valid_weight-returns-in-Binary t c =
-    let kind : kind_of c.args.data_type.now ≡ binaries = rw c.in-Binary.is (search (rules, field_lemmas)) in
-    c.contents_weight-in-Binary.ensures.binaries refl ∙ ap (λ (k : Kind). capped_weight (valid_weight k (view_array c.args.view) c.args.from c.args.count)) (sym kind)
-
-pub valid_weight-contents_weight-requires-in-LargeBinary-clause-long : goal.valid_weight-contents_weight-requires-in-LargeBinary-clause-long
-valid_weight-contents_weight-requires-in-LargeBinary-clause-long t c =
-    let kind : kind_of c.args.data_type.now ≡ large_binaries = rw c.in-LargeBinary.is (search (rules, field_lemmas)) in
-    (sound_parts _ large_binaries (view_array c.args.view) kind c.requires.sound).0
-
-pub valid_weight-contents_weight-requires-in-LargeBinary-clause-ordered : goal.valid_weight-contents_weight-requires-in-LargeBinary-clause-ordered
-valid_weight-contents_weight-requires-in-LargeBinary-clause-ordered t c =
-    let kind : kind_of c.args.data_type.now ≡ large_binaries = rw c.in-LargeBinary.is (search (rules, field_lemmas)) in
-    (sound_parts _ large_binaries (view_array c.args.view) kind c.requires.sound).1
-
-pub valid_weight-returns-in-LargeBinary : goal.valid_weight-returns-in-LargeBinary
-valid_weight-returns-in-LargeBinary t c =
-    let kind : kind_of c.args.data_type.now ≡ large_binaries = rw c.in-LargeBinary.is (search (rules, field_lemmas)) in
-    c.contents_weight-in-LargeBinary.ensures.large_binaries refl ∙ ap (λ (k : Kind). capped_weight (valid_weight k (view_array c.args.view) c.args.from c.args.count)) (sym kind)
-
-pub valid_weight-items_weight-requires : goal.valid_weight-items_weight-requires
-unfolding has_sound_children
-valid_weight-items_weight-requires t c =
-    let kind : kind_of c.args.data_type.now ≡ lists (column_of c.in-List.item.value) = rw c.in-List.is (search (rules, field_lemmas)) in
-    let parts = sound_parts _ (lists (column_of c.in-List.item.value)) (view_array c.args.view) kind c.requires.sound in
-    (search (rules, field_lemmas), (c.requires.empty, (parts.0, (parts.1, (rw c.deref.ensures parts.2, (c.requires.some, c.requires.within))))))
-
-pub valid_weight-returns-in-List : goal.valid_weight-returns-in-List
-valid_weight-returns-in-List t c =
-    let kind : kind_of c.args.data_type.now ≡ lists (column_of c.in-List.item.value) = rw c.in-List.is (search (rules, field_lemmas)) in
-    (rw c.deref.ensures at c.items_weight.ensures.lists refl)
-    ∙ ap (λ (k : Kind). capped_weight (valid_weight k (view_array c.args.view) c.args.from c.args.count)) (sym kind)
-
-pub valid_weight-items_weight-requires-in-LargeList : goal.valid_weight-items_weight-requires-in-LargeList
-unfolding has_sound_children
-valid_weight-items_weight-requires-in-LargeList t c =
-    let kind : kind_of c.args.data_type.now ≡ large_lists (column_of c.in-LargeList.item.value) = rw c.in-LargeList.is (search (rules, field_lemmas)) in
-    let parts = sound_parts _ (large_lists (column_of c.in-LargeList.item.value)) (view_array c.args.view) kind c.requires.sound in
-    (search (rules, field_lemmas), (c.requires.empty, (parts.0, (parts.1, (rw c.deref-in-LargeList.ensures parts.2, (c.requires.some, c.requires.within))))))
-
-pub valid_weight-returns-in-LargeList : goal.valid_weight-returns-in-LargeList
-valid_weight-returns-in-LargeList t c =
-    let kind : kind_of c.args.data_type.now ≡ large_lists (column_of c.in-LargeList.item.value) = rw c.in-LargeList.is (search (rules, field_lemmas)) in
-    (rw c.deref-in-LargeList.ensures at c.items_weight-in-LargeList.ensures.large_lists refl)
-    ∙ ap (λ (k : Kind). capped_weight (valid_weight k (view_array c.args.view) c.args.from c.args.count)) (sym kind)
-
-pub valid_weight-fixed_items_weight-requires : goal.valid_weight-fixed_items_weight-requires
-unfolding has_sound_children
-valid_weight-fixed_items_weight-requires t c =
-    let size = c.in-FixedSizeList.size in
-    let item = column_of c.in-FixedSizeList.item.value in
-    let a : Array = view_array c.args.view in
-    let kind : kind_of c.args.data_type.now ≡ fixed_lists size item = rw c.in-FixedSizeList.is (search (rules, field_lemmas)) in
-    let parts = and_parts (nat_le (slots_in a * size) (slots_in (items_in a))) (is_sound item (items_in a)) (sound_parts _ (fixed_lists size item) a kind c.requires.sound).2 in
-    (search (rules, field_lemmas), (c.requires.empty, (parts.0, (rw c.deref-in-FixedSizeList.ensures parts.1, c.requires.within))))
-
-pub valid_weight-returns-in-FixedSizeList : goal.valid_weight-returns-in-FixedSizeList
-valid_weight-returns-in-FixedSizeList t c =
-    let kind : kind_of c.args.data_type.now ≡ fixed_lists c.in-FixedSizeList.size (column_of c.in-FixedSizeList.item.value) = rw c.in-FixedSizeList.is (search (rules, field_lemmas)) in
-    (rw c.deref-in-FixedSizeList.ensures at c.fixed_items_weight.ensures)
-    ∙ ap (λ (k : Kind). capped_weight (valid_weight k (view_array c.args.view) c.args.from c.args.count)) (sym kind)
-
-pub valid_weight-fields_weight-requires : goal.valid_weight-fields_weight-requires
-unfolding has_sound_children
-valid_weight-fields_weight-requires t c =
-    let fields = columns_of (map column_of c.in-Struct.fields.items) in
-    let kind : kind_of c.args.data_type.now ≡ structs fields = rw c.in-Struct.is (search (rules, field_lemmas)) in
-    let parts = sound_parts _ (structs fields) (view_array c.args.view) kind c.requires.sound in
-    (search (rules, field_lemmas), (c.requires.empty, (rw c.deref-in-Struct.ensures.value parts.2, c.requires.within)))
-
-pub valid_weight-returns-in-Struct : goal.valid_weight-returns-in-Struct
-valid_weight-returns-in-Struct t c =
-    let kind : kind_of c.args.data_type.now ≡ structs (columns_of (map column_of c.in-Struct.fields.items)) = rw c.in-Struct.is (search (rules, field_lemmas)) in
-    (rw c.deref-in-Struct.ensures.value at c.fields_weight.ensures)
-    ∙ ap (λ (k : Kind). capped_weight (valid_weight k (view_array c.args.view) c.args.from c.args.count)) (sym kind)
 
 pub items_weight-span_weight-items-requires : goal.items_weight-span_weight-items-requires
 items_weight-span_weight-items-requires t c =

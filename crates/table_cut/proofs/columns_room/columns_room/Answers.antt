@@ -1,6 +1,7 @@
 use Rattle.std.specs.Prelude.{◌&&◌, nat_le}
 use Rattle.std.specs.List.{flat_map}
 use Rattle.std.proofs.Common.{◌+◌, ◌∷◌, [], ℕ, Bool, List, ap, arith, drop, sym, ◌∙◌}
+use Rattle.std.proofs.Math.Bool.{and-true}
 use Rattle.std.proofs.lemmas.Bool.{and_parts}
 use Rattle.std.proofs.lemmas.List.{append-nil, drop_all}
 use Rattle.arrow_schema.specs.View.{column_of}
@@ -11,7 +12,7 @@ use Rattle.facts.specs.laws.Lists.{drop-item}
 use Rattle.table_cut.specs.declared.row_run.RowRun.{RowRun}
 use Rattle.table_cut.specs.inner.Columns.{cells_at_place}
 use Rattle.table_cut.specs.inner.Fit.{column_fits, fit_with}
-use Rattle.table_cut.proofs.FitLemmas.{and_none, first_counted, least_room, next_fits, run_counted}
+use Rattle.table_cut.proofs.FitLemmas.{first_counted, least_room, next_fits, run_counted}
 use Rattle.table_cut.proofs.columns_room.columns_room.Goals as goal
 
 pub column_room-requires-clause-before : goal.column_room-requires-clause-before
@@ -69,5 +70,5 @@ returns c =
       room = λ k le.
           c.loop-place.invariant.room k le
           ∙ ap (λ (fs : List Field). nat_le k rows && fit_with i (fields_of fs) c.args.piece.now c.args.run k) (drop_all i fields c.loop-place-test.false)
-          ∙ and_none (nat_le k rows);
+          ∙ and-true (nat_le k rows);
     }

@@ -3,7 +3,7 @@ use Rattle.std.proofs.lemmas.Bool.{eqb-true}
 use Rattle.std.proofs.lemmas.Str.{IsCharBoundary-after_ascii}
 use Rattle.std.specs.List.{slice_split}
 use Rattle.std.specs.Prelude.{◌==◌, ◌∷◌, take}
-use Rattle.text_columns.proofs.LineRows.{first_of_lines, only_line}
+use Rattle.text_import.specs.laws.Lines.{first_of_lines, only_line}
 use Rattle.text_columns.proofs.lines.first_line.Goals as goal
 
 pub range_from-requires : goal.range_from-requires

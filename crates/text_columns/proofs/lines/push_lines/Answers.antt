@@ -2,7 +2,7 @@ use Rattle.std.proofs.Common.{◌∙◌, ap, sym, arith, Some}
 use Rattle.arrow_schema.specs.View.{schema_of}
 use Rattle.text_import.specs.Objects.{is_blank}
 use Rattle.text_columns.specs.inner.Kept.{key_list}
-use Rattle.text_columns.specs.inner.Lines.{lines_left}
+use Rattle.text_import.specs.inner.Lines.{lines_left}
 use Rattle.text_columns.proofs.LineRows.{lines_all, lines_more, lines_none, lines_same, lines_skipped}
 use Rattle.text_columns.proofs.lines.push_lines.Goals as goal
 

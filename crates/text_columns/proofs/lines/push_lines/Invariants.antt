@@ -5,7 +5,7 @@ use Rattle.arrow_schema.specs.View.{schema_of}
 use Rattle.text_import.specs.Objects.{names_of}
 use Rattle.text_columns.specs.inner.Batches.{HoldRows}
 use Rattle.text_columns.specs.inner.Kept.{key_list}
-use Rattle.text_columns.specs.inner.Lines.{lines_left, size_left}
+use Rattle.text_import.specs.inner.Lines.{lines_left, size_left}
 use Rattle.text_columns.proofs.LineRows.{LinesRead}
 use Rattle.text_columns.proofs.lines.push_lines.Given as goal
 

@@ -1,5 +1,6 @@
 use Rattle.std.proofs.Common.{◌∙◌, arith, get_or, refl, sym}
-use Rattle.text_columns.proofs.ShortIntegers.{digit_below, digit_small, one_digit}
+use Rattle.text_import.specs.laws.Digits.{digit_below}
+use Rattle.text_columns.proofs.ShortIntegers.{digit_small, one_digit}
 use Rattle.text_columns.proofs.short_integers.read_on.Goals as goal
 
 pub overflow_mul-number : goal.overflow_mul-number

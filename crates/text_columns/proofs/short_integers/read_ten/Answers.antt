@@ -1,6 +1,7 @@
 use Rattle.std.proofs.Common.{◌≡◌, ◌∙◌, ◌+◌, ◌-◌, ◌*◌, ◌<◌, ℕ, arith, get_or, length, refl, subst, sym}
 use Rattle.text_columns.specs.inner.Plain.{AreDigits}
-use Rattle.text_columns.proofs.ShortIntegers.{digit_below, digit_small, no_digits, one_digit}
+use Rattle.text_import.specs.laws.Digits.{digit_below}
+use Rattle.text_columns.proofs.ShortIntegers.{digit_small, no_digits, one_digit}
 use Rattle.text_columns.proofs.short_integers.read_ten.Goals as goal
 
 pub loop-k-init : goal.loop-k-init

@@ -2,7 +2,8 @@ use Rattle.std.specs.Prelude.{Some, option_map}
 use Rattle.std.proofs.Common.{◌≡◌, ◌∙◌, ◌+◌, ◌*◌, ◌-◌, min, sym, ap, get_or, drop, [], arith}
 use Rattle.std.proofs.lemmas.List.{drop_all}
 use Rattle.text_import.specs.inner.Capped.{capped, number_behind, too_large}
-use Rattle.text_import.proofs.NumberLemmas.{digit_none_at, digit_more_at, digit_below, digit_room, digit_small, digits_end}
+use Rattle.text_import.proofs.NumberLemmas.{digit_none_at, digit_more_at, digit_room, digit_small, digits_end}
+use Rattle.text_import.specs.laws.Digits.{digit_below}
 use Rattle.text_import.proofs.flat.short_digits.Goals as goal
 
 pub returns-then-not-is_ascii_digit : goal.returns-then-not-is_ascii_digit

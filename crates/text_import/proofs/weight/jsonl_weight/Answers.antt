@@ -4,7 +4,8 @@ use Rattle.cells.specs.Row.{row_of}
 use Rattle.text_import.specs.Objects.{jsonl_rows_of, line_row, lines_of}
 use Rattle.text_import.specs.Refusals.{refused_by}
 use Rattle.text_import.specs.inner.Lines.{lines_left, size_left}
-use Rattle.text_import.proofs.WeightLemmas.{RowsWeighed, all_weighed, blank_first, filled_first, filled_lines, none_weighed, one_refused, one_weighed}
+use Rattle.text_import.proofs.WeightLemmas.{RowsWeighed, all_weighed, none_weighed, one_refused, one_weighed}
+use Rattle.text_import.specs.laws.Lines.{blank_first, filled_first, filled_lines}
 use Rattle.text_import.proofs.weight.jsonl_weight.Goals as goal
 
 pub loop-left-init : goal.loop-left-init

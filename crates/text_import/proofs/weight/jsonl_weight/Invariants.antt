@@ -2,7 +2,8 @@ use Rattle.std.proofs.Common.{◌+◌, ◌≤◌, length}
 use Rattle.arrow_schema.specs.View.{schema_of}
 use Rattle.text_import.specs.Objects.{jsonl_rows_of, line_row}
 use Rattle.text_import.specs.inner.Lines.{lines_left, size_left}
-use Rattle.text_import.proofs.WeightLemmas.{RowsWeighed, filled_lines}
+use Rattle.text_import.proofs.WeightLemmas.{RowsWeighed}
+use Rattle.text_import.specs.laws.Lines.{filled_lines}
 use Rattle.text_import.proofs.weight.jsonl_weight.Given as goal
 
 -- the rows so far are weighed, and there are no more of them than bytes

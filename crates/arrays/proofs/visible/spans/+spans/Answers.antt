@@ -1,19 +1,16 @@
-use Rattle.std.specs.Prelude.{◌||◌, nat_le}
-use Rattle.std.proofs.Common.{◌≡◌, ◌≤◌, ◌<◌, ◌+◌, ◌-◌, ◌*◌, ℕ, Bool, true, List, [], ◌∷◌, ◌++◌, drop, refl, rules, arith, ap, sym, ◌∙◌}
-use Rattle.std.proofs.lemmas.Bool.{and_parts}
+use Rattle.std.specs.Prelude.{◌||◌}
+use Rattle.std.proofs.Common.{◌≡◌, ◌≤◌, ◌<◌, ◌+◌, ◌-◌, ℕ, Bool, true, List, [], ◌∷◌, ◌++◌, drop, refl, rules, arith, ap, sym, ◌∙◌}
 use Rattle.arrow_schema.specs.declared.types.Field.{the_lemmas as field_lemmas}
-use Rattle.arrow_schema.specs.Column.{Column, Columns, Kind, lists, large_lists, fixed_lists, structs}
+use Rattle.arrow_schema.specs.Column.{Column, Columns, Kind, lists, large_lists}
 use Rattle.arrow_schema.specs.View.{column_of, kind_of}
-use Rattle.columns.specs.Array.{Array, Arrays, slots_in, items_in, children_in}
+use Rattle.columns.specs.Array.{Array, Arrays, slots_in, children_in}
 use Rattle.columns.specs.Offsets.{width_of}
-use Rattle.columns.specs.Sound.{is_sound, has_sound_children}
 use Rattle.columns.specs.View.{view_array, placed_arrays, fields_of}
 use Rattle.columns.specs.Visible.{Slot}
 use Rattle.arrays.specs.declared.visible.span_list.SlotSpan.{SlotSpan}
 use Rattle.arrays.specs.inner.SpanLists.{any_visible_of, any_below_of, any_below_runs, any_part_of, are_runs, are_within}
 use Rattle.arrays.specs.inner.VisibleSpans.{any_below, finds}
 use Rattle.facts.specs.laws.Lists.{drop-item}
-use Rattle.columns.specs.laws.SoundParts.{sound_parts}
 use Rattle.arrays.proofs.SpanWeights.{sound_next}
 use Rattle.arrays.proofs.VisibleSlots.{sound_slots}
 use Rattle.arrays.proofs.VisibleSpans.{nested_kind, sound_kind}
@@ -288,55 +285,3 @@ any_part-loop-i-preserved t c =
           ∙ sym (part_next (finds c.args.test) c.args.bytes.now c.args.dictionaries.now c.args.fields.now c.args.arrays.now c.loop-i.i c.args.spans.now c.index-fields-i.result _
           c.loop-i-test.true c.index-fields-i.is first) ∙ c.loop-i.invariant.same;
     }
-
-pub any_valid_below-any_item-requires : goal.any_valid_below-any_item-requires
-unfolding has_sound_children
-any_valid_below-any_item-requires t c =
-    let kind : kind_of c.args.data_type.now ≡ lists (column_of c.in-List.item.value) = rw c.in-List.is (search (rules, field_lemmas)) in
-    let parts = sound_parts _ (lists (column_of c.in-List.item.value)) (view_array c.args.view) kind c.requires.sound in
-    (search (rules, field_lemmas), (c.requires.none, (parts.0, (parts.1, (rw c.deref.ensures parts.2, (c.requires.few, c.requires.runs))))))
-
-pub any_valid_below-returns-in-List : goal.any_valid_below-returns-in-List
-any_valid_below-returns-in-List t c =
-    let kind : kind_of c.args.data_type.now ≡ lists (column_of c.in-List.item.value) = rw c.in-List.is (search (rules, field_lemmas)) in
-    (rw c.deref.ensures at c.any_item.ensures.lists refl) ∙ ap (λ (k : Kind). any_below_runs (finds c.args.test) k (view_array c.args.view) c.args.runs.now) (sym kind)
-
-pub any_valid_below-any_item-requires-in-LargeList : goal.any_valid_below-any_item-requires-in-LargeList
-unfolding has_sound_children
-any_valid_below-any_item-requires-in-LargeList t c =
-    let kind : kind_of c.args.data_type.now ≡ large_lists (column_of c.in-LargeList.item.value) = rw c.in-LargeList.is (search (rules, field_lemmas)) in
-    let parts = sound_parts _ (large_lists (column_of c.in-LargeList.item.value)) (view_array c.args.view) kind c.requires.sound in
-    (search (rules, field_lemmas), (c.requires.none, (parts.0, (parts.1, (rw c.deref-in-LargeList.ensures parts.2, (c.requires.few, c.requires.runs))))))
-
-pub any_valid_below-returns-in-LargeList : goal.any_valid_below-returns-in-LargeList
-any_valid_below-returns-in-LargeList t c =
-    let kind : kind_of c.args.data_type.now ≡ large_lists (column_of c.in-LargeList.item.value) = rw c.in-LargeList.is (search (rules, field_lemmas)) in
-    (rw c.deref-in-LargeList.ensures at c.any_item-in-LargeList.ensures.large_lists refl) ∙ ap (λ (k : Kind). any_below_runs (finds c.args.test) k (view_array c.args.view) c.args.runs.now) (sym kind)
-
-pub any_valid_below-any_fixed_item-requires : goal.any_valid_below-any_fixed_item-requires
-unfolding has_sound_children
-any_valid_below-any_fixed_item-requires t c =
-    let size = c.in-FixedSizeList.size in
-    let item = column_of c.in-FixedSizeList.item.value in
-    let a : Array = view_array c.args.view in
-    let kind : kind_of c.args.data_type.now ≡ fixed_lists size item = rw c.in-FixedSizeList.is (search (rules, field_lemmas)) in
-    let parts = and_parts (nat_le (slots_in a * size) (slots_in (items_in a))) (is_sound item (items_in a)) (sound_parts _ (fixed_lists size item) a kind c.requires.sound).2 in
-    (search (rules, field_lemmas), (c.requires.none, (parts.0, (rw c.deref-in-FixedSizeList.ensures parts.1, (c.requires.few, c.requires.runs)))))
-
-pub any_valid_below-returns-in-FixedSizeList : goal.any_valid_below-returns-in-FixedSizeList
-any_valid_below-returns-in-FixedSizeList t c =
-    let kind : kind_of c.args.data_type.now ≡ fixed_lists c.in-FixedSizeList.size (column_of c.in-FixedSizeList.item.value) = rw c.in-FixedSizeList.is (search (rules, field_lemmas)) in
-    (rw c.deref-in-FixedSizeList.ensures at c.any_fixed_item.ensures) ∙ ap (λ (k : Kind). any_below_runs (finds c.args.test) k (view_array c.args.view) c.args.runs.now) (sym kind)
-
-pub any_valid_below-any_field-requires : goal.any_valid_below-any_field-requires
-unfolding has_sound_children
-any_valid_below-any_field-requires t c =
-    let fields = fields_of c.in-Struct.fields.items in
-    let kind : kind_of c.args.data_type.now ≡ structs fields = rw c.in-Struct.is (search (rules, field_lemmas)) in
-    let parts = sound_parts _ (structs fields) (view_array c.args.view) kind c.requires.sound in
-    (search (rules, field_lemmas), (c.requires.none, (rw c.deref-in-Struct.ensures.value parts.2, c.requires.runs)))
-
-pub any_valid_below-returns-in-Struct : goal.any_valid_below-returns-in-Struct
-any_valid_below-returns-in-Struct t c =
-    let kind : kind_of c.args.data_type.now ≡ structs (fields_of c.in-Struct.fields.items) = rw c.in-Struct.is (search (rules, field_lemmas)) in
-    (rw c.deref-in-Struct.ensures.value at c.any_field.ensures) ∙ ap (λ (k : Kind). any_below_runs (finds c.args.test) k (view_array c.args.view) c.args.runs.now) (sym kind)
