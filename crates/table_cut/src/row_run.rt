@@ -15,7 +15,7 @@ pub struct RowRun<'a> {
 }
 
 impl<'a> RowRun<'a> {
-    ghost use Rattle.std.specs.Prelude.{◌≡◌, ◌≤◌, ◌-◌, true, take, drop};
+    ghost use Rattle.std.specs.Prelude.{◌≡◌, ◌≤◌, ◌+◌, ◌-◌, true, take, drop};
     ghost use Rattle.arrow_schema.specs.Column.{Columns};
     ghost use Rattle.table_cut.specs.Rows.{arrays_of_run, run_rows, is_run_sound};
 
@@ -41,6 +41,7 @@ impl<'a> RowRun<'a> {
     pub fn skip(self, len: usize) -> RowRun<'a>
         requires { len ≤ self.len }
         ensures arrays { arrays_of_run result ≡ arrays_of_run self.entry }
+        ensures from { result.from ≡ self.entry.from + len }
         ensures len { result.len ≡ self.entry.len - len }
         ensures rows { (columns : Columns) → run_rows columns result ≡ drop len (run_rows columns self.entry) }
         ensures sound { (columns : Columns) → is_run_sound columns self.entry ≡ true → is_run_sound columns result ≡ true }

@@ -1,7 +1,9 @@
 // The first row that another schema does not take.
-ghost use Rattle.std.specs.Prelude.{◌≡◌, ◌∷◌, [], IfOk};
+ghost use Rattle.std.specs.Prelude.{◌≡◌, ◌∷◌, [], false, IfOk, IsOk};
+ghost use Rattle.arrow_schema.specs.Column.{columns_of};
 ghost use Rattle.arrow_schema.specs.Shape.{HaveOneShape};
 ghost use Rattle.arrow_schema.specs.View.{schema_of};
+ghost use Rattle.cells.specs.Dictionary.{is_any_limited};
 ghost use Rattle.values.specs.Table.{first_unfit};
 ghost use Rattle.values.specs.TableView.{table_of};
 
@@ -16,14 +18,16 @@ use values::Table;
 /// dictionary of that schema: what fits and what it weighs does not depend on dictionaries.
 ///
 /// # Errors
-/// `AllocError` if memory was refused.
+/// `AllocError` if memory was refused. None is taken if no dictionary of that schema has a limit.
+#[tactic(auto, using(crate::proofs::FillingLemmas::filled_is_limited))]
 pub fn first_unfit_row(
     alloc: Global,
     schema: &Schema,
     table: &Table,
 ) -> Result<Option<usize>, AllocError>
     requires { HaveOneShape (schema_of schema.now) (table_of table.now).schema }
-    ensures { IfOk result (λ found. found ≡ first_unfit (schema_of schema.now) (table_of table.now).rows) }
+    ensures first { IfOk result (λ found. found ≡ first_unfit (schema_of schema.now) (table_of table.now).rows) }
+    ensures unlimited { is_any_limited (columns_of (schema_of schema.now).columns) ≡ false → IsOk result }
 {
     // For the proof: this call states what is true of every table.
     table.schema();
