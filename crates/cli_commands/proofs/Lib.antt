@@ -5,6 +5,7 @@ mod CopyingLemmas
 mod ReadingLemmas
 mod SalvagingLemmas
 mod TextLemmas
+mod OutputLemmas
 mod RefusedInputs
 mod ConditionLemmas
 mod SelectingLemmas

@@ -4,6 +4,7 @@ ghost use Rattle.std.specs.Io.KnownBytes.{Appends};
 ghost use Rattle.arrow_schema.specs.Column.{Column};
 ghost use Rattle.arrow_schema.specs.View.{column_of, schema_of};
 ghost use Rattle.catalogue.specs.Edits.{entry_of, tables_of};
+ghost use Rattle.cli_refusals.specs.Output.{AppendsFront, IfIo};
 ghost use Rattle.store.specs.Fits.{listed_in, is_halted};
 ghost use Rattle.store.specs.Listing.{RefusesTables, RefusesSchema};
 ghost use Rattle.cli_commands.specs.Printed.{numbered, tables_text, schema_text, RefusesPrinting};
@@ -54,7 +55,7 @@ fn lines_of_fields(alloc: Global, fields: &[Field]) -> Result<String, AllocError
 /// Prints a line for each table, in byte order of the names: the name and the number of rows.
 ///
 /// # Errors
-/// `Store` with `Halted` or `OutOfMemory`, and `OutOfMemory`: nothing is written. `Io` if a write fails: some lines may be written.
+/// `Store` with `Halted` or `OutOfMemory`, and `OutOfMemory`: nothing is written. `Io` if a write fails: some first bytes of the lines may be written.
 pub fn print_tables<D: SectorDevice, W: Write>(
     alloc: Global,
     store: &Store<D>,
@@ -63,8 +64,9 @@ pub fn print_tables<D: SectorDevice, W: Write>(
     // What is printed is what the store has, and nothing else.
     ensures written { OnOk result (Appends (W.contents output.old) (W.contents output.new) (tables_text (tables_of (listed_in store.now)))) }
     ensures told { IfErr result (RefusesPrinting (RefusesTables (is_halted store.now)) (is_halted store.now ≡ false)) }
-    // A refusal prints nothing, unless a write failed.
+    // A refusal prints nothing, unless a write failed; then what is printed is a front of these lines.
     ensures silent { IfErr result (λ refusal. refusal ≢ Refusal.Io → output.new ≡ output.old) }
+    ensures front { IfErr result (IfIo (AppendsFront (W.contents output.old) (W.contents output.new) (tables_text (tables_of (listed_in store.now))))) }
 {
     let tables = store.tables(alloc)?;
     let text = lines_of_tables(alloc, &tables)?;
@@ -74,7 +76,8 @@ pub fn print_tables<D: SectorDevice, W: Write>(
 /// Prints a line for each field of a table: a field text whose names are JSON strings.
 ///
 /// # Errors
-/// `Store` with `Halted`, `NoTable` or `OutOfMemory`, and `OutOfMemory`: nothing is written. `Io` if a write fails: some lines may be written.
+/// `Store` with `Halted`, `NoTable` or `OutOfMemory`, and `OutOfMemory`: nothing is written. `Io` if a write fails: some first bytes of the lines may
+/// be written.
 pub fn print_schema<D: SectorDevice, W: Write>(
     alloc: Global,
     store: &Store<D>,
@@ -86,6 +89,8 @@ pub fn print_schema<D: SectorDevice, W: Write>(
     ensures told { IfErr result (RefusesPrinting (RefusesSchema (is_halted store.now) (entry_of (listed_in store.now) name.now))
         ((is_halted store.now ≡ false) × IsSome (entry_of (listed_in store.now) name.now))) }
     ensures silent { IfErr result (λ refusal. refusal ≢ Refusal.Io → output.new ≡ output.old) }
+    ensures front { IfErr result (IfIo ((e : _) × (entry_of (listed_in store.now) name.now ≡ Some e)
+        × AppendsFront (W.contents output.old) (W.contents output.new) (schema_text e.schema.columns))) }
 {
     let schema = store.schema(alloc, name)?;
     let text = lines_of_fields(alloc, &schema.fields)?;

@@ -7,6 +7,7 @@ ghost use Rattle.catalogue.specs.Edits.{entry_of};
 ghost use Rattle.cells.specs.Cell.{PlainTable};
 ghost use Rattle.query.specs.Printed.{rows_text};
 ghost use Rattle.query.specs.View.{query_in, condition_in};
+ghost use Rattle.cli_refusals.specs.Output.{AppendsFront, IfIo};
 ghost use Rattle.store.specs.Fits.{device_of, is_halted, listed_in};
 ghost use Rattle.store.specs.Reading.{OnlyReadsStore};
 ghost use Rattle.cli_commands.specs.Reading.{store_ended};
@@ -83,7 +84,7 @@ pub fn query_of(
 ///
 /// # Errors
 /// Those of [`Store::read`]; `Query` if the query is refused, or with `UnknownColumn` if rows are objects and two of the chosen columns have the
-/// same name; `Io` if a write fails, and some lines may be written.
+/// same name; `Io` if a write fails, and some first bytes of the lines may be written.
 pub fn print_selection<D: SectorDevice, W: Write>(
     alloc: Global,
     store: &mut Store<D>,
@@ -100,8 +101,11 @@ pub fn print_selection<D: SectorDevice, W: Write>(
         (entry_of (listed_in store.old) name.now) (query_in query.now)) }
     // The store is only read.
     ensures reads { OnlyReadsStore D.size D.story D.failed D.tells (store_ended result) store.old store.new }
-    // A refusal writes nothing, unless a write failed.
+    // A refusal writes nothing, unless a write failed; then what is written is a front of these lines.
     ensures silent { IfErr result (λ refusal. refusal ≢ Refusal.Io → output.new ≡ output.old) }
+    ensures front { IfErr result (IfIo ((selected : PlainTable) × QueryAnswers form (is_halted store.old) D.tells
+        (shown_image (now (D.story (device_of store.old)))) (entry_of (listed_in store.old) name.now) (query_in query.now) (Ok selected)
+        × AppendsFront (W.contents output.old) (W.contents output.new) (rows_text form selected))) }
 {
     let answer = store.selected_lines(alloc, name, query, form)?;
     match answer {

@@ -2,6 +2,7 @@
 ghost use Rattle.std.specs.Prelude.{◌≡◌, ◌≢◌, map, string_bytes, false, IfOk, IfErr, OnOk};
 ghost use Rattle.std.specs.Io.KnownBytes.{Appends};
 ghost use Rattle.sector_dev.specs.Disk.{now, shown_image};
+ghost use Rattle.cli_refusals.specs.Output.{AppendsFront, IfIo};
 ghost use Rattle.store.specs.Fits.{device_of, is_halted};
 ghost use Rattle.store.specs.Agreeing.{SaysAgreement};
 ghost use Rattle.store.specs.Reading.{OnlyReadsStore};
@@ -70,7 +71,8 @@ fn text_of(alloc: Global, s: &Summary, agree: bool, as_json: bool) -> Result<Str
 /// value each, or one JSON object on one line.
 ///
 /// # Errors
-/// `Store` with `Halted`, `OutOfMemory` or `Device`, and `OutOfMemory`: nothing is written. `Io` if a write fails: some bytes may be written.
+/// `Store` with `Halted`, `OutOfMemory` or `Device`, and `OutOfMemory`: nothing is written. `Io` if a write fails: some first
+/// bytes may be written.
 pub fn print_summary<D: SectorDevice, W: Write>(
     alloc: Global,
     store: &mut Store<D>,
@@ -84,8 +86,11 @@ pub fn print_summary<D: SectorDevice, W: Write>(
     ensures told { IfErr result (RefusesPrinting (RefusesSummary (is_halted store.old)) (is_halted store.old ≡ false)) }
     // The store is only read.
     ensures reads { OnlyReadsStore D.size D.story D.failed D.tells (store_ended result) store.old store.new }
-    // A refusal prints nothing, unless a write failed.
+    // A refusal prints nothing, unless a write failed; then what is printed is a front of such a summary.
     ensures silent { IfErr result (λ refusal. refusal ≢ Refusal.Io → output.new ≡ output.old) }
+    ensures front { IfErr result (IfIo ((s : _) × (agree : _) × IsSummary (D.size (device_of store.old)) store.old s
+        × SaysAgreement (is_halted store.old) D.tells (shown_image (now (D.story (device_of store.old)))) agree
+        × AppendsFront (W.contents output.old) (W.contents output.new) (summary_text as_json s agree))) }
 {
     let summary = store.summary(alloc)?;
     let agree = store.commits_agree()?;

@@ -6,3 +6,4 @@ pub mod Shown
 pub mod Form
 pub mod Hint
 pub mod FailedFile
+pub mod Output

@@ -1,10 +1,11 @@
 -- The word of a command line that asks for each command.
-use Rattle.std.specs.Prelude.{codes}
+use Rattle.std.specs.Prelude.{Bool, true, false, not, ◌&&◌, codes}
 use Rattle.clap.specs.Words.{Text}
 use Rattle.cli_requests.specs.declared.store_words.StoreCommand.{StoreCommand}
 use Rattle.cli_requests.specs.declared.store_words.StoreCommand.TheVariants as commands
 use Rattle.cli_requests.specs.declared.store_words.StoreRequest.{StoreRequest}
 use Rattle.cli_requests.specs.declared.store_words.StoreRequest.TheVariants as requests
+use Rattle.cli_requests.specs.StoreWords.{reads_word}
 
 -- `append` takes the rows of a stream or of a text, and `query` prints or saves
 abbrev pub command_word : StoreCommand → Text
@@ -30,3 +31,11 @@ request_word (requests.Copy path new sectors) = codes "copy"
 request_word (requests.Salvage path name) = codes "salvage"
 request_word (requests.Replay words) = codes "replay"
 request_word (requests.Command path command) = command_word command
+
+abbrev pub is_saving : StoreCommand → Bool
+is_saving (commands.SaveAs from to query) = true
+is_saving _ = false
+
+-- the word is one of a command that reads, and nothing is saved
+unfoldable pub only_reads : StoreCommand → Bool
+only_reads command = reads_word (command_word command) && not (is_saving command)

@@ -1,6 +1,6 @@
 // What a command line asks of a store.
 ghost use Rattle.std.specs.Prelude.{◌≡◌, true, map};
-ghost use Rattle.cli_requests.specs.Asked.{command_word};
+ghost use Rattle.cli_requests.specs.Asked.{only_reads};
 ghost use Rattle.cli_requests.specs.StoreWords.{takes_input_word, changes_word, makes_word, reads_table_word, reads_word, is_store_word, is_of_store, takes_input, is_help_word, ask_for_help, ask_help_of_command};
 
 use crate::ReplayWords;
@@ -112,9 +112,9 @@ pub enum StoreCommand<'a> {
 
 impl StoreCommand<'_> {
     /// Returns whether the command writes nothing to the store.
-    #[tactic(auto, unfolding(crate::specs::StoreWords::reads_word, crate::specs::StoreWords::reads_table_word))]
+    #[tactic(auto, unfolding(crate::specs::Asked::only_reads, crate::specs::StoreWords::reads_word, crate::specs::StoreWords::reads_table_word))]
     pub fn only_reads(&self) -> bool
-        ensures { result ≡ true → reads_word (command_word self.now) ≡ true }
+        ensures { result ≡ only_reads self.now }
     {
         matches!(
             self,

@@ -1,5 +1,6 @@
 // Reports refusals, wrong arguments and requests for help.
-ghost use Rattle.std.specs.Prelude.{◌≡◌, ◌≢◌, ◌⊎◌, Option, None, IsOk, IsTrue, IfErr, OnOk};
+ghost use Rattle.std.specs.Prelude.{◌≡◌, ◌≢◌, ◌⊎◌, Option, None, IsOk, IsTrue, IfErr, OnOk, codes};
+ghost use Rattle.std.specs.Io.KnownBytes.{Appends};
 ghost use Rattle.clap.specs.Words.{kind_of};
 ghost use Rattle.cli_refusals.specs.declared.hint.Hint.{Hint};
 ghost use Rattle.cli_texts.specs.Reported.{IsRequest, IsWrong};
@@ -75,7 +76,9 @@ pub fn report_wrong_arguments<W: Output, E: Write>(
 
 /// Reports that a number has a sign, which makes the arguments wrong.
 pub fn report_signed_number<E: Write>(errors: &mut E) -> Ended
-    ensures { result.status ≡ Status.WrongArguments }
+    ensures wrong { result.status ≡ Status.WrongArguments }
+    ensures told { IsTrue result.is_reported
+        → Appends (E.contents errors.old) (E.contents errors.new) (codes "error: a number is decimal digits, without a sign\n") }
 {
     Ended {
         status: Status::WrongArguments,

@@ -61,6 +61,7 @@ impl<W: Write> Write for WatchedOutput<W> {
         ensures gone { self.new.is_unread ≡ true
             → (self.old.is_unread ≡ true) ⊎ IsErrAnd result (λ e. error_kind e ≡ ErrorKind.BrokenPipe) }
         ensures found { IsErrAnd result (λ e. error_kind e ≡ ErrorKind.BrokenPipe) → self.new.is_unread ≡ true }
+        ensures stays { self.old.is_unread ≡ true → self.new.is_unread ≡ true }
     {
         let written = self.output.write(buf);
         self.failure = failure_of(&written);
@@ -74,6 +75,8 @@ impl<W: Write> Write for WatchedOutput<W> {
         ensures bytes { Keeps (W.contents self.old.output) (W.contents self.new.output) }
         ensures gone { self.new.is_unread ≡ true
             → (self.old.is_unread ≡ true) ⊎ IsErrAnd result (λ e. error_kind e ≡ ErrorKind.BrokenPipe) }
+        ensures found { IsErrAnd result (λ e. error_kind e ≡ ErrorKind.BrokenPipe) → self.new.is_unread ≡ true }
+        ensures stays { self.old.is_unread ≡ true → self.new.is_unread ≡ true }
     {
         let flushed = self.output.flush();
         self.failure = failure_of(&flushed);

@@ -16,7 +16,7 @@ ghost use Rattle.store_runs.specs.Held.{is_undamaged, rows_in_bytes};
 ghost use Rattle.store_runs.specs.Reading.{IsCopy, LacksBytes, HasRead, LacksRows, IsRead, Unreads, OnlyReadsDevice, ended};
 ghost use Rattle.store_changes.specs.inner.ReadRows.{ReadsRows, ReadsNext};
 ghost use Rattle.store_changes.specs.inner.TableBuilder.{table_so_far};
-ghost use Rattle.store_changes.specs.ReadSegment.{UnreadsSegment};
+ghost use Rattle.store_changes.specs.ReadSegment.{table_in_bytes, HasReadTable, IsPast, LacksTable, UnreadsSegment};
 
 use crate::laws::table_laws;
 use crate::table_builder::TableBuilder;
@@ -76,13 +76,14 @@ pub(crate) fn read_bytes<D: SectorDevice>(
     }
 }
 
-// Returns the table of this number of rows in some bytes, if they begin with the message of its schema.
+// Returns the table of this number of rows in some bytes, if they begin with `front`, the message of its schema.
 fn table_in_bytes(
     alloc: Global,
     front: &[u8],
     rows: u64,
     bytes: Vec<u8>,
 ) -> Result<Option<WeighedTable>, Refusal>
+    ensures means { IfOk result (λ found. option_map (λ w. table_of w.table) found ≡ table_in_bytes front.now rows (Some bytes.items)) }
     ensures rows { IfOk result (λ found. (s : PlainSchema) → front.now ≡ schema_message s
         → option_map (λ w. (table_of w.table).rows) found ≡ rows_in_bytes s rows (Some bytes.items)) }
     ensures schema { IfOk result (λ found. IfSome found (λ w. (s : PlainSchema) → IsWithinLimits s → front.now ≡ schema_message s
@@ -109,10 +110,10 @@ fn table_in_bytes(
     }
 }
 
-/// Reads the table of the segment at this place, if it begins with `front`, the message of its schema.
+/// Reads the table of the segment at this place, if it begins with `front`: the message of its schema, or any bytes.
 ///
 /// # Errors
-/// `SegmentUnread` and `SegmentDamaged` with its place, `Device`, `OutOfMemory`.
+/// `SegmentUnread`, also if its bytes begin otherwise or mean no table of its rows, and `SegmentDamaged` with its place; `Device`; `OutOfMemory`.
 pub fn read_segment<D: SectorDevice>(
     alloc: Global,
     device: &mut D,
@@ -124,6 +125,9 @@ pub fn read_segment<D: SectorDevice>(
     requires placed { is_on_device (D.size device.old) segment.place.run ≡ true }
     requires sound { is_segment segment ≡ true }
     ensures reads { OnlyReadsDevice D.size D.story D.failed D.tells (ended result) device.old device.new }
+    // With any front: the bytes that were read begin with it and mean the table.
+    ensures means { IfOk result (λ w. HasReadTable D.tells (shown_image (now (D.story device.old))) front.now segment (table_of w.table)) }
+    ensures lacks { IfErr result (LacksTable (λ found. found ≡ None) D.tells (shown_image (now (D.story device.old))) front.now segment place) }
     ensures rows { IfOk result (λ w. (s : PlainSchema) → front.now ≡ schema_message s
         → HasRead D.tells (shown_image (now (D.story device.old))) s segment (table_of w.table).rows) }
     ensures schema { IfOk result (λ w. (s : PlainSchema) → IsWithinLimits s → front.now ≡ schema_message s → (table_of w.table).schema ≡ s) }
@@ -160,6 +164,9 @@ pub fn read_next_segment<D: SectorDevice>(
     requires sound { is_segment segment ≡ true }
     requires light { before ≤ MAX_TABLE_WEIGHT }
     ensures reads { OnlyReadsDevice D.size D.story D.failed D.tells (ended result) device.old device.new }
+    // With any front: the bytes that were read begin with it and mean the table.
+    ensures means { IfOk result (λ w. HasReadTable D.tells (shown_image (now (D.story device.old))) front.now segment (table_of w.table)) }
+    ensures lacks { IfErr result (LacksTable (IsPast before) D.tells (shown_image (now (D.story device.old))) front.now segment place) }
     ensures rows { IfOk result (λ w. (s : PlainSchema) → front.now ≡ schema_message s
         → HasRead D.tells (shown_image (now (D.story device.old))) s segment (table_of w.table).rows) }
     ensures schema { IfOk result (λ w. (s : PlainSchema) → IsWithinLimits s → front.now ≡ schema_message s → (table_of w.table).schema ≡ s) }

@@ -70,7 +70,7 @@ module _ (tells : Bool) (image : Image) (schema : PlainSchema) where
       (first, others ++ own, read, have_more xs g others own later r, ap (λ (ys : List (List Cell)). ys ++ own) is ∙ append_assoc first others own)
 
 -- bytes that were not read are undamaged, whatever the digest
-undamaged_none : (digest : Option (List ℕ)) → is_undamaged digest None ≡ true
+pub undamaged_none : (digest : Option (List ℕ)) → is_undamaged digest None ≡ true
 undamaged_none None = refl
 undamaged_none (Some d) = refl
 

@@ -22,4 +22,4 @@ returns-in-Err-Words-clause-serves g c =
 
 pub returns-in-Err-SignedNumber-clause-serves : goal.returns-in-Err-SignedNumber-clause-serves
 returns-in-Err-SignedNumber-clause-serves g c =
-    inl ((inr (inl c.report_signed_number.ensures, refl), λ right. absurd (sign_takes_none c.in-Err-SignedNumber.field-0 c.in-Err-SignedNumber.field-0-is (c.in-Err-SignedNumber.ensures.taken right))), refl, wrong_told _ _ _ _ _ _ c.report_signed_number.ensures)
+    inl ((inr (inl c.report_signed_number.ensures.wrong, refl), λ right. absurd (sign_takes_none c.in-Err-SignedNumber.field-0 c.in-Err-SignedNumber.field-0-is (c.in-Err-SignedNumber.ensures.taken right))), refl, wrong_told _ _ _ _ _ _ c.report_signed_number.ensures.wrong)

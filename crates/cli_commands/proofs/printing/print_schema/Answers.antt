@@ -2,6 +2,7 @@ use Rattle.std.proofs.Common.{◌∙◌, ap, map, refl}
 use Rattle.std.proofs.lemmas.Result.{err_from_is_err_and}
 use Rattle.arrow_schema.specs.View.{column_of, schema_of}
 use Rattle.cli_commands.specs.Printed.{schema_text}
+use Rattle.cli_commands.proofs.OutputLemmas.{if_failed, schema_front}
 use Rattle.cli_commands.proofs.TextLemmas.{schema_written, printing_failed, there_is}
 use Rattle.cli_commands.proofs.printing.print_schema.Goals as goal
 
@@ -35,3 +36,22 @@ pub returns-clause-told : goal.returns-clause-told
 returns-clause-told g c =
     let found = c.in_ok-schema.ensures.found in
     printing_failed _ _ c.write_whole.result c.write_whole.ensures.io (found.0, there_is _ (schema_of c.in_ok-schema.schema) found.1)
+
+-- ---- where the output failed
+
+pub returns-in_err-schema-clause-front : goal.returns-in_err-schema-clause-front
+returns-in_err-schema-clause-front g c =
+    let p = err_from_is_err_and c.from_residual.result c.from_residual.ensures.1 in
+    rw (p.1, p.2) tt
+
+pub returns-in_err-text-clause-front : goal.returns-in_err-text-clause-front
+returns-in_err-text-clause-front g c =
+    let p = err_from_is_err_and c.from_residual-in_err-text.result c.from_residual-in_err-text.ensures.1 in
+    rw (p.1, p.2) tt
+
+pub returns-clause-front : goal.returns-clause-front
+returns-clause-front g c =
+    if_failed _ _ c.write_whole.result
+    (schema_front _ (schema_of c.in_ok-schema.schema) c.as_bytes.result.now _ _ c.in_ok-schema.ensures.found.1
+    (c.as_bytes.ensures.value ∙ c.in_ok-text.ensures ∙ ap (λ fields. schema_text (map column_of fields)) c.deref.ensures.value))
+    c.write_whole.ensures.front

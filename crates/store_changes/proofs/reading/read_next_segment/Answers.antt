@@ -1,18 +1,57 @@
-use Rattle.std.proofs.Common.{◌≡◌, ◌<◌, ◌++◌, ℕ, Bool, List, Option, refl, sym, ap, ◌∙◌, subst, arith}
+use Rattle.std.proofs.Common.{◌≡◌, ◌<◌, ◌+◌, ◌++◌, ℕ, Bool, List, Option, None, refl, sym, ap, ◌∙◌, subst, arith}
 use Rattle.std.proofs.lemmas.List.Sums.{sum_by-append}
 use Rattle.sector_dev.specs.Disk.{Image, now, shown_image}
 use Rattle.arrow_schema.specs.Column.{PlainSchema}
-use Rattle.cells.specs.Cell.{Cell}
+use Rattle.cells.specs.Cell.{Cell, PlainTable}
 use Rattle.cells.specs.Weight.{row_weight, table_weight}
 use Rattle.cells.specs.declared.limits.TheConstants.{MAX_TABLE_WEIGHT}
 use Rattle.values.specs.TableView.{table_of}
 use Rattle.catalogue.specs.declared.entry.Segment.{Segment}
 use Rattle.tables.specs.declared.refusal.Refusal.{Refusal}
 use Rattle.tables.specs.declared.refusal.Refusal.TheVariants as refusals
+use Rattle.store_runs.specs.Held.{is_undamaged}
 use Rattle.store_runs.specs.Reading.{HasRead, ArePast, LacksRows}
-use Rattle.store_changes.specs.ReadSegment.{UnreadsSegment}
+use Rattle.store_changes.specs.ReadSegment.{table_in_bytes, HasReadTable, IsPast, LacksTable, UnreadsSegment}
 use Rattle.store_changes.specs.laws.Digests.{read_rows, copy_undamaged}
 use Rattle.store_changes.proofs.reading.read_next_segment.Goals as goal
+
+-- ---- with any front
+
+-- a table that is not given doesn't go after others
+lacks_next : (tells : Bool) (image : Image) (front : List ℕ) (segment : Segment) (before place : ℕ) (r : Refusal)
+    → LacksTable (λ found. found ≡ None) tells image front segment place r → LacksTable (IsPast before) tells image front segment place r
+lacks_next tells image front segment before place refusals.Device u = tt
+lacks_next tells image front segment before place refusals.OutOfMemory u = tt
+lacks_next tells image front segment before place (refusals.SegmentUnread other) u =
+    (u.0, λ told. ((u.1 told).0, subst (IsPast before) (sym (u.1 told).1) tt))
+lacks_next tells image front segment before place (refusals.SegmentDamaged other) u = u
+lacks_next tells image front segment before place _ u = absurd u
+
+-- nor does one that is too heavy after them
+heavy_next : (tells : Bool) (image : Image) (front : List ℕ) (segment : Segment) (before place : ℕ) (table : PlainTable)
+    → MAX_TABLE_WEIGHT < before + table_weight table.schema table.rows → HasReadTable tells image front segment table
+    → LacksTable (IsPast before) tells image front segment place (refusals.SegmentUnread place)
+heavy_next tells image front segment before place table heavy read = (
+  refl,
+  λ told. (
+    ap (is_undamaged segment.digest) (read.copy.held told) ∙ read.copy.undamaged,
+    subst (IsPast before) (sym (ap (table_in_bytes front segment.rows) (read.copy.held told) ∙ read.means)) heavy,
+  ),
+)
+
+pub returns-then-weighed-before-clause-lacks : goal.returns-then-weighed-before-clause-lacks
+returns-then-weighed-before-clause-lacks g c =
+    let D = g.D.SectorDevice in
+    let weighed = c.in-Ok.weighed in
+    heavy_next D.tells (shown_image (now (D.story c.args.device.now))) c.args.front.now c.args.segment c.args.before c.args.place (table_of weighed.table)
+    (omega (arith, weighed.weighs, c.requires.light, c.if-weighed-before.true)) c.in-Ok.ensures.means
+
+pub returns-in-Err-clause-lacks : goal.returns-in-Err-clause-lacks
+returns-in-Err-clause-lacks g c =
+    let D = g.D.SectorDevice in
+    lacks_next D.tells (shown_image (now (D.story c.args.device.now))) c.args.front.now c.args.segment c.args.before c.args.place c.in-Err.refusal c.in-Err.ensures.lacks
+
+-- ---- with the message of a schema
 
 -- rows that are not given don't go after others
 lacks_unread : (tells : Bool) (image : Image) (schema : PlainSchema) (rows : List (List Cell)) (segment : Segment) (place : ℕ) (r : Refusal) → LacksRows tells image schema segment place r

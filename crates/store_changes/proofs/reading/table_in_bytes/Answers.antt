@@ -17,6 +17,7 @@ use Rattle.ipc_write.specs.Decoded.{raw_schema}
 use Rattle.ipc_write.specs.Written.{schema_message, schema_envelope}
 use Rattle.values.specs.TableView.{table_of}
 use Rattle.store_runs.specs.Held.{rows_where}
+use Rattle.store_changes.specs.ReadSegment.{table_where}
 use Rattle.store_changes.proofs.reading.table_in_bytes.Goals as goal
 
 same_ok : {T E : Type 0} (a b : T) (r : Result T E) → r ≡ Ok a → r ≡ Ok b → a ≡ b
@@ -74,3 +75,27 @@ returns-else-len-rows-clause-rows c = λ s front.
     let t = table_of c.in-Ok.weighed.table in
     let other : (length t.rows == c.args.rows) ≡ false = ne_eqb (length t.rows) c.args.rows (λ same. c.if-len-rows.false (c.len.ensures ∙ same)) in
     sym ((λ i. if begins i then rows_where c.args.rows (c.in-Ok.ensures.exact i) else None) ∙ ap (λ (b : Bool). if b then Some t.rows else None) other)
+
+-- ---- the table, with any front
+
+pub returns-then-not-starts_with-clause-means : goal.returns-then-not-starts_with-clause-means
+returns-then-not-starts_with-clause-means c =
+    let bytes = c.args.bytes.items in
+    let begins : starts_with nat_eq bytes c.args.front.now ≡ false = (λ i. starts_with nat_eq (sym c.deref.ensures.value i) c.args.front.now) ∙ sym c.starts_with.ensures.value ∙ c.if-not-starts_with.true in
+    sym (ap (λ (b : Bool). if b then table_where c.args.rows (meaning supported_codes bytes) else None) begins)
+
+pub returns-then-len-rows-clause-means : goal.returns-then-len-rows-clause-means
+returns-then-len-rows-clause-means c =
+    let bytes = c.args.bytes.items in
+    let begins : starts_with nat_eq bytes c.args.front.now ≡ true = (λ i. starts_with nat_eq (sym c.deref.ensures.value i) c.args.front.now) ∙ sym c.starts_with.ensures.value ∙ c.if-not-starts_with.false in
+    let t = table_of c.in-Ok.weighed.table in
+    let many : (length t.rows == c.args.rows) ≡ true = eq-eqb (length t.rows) c.args.rows (sym c.len.ensures ∙ c.if-len-rows.true) in
+    sym ((λ i. if begins i then table_where c.args.rows (c.in-Ok.ensures.exact i) else None) ∙ ap (λ (b : Bool). if b then Some t else None) many)
+
+pub returns-else-len-rows-clause-means : goal.returns-else-len-rows-clause-means
+returns-else-len-rows-clause-means c =
+    let bytes = c.args.bytes.items in
+    let begins : starts_with nat_eq bytes c.args.front.now ≡ true = (λ i. starts_with nat_eq (sym c.deref.ensures.value i) c.args.front.now) ∙ sym c.starts_with.ensures.value ∙ c.if-not-starts_with.false in
+    let t = table_of c.in-Ok.weighed.table in
+    let other : (length t.rows == c.args.rows) ≡ false = ne_eqb (length t.rows) c.args.rows (λ same. c.if-len-rows.false (c.len.ensures ∙ same)) in
+    sym ((λ i. if begins i then table_where c.args.rows (c.in-Ok.ensures.exact i) else None) ∙ ap (λ (b : Bool). if b then Some t else None) other)
