@@ -1,7 +1,6 @@
 -- The selection of a part more.
 use Rattle.std.specs.Prelude.{Option, Some, None}
-use Rattle.std.proofs.Common.{◌≡◌, ◌==◌, ◌-◌, ◌≤◌, ℕ, suc, true, List, [], ◌∷◌, ◌++◌, map, length, take, drop, refl, sym, ap, subst, ◌∙◌, arith}
-use Rattle.std.proofs.lemmas.Bool.{eqb-true}
+use Rattle.std.proofs.Common.{◌≡◌, ◌-◌, ◌≤◌, ℕ, List, [], ◌++◌, map, length, take, drop, sym, ap, subst, ◌∙◌, arith}
 use Rattle.std.proofs.lemmas.Grind.{flat_map-append}
 use Rattle.std.proofs.lemmas.List.{append-nil, take-take, take-append-drop}
 use Rattle.arrow_schema.specs.Column.{PlainSchema, columns_of}
@@ -44,10 +43,6 @@ part_built b rows own all limit n are joined left count =
     let more = joined ∙ ap (λ (xs : List (List Cell)). b.rows ++ xs) are in
     let most = left ∙ ap (limit_after b.query.limit) (count ∙ ap length are) ∙ limit_counted b.query rows in
     λ k. record { schema = b.schema; rows = more k; query = record { places = b.query.places; bounds = b.query.bounds; limit = most k } }
-
-pub none_of : {X : Type 0} (xs : List X) → (length xs == 0) ≡ true → xs ≡ []
-none_of [] h = refl
-none_of (x ∷ xs) h = let no : suc (length xs) ≡ 0 = eqb-true (suc (length xs)) 0 h in absurd (omega (arith, no))
 
 -- the rows of a part more
 pub more_rows : (s : PlainSchema) (a b all : List TablePart) (t : PlainTable) → t.schema ≡ s → t ≡ parts_table t.schema b → all ≡ a ++ b

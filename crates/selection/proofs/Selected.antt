@@ -1,5 +1,5 @@
 -- The batches of the columns asked for of a table, and the runs that are kept of them.
-use Rattle.std.proofs.Common.{◌≡◌, ◌<◌, ◌-◌, ◌^◌, ℕ, true, List, map, length, take, sym, ap, subst, ◌∙◌}
+use Rattle.std.proofs.Common.{◌≡◌, ◌<◌, ◌-◌, ◌^◌, ℕ, true, List, [], ◌∷◌, map, length, take, refl, sym, ap, subst, ◌∙◌, arith}
 use Rattle.std.specs.Prelude.{sum_by, unwrap_or}
 use Rattle.std.specs.List.{flat_map, list_all}
 use Rattle.std.proofs.lemmas.List.{length-map}
@@ -72,3 +72,7 @@ runs_are t q s most given batches k are schema rows kept =
 pub runs_table_is : (t : PlainTable) (q : PlainBoundQuery) (s : PlainSchema) (k : KeptRuns) → s ≡ (selected_by q t).schema → AreKept (columns_of s.columns) (rows_selected q t.rows) k
     → runs_table s k.runs.items ≡ selected_by q t
 runs_table_is t q s k schema kept = λ i. record { schema = schema i; rows = kept.rows_are i }
+
+pub none_of : {X : Type 0} (xs : List X) → length xs ≡ 0 → xs ≡ []
+none_of [] h = refl
+none_of (x ∷ xs) h = absurd (omega (arith, h))

@@ -1,5 +1,5 @@
 // Makes a table of what a query selects from a part of a table.
-ghost use Rattle.std.specs.Prelude.{◌≡◌, true, length, IfOk};
+ghost use Rattle.std.specs.Prelude.{◌≡◌, true, [], length, IfOk, IfSome, IfNone};
 ghost use Rattle.arrow_schema.specs.Column.{columns_of};
 ghost use Rattle.arrow_schema.specs.View.{schema_of};
 ghost use Rattle.query.specs.BoundQuery.{bound_query_in, selected_by};
@@ -29,7 +29,8 @@ fn table_of_runs(alloc: Global, schema: &Schema, kept: KeptRuns<'_>) -> Result<T
     table_of_stream(alloc, bytes)
 }
 
-/// Makes the table of what a query selects from a part of a table, in memory of its own. `picked` is the schema of the selection.
+/// Makes the table of what a query selects from a part of a table, in memory of its own; `None` if that is no row. `picked` is the schema of the
+/// selection.
 ///
 /// # Errors
 /// `AllocError` if memory is refused.
@@ -38,19 +39,27 @@ pub(crate) fn select_part(
     picked: &Schema,
     part: &Table,
     query: &BoundQuery,
-) -> Result<Table, AllocError>
+) -> Result<Option<Table>, AllocError>
     requires schema { schema_of picked.now ≡ (selected_by (bound_query_in query.now) (table_of part.now)).schema }
     requires table { IsTable (selected_by (bound_query_in query.now) (table_of part.now)) }
-    ensures ok { IfOk result (λ t. table_of t ≡ selected_by (bound_query_in query.now) (table_of part.now)) }
-    ensures in_parts { IfOk result (λ t. is_in_parts t ≡ true) }
+    ensures ok { IfOk result (λ found. IfSome found (λ t. table_of t ≡ selected_by (bound_query_in query.now) (table_of part.now))) }
+    ensures none { IfOk result (λ found. IfNone found ((selected_by (bound_query_in query.now) (table_of part.now)).rows ≡ [])) }
+    ensures in_parts { IfOk result (λ found. IfSome found (λ t. is_in_parts t ≡ true)) }
 {
     // For the proof: the number of rows is below 2^64, so that the limit 2^64 - 1 cuts off none.
     let _rows = part.len();
     let schema = part.schema();
     let most = query.limit.unwrap_or(u64::MAX);
+    if most == 0 {
+        return Ok(None);
+    }
     let mask = choose_rows(alloc, part, query)?;
     let parts = parts_of(alloc, part)?;
     let batches = pick_batches(alloc, &schema.fields, parts.as_slice(), &query.places)?;
     let kept = keep_batches(alloc, &batches, &mask, most)?;
-    table_of_runs(alloc, picked, kept)
+    if kept.rows == 0 {
+        return Ok(None);
+    }
+    let selected = table_of_runs(alloc, picked, kept)?;
+    Ok(Some(selected))
 }

@@ -76,10 +76,9 @@ impl SelectionBuilder {
         ensures tables { OnOk result (SelectsOf (builder_in self.new) (table_of part.now).schema) }
     {
         tables_are_joined_and_cut();
-        let selected = select_part(alloc, &self.schema, part, &self.query)?;
-        if selected.is_empty() {
+        let Some(selected) = select_part(alloc, &self.schema, part, &self.query)? else {
             return Ok(());
-        }
+        };
         let rows = selected.len() as u64;
         let mut more = selected.into_parts();
         self.parts.append(&mut more)?;

@@ -1,15 +1,15 @@
 use Rattle.std.proofs.Common.{◌≡◌, List, map, length, sym, ap, subst, ◌∙◌, arith}
-use Rattle.std.proofs.lemmas.Result.{IfOk-weaker}
 use Rattle.arrow_schema.specs.Column.{PlainSchema, columns_of}
 use Rattle.arrow_schema.specs.View.{column_of, schema_of}
 use Rattle.cells.specs.Cell.{PlainTable}
 use Rattle.query.specs.BoundQuery.{bound_query_in, rows_selected}
+use Rattle.query.specs.laws.Limits.{none_left}
 use Rattle.values.specs.Table.{IsTable}
 use Rattle.values.specs.TableView.{table_of}
 use Rattle.selection.specs.declared.picked.PickedBatch.{PickedBatch}
 use Rattle.selection.specs.inner.Kept.{AreKept}
 use Rattle.selection.specs.inner.TableParts.{parts_in}
-use Rattle.selection.proofs.Selected.{ArePicked, are_picked, picked_counted, rows_picked, runs_are, runs_table_is}
+use Rattle.selection.proofs.Selected.{ArePicked, are_picked, none_of, picked_counted, rows_picked, runs_are, runs_table_is}
 use Rattle.selection.proofs.selecting.select_part.Goals as goal
 use Rattle.selection.proofs.selecting.select_part.Goals.{In_ok-batches, In_ok-kept}
 
@@ -58,9 +58,20 @@ table_of_runs-requires-clause-count c =
     let are = kept at.In_ok-kept (picked at.In_ok-batches c.deref-3.result.now c.deref-3.ensures.value) in
     are.count_is ∙ sym (ap length are.rows_are)
 
+-- where the limit allows no row, and where none is kept
+pub returns-then-most-eq0-clause-none : goal.returns-then-most-eq0-clause-none
+returns-then-most-eq0-clause-none c =
+    none_left (bound_query_in c.args.query.now) c.unwrap_or-most.result (table_of c.args.part.now).rows c.unwrap_or-most.ensures (omega (arith, c.if-most-eq0.true))
+
+pub returns-then-kept-eq0-clause-none : goal.returns-then-kept-eq0-clause-none
+returns-then-kept-eq0-clause-none c =
+    let at = goal.at.returns-then-kept-eq0-clause-none c in
+    let are = kept at.In_ok-kept (picked at.In_ok-batches c.deref-3.result.now c.deref-3.ensures.value) in
+    none_of (rows_selected (bound_query_in c.args.query.now) (table_of c.args.part.now).rows) (omega (arith, c.if-kept-eq0.true, are.count_is))
+
 pub returns-clause-ok : goal.returns-clause-ok
 returns-clause-ok c =
     let at = goal.at.returns-clause-ok c in
     let are = kept at.In_ok-kept (picked at.In_ok-batches c.deref-3.result.now c.deref-3.ensures.value) in
-    let is = runs_table_is (table_of c.args.part.now) (bound_query_in c.args.query.now) (schema_of c.args.picked.now) c.in_ok-kept.kept c.requires.schema are in
-    IfOk-weaker c.table_of_runs.result _ _ (λ t h. h ∙ is) c.table_of_runs.ensures.ok
+    c.in_ok-selected.ensures.ok
+    ∙ runs_table_is (table_of c.args.part.now) (bound_query_in c.args.query.now) (schema_of c.args.picked.now) c.in_ok-kept.kept c.requires.schema are

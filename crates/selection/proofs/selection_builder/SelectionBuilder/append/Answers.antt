@@ -6,7 +6,7 @@ use Rattle.values.specs.Parts.{parts_rows}
 use Rattle.values.specs.TableView.{table_of}
 use Rattle.selection.specs.SelectionBuilder.{PlainBuilder, SelectsOf, builder_in, builder_after}
 use Rattle.selection.specs.laws.Parts.{nothing_built}
-use Rattle.selection.proofs.Building.{selects_after, part_built, none_of, more_rows}
+use Rattle.selection.proofs.Building.{selects_after, part_built, more_rows}
 use Rattle.selection.proofs.selection_builder.SelectionBuilder.append.Goals as goal
 use Rattle.selection.proofs.selection_builder.SelectionBuilder.append.Goals.{After-limit_after-self}
 
@@ -19,8 +19,8 @@ built : (c : After-limit_after-self)
     } ≡ builder_after (builder_in c.args.self.now) (table_of c.args.part.now).rows
 built c =
     let s = schema_of c.args.self.now.schema in
-    let own = table_of c.in_ok-selected.selected in
-    let is = c.in_ok-selected.ensures.ok in
+    let own = table_of c.in-Some.selected in
+    let is = rw c.in-Some.is at c.in_ok-selected.ensures.ok in
     let all = c.append.new.self.items in
     let schema = ap (λ (t : PlainTable). t.schema) is ∙ sym c.requires.tables.schema in
     part_built (builder_in c.args.self.now) (table_of c.args.part.now).rows own.rows (parts_rows (columns_of s.columns) all) c.limit_after-self.result c.len-rows.result (ap (λ (t : PlainTable). t.rows) is)
@@ -37,8 +37,7 @@ returns-clause-tables c =
 
 -- ---- where nothing is selected
 
-pub returns-then-is_empty-clause-ok : goal.returns-then-is_empty-clause-ok
-returns-then-is_empty-clause-ok c =
-    let own = table_of c.in_ok-selected.selected in
-    let none = none_of own.rows (sym c.is_empty.ensures ∙ c.if-is_empty.true) in
-    sym (nothing_built (builder_in c.args.self.now) (table_of c.args.part.now).rows (sym (ap (λ (t : PlainTable). t.rows) c.in_ok-selected.ensures.ok) ∙ none))
+pub returns-in_default-clause-ok : goal.returns-in_default-clause-ok
+returns-in_default-clause-ok c =
+    let none = rw c.in_default.is at c.in_ok-selected.ensures.none in
+    sym (nothing_built (builder_in c.args.self.now) (table_of c.args.part.now).rows none)
