@@ -21,6 +21,7 @@ mod RunOffsets
 mod RunParts
 mod RunSlots
 mod RunValues
+mod Slices
 mod SlotOffsets
 mod Unset
 mod Words

@@ -1,10 +1,10 @@
 // Buffers that are made, but that the input has with the same bytes: as in a stream that was written by these crates. Then the input's bytes stay where
 // they are, so that no other memory holds them until the stream is written.
 ghost use Rattle.std.specs.Prelude.{◌≡◌};
-ghost use Rattle.batch_build.specs.Batch.{buffer_bytes};
+ghost use Rattle.batch_build.specs.Batch.{built_bytes};
 
 use crate::run_slots::only_run;
-use batch_build::Buffer;
+use batch_build::{Buffer, BuiltBuffer};
 use columns::SlotRun;
 
 // Returns `size` bytes of a buffer from the place of a value on, if it has them.
@@ -30,11 +30,11 @@ pub(crate) fn own_offsets<'a>(runs: &[SlotRun<'a>], width: usize, size: usize) -
 }
 
 /// Returns the bytes that were made, as those of the input if these are equal.
-pub(crate) fn kept_buffer<'a>(own: Option<&'a [u8]>, made: Vec<u8>) -> Buffer<'a>
-    ensures { buffer_bytes result ≡ made.items }
+pub(crate) fn kept_buffer<'a>(own: Option<&'a [u8]>, made: Vec<u8>) -> BuiltBuffer<'a>
+    ensures { built_bytes result ≡ made.items }
 {
     match own {
-        Some(own) if own == made.as_slice() => Buffer::Borrowed(own),
-        _ => Buffer::Made(made),
+        Some(own) if own == made.as_slice() => BuiltBuffer::Whole(Buffer::Borrowed(own)),
+        _ => BuiltBuffer::Whole(Buffer::Made(made)),
     }
 }

@@ -2,7 +2,7 @@
 //! "DictionaryBatch message").
 //!
 //! [`build_runs`] makes the same nodes and buffers as `batch_build::build` makes from borrowed rows with the same cells. Buffers that are already as
-//! they are written are borrowed, or copied as bytes; below a null struct or fixed list, a mask says which slots are left. What is known of dictionaries
+//! they are written are borrowed, several runs slice by slice if they are long, or copied as bytes; below a null struct or fixed list, a mask says which slots are left. What is known of dictionaries
 //! is kept for the next rows (`dictionary_codes::KnownEntries`).
 #![tactic(auto)]
 
@@ -12,6 +12,7 @@ mod entry_arrays;
 mod flat_runs;
 mod item_slots;
 mod kept_buffers;
+mod long_runs;
 mod mask_bits;
 mod masked_contents;
 mod masked_lists;

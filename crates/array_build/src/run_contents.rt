@@ -1,7 +1,7 @@
 // The bytes and offsets of strings and binaries, for runs that are already as they are written.
 ghost use Rattle.std.specs.Prelude.{◌≡◌, ◌≤◌, ◌+◌, ◌++◌, false, true, OnOk, IfOk, Some, None};
 ghost use Rattle.std.specs.List.{flat_map};
-ghost use Rattle.batch_build.specs.Batch.{batch_in, buffer_bytes, plain_column};
+ghost use Rattle.batch_build.specs.Batch.{batch_in, built_bytes, joined_slices, plain_column};
 ghost use Rattle.array_build.specs.inner.MaskedContents.{with_contents};
 ghost use Rattle.array_build.specs.inner.Runs.{AreAsWritten, cell_sizes, is_run_as_written, kind_cells, span_contents};
 ghost use Rattle.columns.specs.Runs.{is_run_sound, run_cells};
@@ -14,11 +14,12 @@ ghost use Rattle.columns.specs.Tests.{are_few_offsets};
 ghost use Rattle.columns.specs.View.{view_array};
 
 use crate::kept_buffers::{kept_buffer, own_offsets};
+use crate::long_runs::are_long;
 use crate::number_bytes::last_offset;
 use crate::run_offsets::run_offsets;
 use crate::run_slots::only_run;
 use arrow_schema::DataType;
-use batch_build::{Buffer, BuiltBatch, offset_size, push_any_buffer};
+use batch_build::{Buffer, BuiltBatch, BuiltBuffer, offset_size, push_any_buffer};
 use columns::{ArrayView, OffsetWidth, SlotRun, bytes_at};
 use std::alloc::{AllocError, Global};
 
@@ -55,26 +56,17 @@ fn run_slice<'a>(
     slot_contents(array, width, from, len)
 }
 
-// Appends the bytes of a run.
+// Returns the bytes of a run, of which a null has none.
 #[tactic(auto, using(crate::proofs::RunContents::no_contents))]
-fn push_contents(
-    contents: &mut Vec<u8>,
-    data_type: &DataType,
-    width: OffsetWidth,
-    run: &SlotRun<'_>,
-) -> Result<(), AllocError>
+fn content_slice<'a>(data_type: &DataType, width: OffsetWidth, run: &SlotRun<'a>) -> &'a [u8]
     requires width { contents_width (kind_of data_type.now) ≡ Some (width_of width) }
     requires sound { is_run_sound (plain_column (kind_of data_type.now) None) run.now ≡ true }
     requires written { is_run_as_written (kind_of data_type.now) run.now ≡ true }
-    ensures { OnOk result (contents.new.items
-        ≡ contents.old.items ++ flat_map contents_of (run_cells (plain_column (kind_of data_type.now) None) run.now)) }
+    ensures { result.now ≡ flat_map contents_of (run_cells (plain_column (kind_of data_type.now) None) run.now) }
 {
     match run {
-        SlotRun::Slots { array, from, len } => {
-            contents.extend_from_slice(run_slice(data_type, width, *array, *from, *len))?;
-            Ok(())
-        }
-        SlotRun::Nulls(_) => Ok(()),
+        SlotRun::Slots { array, from, len } => run_slice(data_type, width, *array, *from, *len),
+        SlotRun::Nulls(_) => &[],
     }
 }
 
@@ -92,27 +84,51 @@ fn copied_contents(
 {
     let mut contents = Vec::with_capacity(alloc, room)?;
     for run in runs {
-        push_contents(&mut contents, data_type, width, run)?;
+        contents.extend_from_slice(content_slice(data_type, width, run))?;
     }
     Ok(contents)
 }
 
-// Returns the bytes of all strings or binaries, one after another; a null has none. They are borrowed if there is only one run, of slots.
+// Returns the bytes of each run.
+fn content_slices<'a>(
+    alloc: Global,
+    data_type: &DataType,
+    width: OffsetWidth,
+    runs: &[SlotRun<'a>],
+) -> Result<Vec<&'a [u8]>, AllocError>
+    requires width { contents_width (kind_of data_type.now) ≡ Some (width_of width) }
+    requires ready { AreAsWritten (kind_of data_type.now) runs.now }
+    ensures { IfOk result (λ slices. joined_slices slices.items ≡ flat_map contents_of (kind_cells (kind_of data_type.now) runs.now)) }
+{
+    let mut slices = Vec::with_capacity(alloc, runs.len())?;
+    for run in runs {
+        slices.push_reserved(content_slice(data_type, width, run));
+    }
+    Ok(slices)
+}
+
+// Returns the bytes of all strings or binaries, one after another, of which there are `room`. They are borrowed from one run, or from several if these
+// are long.
 fn run_contents<'a>(
     alloc: Global,
     data_type: &DataType,
     width: OffsetWidth,
     runs: &[SlotRun<'a>],
     room: usize,
-) -> Result<Buffer<'a>, AllocError>
+) -> Result<BuiltBuffer<'a>, AllocError>
     requires width { contents_width (kind_of data_type.now) ≡ Some (width_of width) }
     requires ready { AreAsWritten (kind_of data_type.now) runs.now }
-    ensures { IfOk result (λ buffer. buffer_bytes buffer ≡ flat_map contents_of (kind_cells (kind_of data_type.now) runs.now)) }
+    ensures { IfOk result (λ buffer. built_bytes buffer ≡ flat_map contents_of (kind_cells (kind_of data_type.now) runs.now)) }
 {
-    if let Some(SlotRun::Slots { array, from, len }) = only_run(runs) {
-        return Ok(Buffer::Borrowed(run_slice(data_type, width, array, from, len)));
+    if let Some(run) = only_run(runs) {
+        let slice = content_slice(data_type, width, &run);
+        return Ok(BuiltBuffer::Whole(Buffer::Borrowed(slice)));
     }
-    Ok(Buffer::Made(copied_contents(alloc, data_type, width, runs, room)?))
+    if are_long(room, runs.len()) {
+        return Ok(BuiltBuffer::Slices(content_slices(alloc, data_type, width, runs)?));
+    }
+    let contents = copied_contents(alloc, data_type, width, runs, room)?;
+    Ok(BuiltBuffer::Whole(Buffer::Made(contents)))
 }
 
 // Makes the offsets of strings or binaries: 0, and then the end of each.

@@ -1,7 +1,7 @@
 // Values of one width.
-ghost use Rattle.std.specs.Prelude.{◌≡◌, ◌≤◌, ◌+◌, ◌-◌, ◌*◌, ◌++◌, true, false, OnOk, IfOk, Some, None, map, take, drop, replicate, length};
+ghost use Rattle.std.specs.Prelude.{◌≡◌, ◌≤◌, ◌+◌, ◌-◌, ◌*◌, ◌++◌, true, false, OnOk, IfOk, IfSome, Some, None, map, take, drop, replicate, length};
 ghost use Rattle.std.specs.List.{flat_map, range_with_len};
-ghost use Rattle.batch_build.specs.Batch.{buffer_bytes, plain_column};
+ghost use Rattle.batch_build.specs.Batch.{built_bytes, joined_slices, plain_column};
 ghost use Rattle.dictionary_codes.specs.Masks.{IsMask, masked_cells};
 ghost use Rattle.array_build.specs.inner.Runs.{cleared, fixed_value, fixed_width, is_run_as_written, kind_cells};
 ghost use Rattle.bitmap.specs.Bits.{bit};
@@ -15,11 +15,12 @@ ghost use Rattle.columns.specs.View.{view_array};
 ghost use Rattle.facts.specs.Bytes.{AreBytes};
 
 use crate::as_written::are_slots_as_written;
+use crate::long_runs::are_long;
 use crate::run_slots::only_run;
 use crate::slot_masks::are_bytes;
 use crate::unset_slots::next_unset;
 use arrow_schema::DataType;
-use batch_build::Buffer;
+use batch_build::{Buffer, BuiltBuffer};
 use columns::{ArrayView, SlotRun};
 use dictionary_codes::{count_slots, put_number};
 use std::alloc::{AllocError, Global};
@@ -167,23 +168,83 @@ fn copied_values(
     Ok(values)
 }
 
-// Returns the values of runs, with zeros for nulls. They are borrowed if there is only one run, and it is already as it is written.
+// Returns the values of a run, if they already are as they are written.
+fn written_slice<'a>(data_type: &DataType, width: usize, run: &SlotRun<'a>) -> Option<&'a [u8]>
+    requires width { fixed_width (kind_of data_type.now) ≡ Some width }
+    requires sound { is_run_sound (plain_column (kind_of data_type.now) None) run.now ≡ true }
+    ensures { IfSome result (λ slice. slice.now
+        ≡ flat_map (fixed_value (kind_of data_type.now)) (run_cells (plain_column (kind_of data_type.now) None) run.now)) }
+{
+    match run {
+        SlotRun::Slots { array, from, len } => {
+            if !are_slots_as_written(data_type, *array, *from, *len) {
+                return None;
+            }
+            Some(run_slice(data_type, width, *array, *from, *len))
+        }
+        SlotRun::Nulls(_) => None,
+    }
+}
+
+// Returns the values of each run, if all already are as they are written.
+fn written_slices<'a>(
+    alloc: Global,
+    data_type: &DataType,
+    width: usize,
+    runs: &[SlotRun<'a>],
+) -> Result<Option<Vec<&'a [u8]>>, AllocError>
+    requires width { fixed_width (kind_of data_type.now) ≡ Some width }
+    requires sound { are_runs_sound (plain_column (kind_of data_type.now) None) runs.now ≡ true }
+    ensures { IfOk result (λ found. IfSome found (λ slices.
+        joined_slices slices.items ≡ flat_map (fixed_value (kind_of data_type.now)) (kind_cells (kind_of data_type.now) runs.now))) }
+{
+    let mut slices = Vec::with_capacity(alloc, runs.len())?;
+    for run in runs {
+        let Some(slice) = written_slice(data_type, width, run) else {
+            return Ok(None);
+        };
+        slices.push_reserved(slice);
+    }
+    Ok(Some(slices))
+}
+
+// Returns the values of several runs as slices, if these are long and already as they are written.
+fn long_slices<'a>(
+    alloc: Global,
+    data_type: &DataType,
+    width: usize,
+    runs: &[SlotRun<'a>],
+) -> Result<Option<Vec<&'a [u8]>>, AllocError>
+    requires width { fixed_width (kind_of data_type.now) ≡ Some width }
+    requires sound { are_runs_sound (plain_column (kind_of data_type.now) None) runs.now ≡ true }
+    ensures { IfOk result (λ found. IfSome found (λ slices.
+        joined_slices slices.items ≡ flat_map (fixed_value (kind_of data_type.now)) (kind_cells (kind_of data_type.now) runs.now))) }
+{
+    if !are_long(count_slots(runs)?.saturating_mul(width), runs.len()) {
+        return Ok(None);
+    }
+    written_slices(alloc, data_type, width, runs)
+}
+
+// Returns the values of runs, with zeros for nulls. They are borrowed if they already are as they are written, and several runs are long.
 fn run_values<'a>(
     alloc: Global,
     data_type: &DataType,
     width: usize,
     runs: &[SlotRun<'a>],
-) -> Result<Buffer<'a>, AllocError>
+) -> Result<BuiltBuffer<'a>, AllocError>
     requires width { fixed_width (kind_of data_type.now) ≡ Some width }
     requires sound { are_runs_sound (plain_column (kind_of data_type.now) None) runs.now ≡ true }
-    ensures { IfOk result (λ buffer. buffer_bytes buffer ≡ flat_map (fixed_value (kind_of data_type.now)) (kind_cells (kind_of data_type.now) runs.now)) }
+    ensures { IfOk result (λ buffer. built_bytes buffer ≡ flat_map (fixed_value (kind_of data_type.now)) (kind_cells (kind_of data_type.now) runs.now)) }
 {
-    if let Some(SlotRun::Slots { array, from, len }) = only_run(runs) {
-        if are_slots_as_written(data_type, array, from, len) {
-            return Ok(Buffer::Borrowed(run_slice(data_type, width, array, from, len)));
+    if let Some(run) = only_run(runs) {
+        if let Some(slice) = written_slice(data_type, width, &run) {
+            return Ok(BuiltBuffer::Whole(Buffer::Borrowed(slice)));
         }
+    } else if let Some(slices) = long_slices(alloc, data_type, width, runs)? {
+        return Ok(BuiltBuffer::Slices(slices));
     }
-    Ok(Buffer::Made(copied_values(alloc, data_type, width, runs)?))
+    Ok(BuiltBuffer::Whole(Buffer::Made(copied_values(alloc, data_type, width, runs)?)))
 }
 
 /// Returns the values of runs under a mask, with zeros for nulls.
@@ -193,11 +254,11 @@ pub(crate) fn masked_values<'a>(
     width: usize,
     runs: &[SlotRun<'a>],
     mask: &[u8],
-) -> Result<Buffer<'a>, AllocError>
+) -> Result<BuiltBuffer<'a>, AllocError>
     requires width { fixed_width (kind_of data_type.now) ≡ Some width }
     requires sound { are_runs_sound (plain_column (kind_of data_type.now) None) runs.now ≡ true }
     requires mask { IsMask mask.now runs.now }
-    ensures { IfOk result (λ buffer. buffer_bytes buffer
+    ensures { IfOk result (λ buffer. built_bytes buffer
         ≡ flat_map (fixed_value (kind_of data_type.now)) (masked_cells (plain_column (kind_of data_type.now) None) mask.now runs.now)) }
 {
     if mask.is_empty() {
@@ -206,5 +267,5 @@ pub(crate) fn masked_values<'a>(
     let slots = count_slots(runs)?;
     let mut values = copied_values(alloc, data_type, width, runs)?;
     clear_unset(values.as_mut_slice(), 0, width, mask, 0, slots);
-    Ok(Buffer::Made(values))
+    Ok(BuiltBuffer::Whole(Buffer::Made(values)))
 }

@@ -1,11 +1,14 @@
 -- The nodes and buffers of a batch and of its dictionaries, as arrays are added to them (Arrow columnar format, "RecordBatch message" and
 -- "DictionaryBatch message").
+use Rattle.std.specs.Borrow.{Bor}
 use Rattle.std.specs.Prelude.{ℕ, true, List, [], ◌++◌, map, Option}
 use Rattle.std.specs.List.{flat_map}
 use Rattle.arrow_schema.specs.Column.{Index, Kind, Column, Columns, column}
 use Rattle.batch_build.specs.declared.batch.Buffer.{Buffer}
 use Rattle.batch_build.specs.declared.batch.Buffer.TheVariants.{Made, Borrowed}
 use Rattle.batch_build.specs.declared.batch.BuiltBatch.{BuiltBatch}
+use Rattle.batch_build.specs.declared.batch.BuiltBuffer.{BuiltBuffer}
+use Rattle.batch_build.specs.declared.batch.BuiltBuffer.TheVariants.{Whole, Slices}
 use Rattle.batch_build.specs.declared.batch.BuiltDictionary.{BuiltDictionary}
 use Rattle.cells.specs.Cell.{Cell}
 use Rattle.columns.specs.Alone.{own_column, own_array}
@@ -44,13 +47,21 @@ batch_of ts = with_arrays no_batch ts
 
 -- ---- the batch of the code
 
--- the bytes of a buffer, made or borrowed
+-- bytes that were made, or borrowed
 abbrev pub buffer_bytes : Buffer → List ℕ
 buffer_bytes (Made v) = v.items
 buffer_bytes (Borrowed b) = b.now
 
-abbrev pub buffers_in : List Buffer → List (List ℕ)
-buffers_in buffers = map buffer_bytes buffers
+abbrev pub joined_slices : List (Bor (List ℕ)) → List ℕ
+joined_slices slices = flat_map (λ (slice : Bor (List ℕ)). slice.now) slices
+
+-- the bytes of a buffer, whole or in slices
+abbrev pub built_bytes : BuiltBuffer → List ℕ
+built_bytes (Whole b) = buffer_bytes b
+built_bytes (Slices v) = joined_slices v.items
+
+abbrev pub buffers_in : List BuiltBuffer → List (List ℕ)
+buffers_in buffers = map built_bytes buffers
 
 -- slots, and how many of them are null
 abbrev pub node_in : ℕ × ℕ → Node

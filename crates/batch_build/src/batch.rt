@@ -1,6 +1,6 @@
 // The nodes and buffers of a batch, as they are built.
-ghost use Rattle.std.specs.Prelude.{◌≡◌, ◌*◌, ◌||◌, ◌==◌, nat_le, true, OnOk, map, length};
-ghost use Rattle.batch_build.specs.Batch.{batch_in, buffer_bytes, no_batch, node_in};
+ghost use Rattle.std.specs.Prelude.{◌≡◌, ◌*◌, ◌||◌, ◌==◌, nat_le, true, OnOk, IfSome, map, length};
+ghost use Rattle.batch_build.specs.Batch.{batch_in, buffer_bytes, built_bytes, joined_slices, no_batch, node_in};
 ghost use Rattle.batch_build.specs.Nodes.{with_node, with_buffer, with_slots, with_validity};
 ghost use Rattle.columns.specs.Borrowed.{borrowed_cell};
 
@@ -8,7 +8,7 @@ use crate::valid_bits::{unset_bits, validity};
 use std::alloc::{AllocError, Global};
 use values::ValueRef;
 
-/// The bytes of a buffer: made for it, or borrowed from an array.
+/// Bytes that were made, or that are borrowed from an array.
 #[derive(Drop)]
 pub enum Buffer<'a> {
     Made(Vec<u8>),
@@ -27,12 +27,45 @@ impl Buffer<'_> {
     }
 }
 
+/// A buffer of an array that was built: its bytes as a whole, or slices that are borrowed from several arrays, one after another.
+#[derive(Drop)]
+pub enum BuiltBuffer<'a> {
+    Whole(Buffer<'a>),
+    Slices(Vec<&'a [u8]>),
+}
+
+// Returns how many bytes slices have, if that fits into 64 bits.
+fn count_bytes(slices: &[&[u8]]) -> Option<usize>
+    ensures { IfSome result (λ count. count ≡ length (joined_slices slices.now)) }
+{
+    let mut count: usize = 0;
+    for slice in slices {
+        let Some(more) = count.checked_add(slice.len()) else {
+            return None;
+        };
+        count = more;
+    }
+    Some(count)
+}
+
+impl BuiltBuffer<'_> {
+    /// Returns how many bytes the buffer has, or nothing if that does not fit into 64 bits: slices may have bytes in common.
+    pub fn len(&self) -> Option<usize>
+        ensures { IfSome result (λ count. count ≡ length (built_bytes self.now)) }
+    {
+        match self {
+            BuiltBuffer::Whole(buffer) => Some(buffer.bytes().len()),
+            BuiltBuffer::Slices(slices) => count_bytes(slices),
+        }
+    }
+}
+
 /// The batch of a dictionary's values: how many there are, a node of each array (its slots and its null count), and all buffers.
 #[derive(Drop)]
 pub struct BuiltDictionary<'a> {
     pub slots: u64,
     pub nodes: Vec<(u64, u64)>,
-    pub buffers: Vec<Buffer<'a>>,
+    pub buffers: Vec<BuiltBuffer<'a>>,
 }
 
 /// A batch: a node of each array (its slots and its null count), all buffers, and the dictionaries of its columns, in the order of their columns
@@ -40,7 +73,7 @@ pub struct BuiltDictionary<'a> {
 #[derive(Drop)]
 pub struct BuiltBatch<'a> {
     pub nodes: Vec<(u64, u64)>,
-    pub buffers: Vec<Buffer<'a>>,
+    pub buffers: Vec<BuiltBuffer<'a>>,
     pub dictionaries: Vec<BuiltDictionary<'a>>,
 }
 
@@ -72,13 +105,16 @@ pub fn push_node(
     Ok(())
 }
 
-/// Adds a buffer, made or borrowed.
+/// Adds a buffer in any form.
 ///
 /// # Errors
 /// `AllocError` if memory was refused: the batch must not be used then.
 #[tactic(auto, unfolding(crate::specs::Batch::batch_in, crate::specs::Nodes::with_buffer))]
-pub fn push_any_buffer<'a>(batch: &mut BuiltBatch<'a>, buffer: Buffer<'a>) -> Result<(), AllocError>
-    ensures { OnOk result (batch_in batch.new ≡ with_buffer (batch_in batch.old) (buffer_bytes buffer.entry)) }
+pub fn push_any_buffer<'a>(
+    batch: &mut BuiltBatch<'a>,
+    buffer: BuiltBuffer<'a>,
+) -> Result<(), AllocError>
+    ensures { OnOk result (batch_in batch.new ≡ with_buffer (batch_in batch.old) (built_bytes buffer.entry)) }
 {
     batch.buffers.push(buffer)?;
     Ok(())
@@ -91,7 +127,7 @@ pub fn push_any_buffer<'a>(batch: &mut BuiltBatch<'a>, buffer: Buffer<'a>) -> Re
 pub fn push_buffer(batch: &mut BuiltBatch<'_>, buffer: Vec<u8>) -> Result<(), AllocError>
     ensures { OnOk result (batch_in batch.new ≡ with_buffer (batch_in batch.old) buffer.items) }
 {
-    push_any_buffer(batch, Buffer::Made(buffer))
+    push_any_buffer(batch, BuiltBuffer::Whole(Buffer::Made(buffer)))
 }
 
 /// Adds the node and the validity bitmap of slots: it is empty if none is null, and else has a bit for each slot, which is set if it is not null

@@ -29,8 +29,8 @@ mod value_bytes;
 mod widths;
 
 pub use batch::{
-    Buffer, BuiltBatch, BuiltDictionary, empty_batch, push_any_buffer, push_buffer, push_node,
-    push_validity,
+    Buffer, BuiltBatch, BuiltBuffer, BuiltDictionary, empty_batch, push_any_buffer, push_buffer,
+    push_node, push_validity,
 };
 pub use building::{build, build_values};
 pub use coded_cells::{push_dictionary, values_of};

@@ -1,24 +1,25 @@
 -- The bytes of buffers, as a loop goes over them.
-use Rattle.std.proofs.Common.{◌≡◌, ℕ, ◌+◌, ◌<◌, List, [], ◌∷◌, ◌++◌, map, length, get_or, take, drop, ap, sym, ◌∙◌, append_assoc, length-append}
-use Rattle.std.proofs.lemmas.List.{map_push}
+use Rattle.std.specs.List.{flat_map}
+use Rattle.std.proofs.Common.{◌≡◌, ℕ, ◌+◌, ◌<◌, List, [], ◌∷◌, ◌++◌, Bor, map, length, get_or, take, drop, ap, sym, ◌∙◌, append_assoc, append-nil, length-append}
+use Rattle.std.proofs.lemmas.List.{drop_more, map_push}
+use Rattle.std.proofs.lemmas.List.Concat.{flat_map-append}
 use Rattle.facts.specs.laws.Lists.{drop-item, take-item}
-use Rattle.batch_build.specs.Batch.{buffer_bytes, buffers_in}
+use Rattle.batch_build.specs.Batch.{buffer_bytes, buffers_in, built_bytes, joined_slices}
 use Rattle.batch_build.specs.declared.batch.Buffer.{Buffer}
+use Rattle.batch_build.specs.declared.batch.BuiltBuffer.{BuiltBuffer}
 use Rattle.ipc_encode.specs.View.{joined_parts}
 
--- one buffer more is seen
-pub buffers_more : (bs : List Buffer) (i : ℕ) (b : Buffer) (bytes : List ℕ) → i < length bs → b ≡ get_or bs i b → bytes ≡ buffer_bytes b → buffers_in (take (i + 1) bs) ≡ buffers_in (take i bs) ++ bytes ∷ []
-buffers_more bs i b bytes lt is same =
-    ap buffers_in (take-item bs i b lt is) ∙ map_push buffer_bytes (take i bs) b ∙ ap (λ (xs : List ℕ). buffers_in (take i bs) ++ xs ∷ []) (sym same)
+-- one more length is seen
+pub lengths_more : (bs : List BuiltBuffer) (i : ℕ) (b : BuiltBuffer) (n : ℕ) → i < length bs → b ≡ get_or bs i b → n ≡ length (built_bytes b)
+    → map length (buffers_in (take (i + 1) bs)) ≡ map length (buffers_in (take i bs)) ++ n ∷ []
+lengths_more bs i b n lt is same =
+    let before : List ℕ = map length (buffers_in (take i bs)) in
+    let one : buffers_in (take (i + 1) bs) ≡ buffers_in (take i bs) ++ built_bytes b ∷ [] = ap buffers_in (take-item bs i b lt is) ∙ map_push built_bytes (take i bs) b in
+    ap (λ (xs : List (List ℕ)). map length xs) one ∙ map_push (λ (xs : List ℕ). length xs) (buffers_in (take i bs)) (built_bytes b)
+    ∙ ap (λ (k : ℕ). before ++ k ∷ []) (sym same)
 
--- and its length
-pub lengths_more : (bs : List Buffer) (i : ℕ) (b : Buffer) (bytes : List ℕ) → i < length bs → b ≡ get_or bs i b → bytes ≡ buffer_bytes b
-    → map length (buffers_in (take (i + 1) bs)) ≡ map length (buffers_in (take i bs)) ++ length bytes ∷ []
-lengths_more bs i b bytes lt is same =
-    ap (λ (xs : List (List ℕ)). map length xs) (buffers_more bs i b bytes lt is same) ∙ map_push (λ (xs : List ℕ). length xs) (buffers_in (take i bs)) bytes
-
--- the bytes of the buffer at a place stand before those after it
-pub joined_next : (bs : List Buffer) (i : ℕ) (b : Buffer) (bytes : List ℕ) → i < length bs → b ≡ get_or bs i b → bytes ≡ buffer_bytes b → joined_parts (drop i bs) ≡ bytes ++ joined_parts (drop (i + 1) bs)
+-- the bytes of the part at a place stand before those after it
+joined_next : (bs : List Buffer) (i : ℕ) (b : Buffer) (bytes : List ℕ) → i < length bs → b ≡ get_or bs i b → bytes ≡ buffer_bytes b → joined_parts (drop i bs) ≡ bytes ++ joined_parts (drop (i + 1) bs)
 joined_next bs i b bytes lt is same = ap joined_parts (drop-item bs i b lt is) ∙ ap (λ (xs : List ℕ). xs ++ joined_parts (drop (i + 1) bs)) (sym same)
 
 pub joined_len : (bs : List Buffer) (i : ℕ) (b : Buffer) (bytes : List ℕ) → i < length bs → b ≡ get_or bs i b → bytes ≡ buffer_bytes b
@@ -32,3 +33,17 @@ joined_more bs i b bytes old new all lt is same added was =
     ∙ append_assoc old bytes (joined_parts (drop (i + 1) bs))
     ∙ ap (λ (xs : List ℕ). old ++ xs) (sym (joined_next bs i b bytes lt is same))
     ∙ was
+
+-- one slice more is joined
+pub slice_joined : (ss : List (Bor (List ℕ))) (i : ℕ) (d : Bor (List ℕ)) (old new all : List ℕ) → i < length ss → new ≡ old ++ (get_or ss i d).now → old ++ joined_slices (drop i ss) ≡ all
+    → new ++ joined_slices (drop (i + 1) ss) ≡ all
+slice_joined ss i d old new all lt added was =
+    ap (λ (xs : List ℕ). xs ++ joined_slices (drop (i + 1) ss)) added
+    ∙ append_assoc old (get_or ss i d).now (joined_slices (drop (i + 1) ss))
+    ∙ sym (ap (λ (left : List (Bor (List ℕ))). old ++ joined_slices left) (drop_more ss i d lt))
+    ∙ was
+
+-- a part more
+pub part_joined : (old new : List Buffer) (part : Buffer) → new ≡ old ++ part ∷ [] → joined_parts new ≡ joined_parts old ++ buffer_bytes part
+part_joined old new part added =
+    ap joined_parts added ∙ flat_map-append buffer_bytes old (part ∷ []) ∙ ap (λ (xs : List ℕ). joined_parts old ++ xs) (append-nil (buffer_bytes part))

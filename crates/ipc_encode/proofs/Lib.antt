@@ -1,5 +1,6 @@
 mod Alone
 mod BufferLemmas
+mod Gathering
 mod Meant
 mod PartLemmas
 mod RunSteps

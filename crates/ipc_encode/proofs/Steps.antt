@@ -47,9 +47,8 @@ room_of : (nodes : List Node) (buffers : List (List ℕ)) → HasRoom (length (m
 room_of nodes buffers room = subst (λ (n : ℕ). HasRoom n buffers) (length-map nodes raw_node) room
 
 -- and for those of the code
-pub code_room : (nodes : List (ℕ × ℕ)) (given buffers : List (List ℕ)) → given ≡ buffers → AreFew (map node_in nodes) buffers → HasRoom (length nodes) given
-code_room nodes given buffers same few =
-    subst (λ (bs : List (List ℕ)). HasRoom (length nodes) bs) (sym same) (subst (λ (n : ℕ). HasRoom n buffers) (length-map nodes node_in) few)
+pub code_room : (nodes : List (ℕ × ℕ)) (buffers : List (List ℕ)) → AreFew (map node_in nodes) buffers → HasRoom (length nodes) buffers
+code_room nodes buffers few = subst (λ (n : ℕ). HasRoom n buffers) (length-map nodes node_in) few
 
 one_few : EntriesLaw → (t : Typed) → IsBuiltAlone 16777216 t → length (preorder_all (own_column t)) ≤ 2048 → HasFew (dictionary_of t)
 one_few law t alone few = room_of (nodes_of (own_column t) (own_array t)) (buffers_of (own_column t) (own_array t)) (law t alone few).room
@@ -98,24 +97,12 @@ nodes_are : (nodes : List (ℕ × ℕ)) → map written_node nodes ≡ map raw_n
 nodes_are [] = refl
 nodes_are (n ∷ ns) = ap (λ (x : List RawNode). written_node n ∷ x) (nodes_are ns)
 
-pub entries_are : (id slots : ℕ) (nodes : List (ℕ × ℕ)) (given buffers : List (List ℕ)) → given ≡ buffers
-    → dictionary_message id false slots (map written_node nodes) given ≡ dictionary_message id false slots (map raw_node (map node_in nodes)) buffers
-entries_are id slots nodes given buffers same i = dictionary_message id false slots (nodes_are nodes i) (same i)
+pub entries_are : (id slots : ℕ) (nodes : List (ℕ × ℕ)) (buffers : List (List ℕ))
+    → dictionary_message id false slots (map written_node nodes) buffers ≡ dictionary_message id false slots (map raw_node (map node_in nodes)) buffers
+entries_are id slots nodes buffers = ap (λ (ns : List RawNode). dictionary_message id false slots ns buffers) (nodes_are nodes)
 
-pub batch_is : (rows : ℕ) (nodes : List (ℕ × ℕ)) (given buffers : List (List ℕ)) → given ≡ buffers
-    → batch_message rows (map written_node nodes) given ≡ batch_message rows (map raw_node (map node_in nodes)) buffers
-batch_is rows nodes given buffers same i = batch_message rows (nodes_are nodes i) (same i)
-
--- what is known of fronts: a clause of a law
-abbrev pub FrontsLaw : Type 0
-FrontsLaw = (rows : ℕ) (nodes : List RawNode) (front : List ℕ) (buffers others : List (List ℕ)) → map length buffers ≡ map length others
-    → front ++ body buffers ≡ batch_message rows nodes buffers → front ++ body others ≡ batch_message rows nodes others
-
--- the front of a record batch is that of any buffers as long as its own
-pub front_of : FrontsLaw → (rows : ℕ) (nodes own : List (ℕ × ℕ)) (lengths front : List ℕ) (given : List (List ℕ)) → own ≡ nodes → lengths ≡ map length given
-    → IsFront front rows (map node_in nodes) given → (buffers : List (List ℕ)) → map length buffers ≡ lengths → IsFront front rows (map node_in own) buffers
-front_of law rows nodes own lengths front given same are is buffers like =
-    law rows (map raw_node (map node_in nodes)) front given buffers (sym are ∙ sym like) is ∙ ap (λ (ns : List (ℕ × ℕ)). built_batch rows (map node_in ns) buffers) (sym same)
+pub batch_is : (rows : ℕ) (nodes : List (ℕ × ℕ)) (buffers : List (List ℕ)) → batch_message rows (map written_node nodes) buffers ≡ batch_message rows (map raw_node (map node_in nodes)) buffers
+batch_is rows nodes buffers = ap (λ (ns : List RawNode). batch_message rows ns buffers) (nodes_are nodes)
 
 -- ---- limits of a piece
 

@@ -12,15 +12,15 @@ ghost use Rattle.ipc_encode.specs.inner.Stream.{stream_in};
 ghost use Rattle.ipc_write.specs.Written.{body};
 ghost use Rattle.columns.specs.Borrowed.{borrowed_cells};
 
-use crate::front::{BatchFront, borrowed};
+use crate::front::{BatchFront, lengths_of};
 use crate::stream::{Stream, push_body};
 use array_build::build_runs;
 use arrow_schema::Schema;
-use batch_build::{Buffer, BuiltBatch, BuiltDictionary, build};
+use batch_build::{BuiltBatch, BuiltBuffer, BuiltDictionary, build};
 use columns::{dictionaries_are_written_alone, written_arrays_have_their_shape};
 use dictionary_codes::KnownEntries;
 use ipc_canonical::{written_batches_pass, written_entries_are_read};
-use ipc_write::{BatchContents, write_dictionary_front};
+use ipc_write::{BatchShape, write_dictionary_front};
 use std::alloc::{AllocError, Global};
 use table_cut::{RowRun, RunPiece, column_runs};
 use values::Values;
@@ -32,19 +32,19 @@ fn write_entries_front(
     id: u64,
     slots: u64,
     nodes: Vec<(u64, u64)>,
-    buffers: &[Buffer<'_>],
+    buffers: &[BuiltBuffer<'_>],
 ) -> Result<(), AllocError>
     requires { AreFew (map node_in nodes.items) (buffers_in buffers.now) }
     ensures { OnOk result (out.new.items ++ body (buffers_in buffers.now)
         ≡ out.old.items ++ built_message id (record { slots = slots; nodes = map node_in nodes.items; buffers = buffers_in buffers.now })) }
 {
-    let buffers = borrowed(alloc, buffers)?;
-    let contents = BatchContents {
+    let lengths = lengths_of(alloc, buffers)?;
+    let shape = BatchShape {
         rows: slots,
         nodes,
-        buffers: &buffers,
+        lengths: &lengths,
     };
-    write_dictionary_front(alloc, out, id, false, contents)
+    write_dictionary_front(alloc, out, id, false, shape)
 }
 
 fn write_entries<'a>(
@@ -89,7 +89,7 @@ fn write_rows_front(
     kept: &mut Option<BatchFront>,
     rows: usize,
     nodes: Vec<(u64, u64)>,
-    buffers: &[Buffer<'_>],
+    buffers: &[BuiltBuffer<'_>],
 ) -> Result<(), AllocError>
     requires { AreFew (map node_in nodes.items) (buffers_in buffers.now) }
     ensures { OnOk result (out.new.items ++ body (buffers_in buffers.now)
@@ -113,7 +113,7 @@ fn write_rows<'a>(
     kept: &mut Option<BatchFront>,
     rows: usize,
     nodes: Vec<(u64, u64)>,
-    buffers: Vec<Buffer<'a>>,
+    buffers: Vec<BuiltBuffer<'a>>,
 ) -> Result<(), AllocError>
     requires { AreFew (map node_in nodes.items) (buffers_in buffers.items) }
     ensures { OnOk result (stream_in stream.new

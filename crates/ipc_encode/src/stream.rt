@@ -1,11 +1,11 @@
 // A stream as it is written: large buffers are parts of their own, which are not copied, and everything else is joined.
 ghost use Rattle.std.specs.Prelude.{◌≡◌, ◌+◌, ◌++◌, ◌<◌, ◌^◌, [], OnOk, IfOk, IfSome, length};
-ghost use Rattle.batch_build.specs.Batch.{buffer_bytes, buffers_in};
+ghost use Rattle.batch_build.specs.Batch.{buffer_bytes, buffers_in, built_bytes, joined_slices};
 ghost use Rattle.ipc_encode.specs.View.{joined_parts};
 ghost use Rattle.ipc_encode.specs.inner.Stream.{stream_in};
 ghost use Rattle.ipc_write.specs.Written.{body, end_of_stream, padded};
 
-use batch_build::Buffer;
+use batch_build::{Buffer, BuiltBuffer};
 use ipc_write::{write_end, write_padding};
 use std::alloc::{AllocError, Global};
 use std::mem;
@@ -54,31 +54,75 @@ fn push_part<'a>(
     Ok(())
 }
 
+// Appends the bytes of slices to those joined so far.
+fn join_slices(last: &mut Vec<u8>, slices: &[&[u8]]) -> Result<(), AllocError>
+    ensures { OnOk result (last.new.items ≡ last.old.items ++ joined_slices slices.now) }
+{
+    for slice in slices {
+        last.extend_from_slice(slice)?;
+    }
+    Ok(())
+}
+
+// Appends a part for each slice.
+fn push_each<'a>(parts: &mut Vec<Buffer<'a>>, slices: &[&'a [u8]]) -> Result<(), AllocError>
+    ensures { OnOk result (joined_parts parts.new.items ≡ joined_parts parts.old.items ++ joined_slices slices.now) }
+{
+    for slice in slices {
+        parts.push(Buffer::Borrowed(slice))?;
+    }
+    Ok(())
+}
+
+// Appends slices as a part each, after the bytes joined so far.
+#[tactic(auto, unfolding(crate::specs::inner::Stream::stream_in))]
+fn push_slices<'a>(
+    alloc: Global,
+    stream: &mut Stream<'a>,
+    slices: &[&'a [u8]],
+) -> Result<(), AllocError>
+    ensures { OnOk result (stream_in stream.new ≡ stream_in stream.old ++ joined_slices slices.now) }
+{
+    let last = mem::replace(&mut stream.last, Vec::new(alloc));
+    stream.parts.push(Buffer::Made(last))?;
+    push_each(&mut stream.parts, slices)
+}
+
+// Appends a buffer of this length.
 #[tactic(auto, unfolding(crate::specs::inner::Stream::stream_in))]
 fn push_buffer<'a>(
     alloc: Global,
     stream: &mut Stream<'a>,
-    buffer: Buffer<'a>,
+    buffer: BuiltBuffer<'a>,
+    length: usize,
 ) -> Result<(), AllocError>
-    ensures { OnOk result (stream_in stream.new ≡ stream_in stream.old ++ buffer_bytes buffer.entry) }
+    ensures { OnOk result (stream_in stream.new ≡ stream_in stream.old ++ built_bytes buffer.entry) }
 {
-    if buffer.bytes().len() < LEAST_PART {
-        return stream.last.extend_from_slice(buffer.bytes());
+    match buffer {
+        BuiltBuffer::Whole(buffer) if length < LEAST_PART => {
+            stream.last.extend_from_slice(buffer.bytes())
+        }
+        BuiltBuffer::Whole(buffer) => push_part(alloc, stream, buffer),
+        BuiltBuffer::Slices(slices) if length < LEAST_PART => {
+            join_slices(&mut stream.last, &slices)
+        }
+        BuiltBuffer::Slices(slices) => push_slices(alloc, stream, &slices),
     }
-    push_part(alloc, stream, buffer)
 }
 
-// Appends a buffer, and zeros up to a multiple of 8.
+// Appends a buffer, and zeros up to a multiple of 8. A length that does not fit into 64 bits is an `AllocError` too.
 #[tactic(auto, unfolding(crate::specs::inner::Stream::stream_in))]
 fn push_padded<'a>(
     alloc: Global,
     stream: &mut Stream<'a>,
-    buffer: Buffer<'a>,
+    buffer: BuiltBuffer<'a>,
 ) -> Result<(), AllocError>
-    ensures { OnOk result (stream_in stream.new ≡ stream_in stream.old ++ padded (buffer_bytes buffer.entry)) }
+    ensures { OnOk result (stream_in stream.new ≡ stream_in stream.old ++ padded (built_bytes buffer.entry)) }
 {
-    let length = buffer.bytes().len();
-    push_buffer(alloc, stream, buffer)?;
+    let Some(length) = buffer.len() else {
+        return Err(AllocError);
+    };
+    push_buffer(alloc, stream, buffer, length)?;
     write_padding(&mut stream.last, length)
 }
 
@@ -86,7 +130,7 @@ fn push_padded<'a>(
 pub(crate) fn push_body<'a>(
     alloc: Global,
     stream: &mut Stream<'a>,
-    buffers: Vec<Buffer<'a>>,
+    buffers: Vec<BuiltBuffer<'a>>,
 ) -> Result<(), AllocError>
     ensures { OnOk result (stream_in stream.new ≡ stream_in stream.old ++ body (buffers_in buffers.entry.items)) }
 {

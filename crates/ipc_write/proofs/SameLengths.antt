@@ -1,14 +1,11 @@
--- Buffers of the same lengths: where they stand, and all of a record batch's message but its body.
+-- Buffers of the same lengths: where they stand, and how long their body is.
 use Rattle.std.specs.Prelude.{false}
-use Rattle.std.proofs.Common.{◌≡◌, ℕ, ◌+◌, ◌-◌, ◌%◌, List, [], ◌∷◌, ◌++◌, map, length, replicate, refl, arith, sym, ap, ◌∙◌, length-append}
-use Rattle.std.proofs.lemmas.List.{append_cancel_right, length-replicate}
-use Rattle.flatbuf.specs.Laid.{metadata}
+use Rattle.std.proofs.Common.{◌≡◌, ℕ, ◌+◌, ◌-◌, ◌%◌, List, [], ◌∷◌, map, length, replicate, refl, arith, sym, ap, ◌∙◌, length-append}
+use Rattle.std.proofs.lemmas.List.{length-map, length-replicate}
 use Rattle.ipc_message.specs.Raw.{RawNode, RawBuffer}
-use Rattle.ipc_message.specs.declared.header_type.TheConstants.{RECORD_BATCH}
-use Rattle.ipc_write.specs.Trees.{batch_tree, message_tree}
-use Rattle.ipc_write.specs.Written.{framed, padded, body, placed, batch_of, batch_envelope, batch_message}
-use Rattle.ipc_write.proofs.BatchNode.{batch_is}
-use Rattle.ipc_write.proofs.Fronts.{front_and}
+use Rattle.ipc_write.specs.Trees.{batch_tree, buffer_pair}
+use Rattle.ipc_write.specs.Written.{padded, body, placed, batch_of, HasRoom}
+use Rattle.ipc_write.specs.inner.Zeros.{zeros}
 
 pub length-padded : (b : List ℕ) → length (padded b) ≡ length b + (8 - length b % 8) % 8
 length-padded b = length-append b (replicate ((8 - length b % 8) % 8) 0) ∙ ap (λ (n : ℕ). length b + n) (length-replicate {A = ℕ} ((8 - length b % 8) % 8) 0)
@@ -42,19 +39,47 @@ same_placed at (b ∷ bs) (c ∷ cs) same =
     let placed_at : ℕ → RawBuffer = λ n. record { offset = at; length = n } in
     λ i. placed_at (first i) ∷ rest i
 
-same_metadata : (rows : ℕ) (nodes : List RawNode) (buffers others : List (List ℕ)) → map length buffers ≡ map length others
-    → (batch_envelope rows nodes buffers).metadata ≡ (batch_envelope rows nodes others).metadata
-same_metadata rows nodes buffers others same =
-    let places : placed 0 buffers ≡ placed 0 others = same_placed 0 buffers others same in
-    let size : length (body buffers) ≡ length (body others) = same_body buffers others same in
-    λ i. metadata (message_tree RECORD_BATCH (batch_tree (record { length = rows; nodes = nodes; buffers = places i; compressed = false })) (size i))
+-- ---- buffers of given lengths
 
-whole : (rows : ℕ) (nodes : List RawNode) (buffers : List (List ℕ)) → framed (batch_envelope rows nodes buffers).metadata [] ++ body buffers ≡ batch_message rows nodes buffers
-whole rows nodes buffers = front_and (batch_envelope rows nodes buffers).metadata (body buffers) ∙ batch_is (batch_tree (batch_of rows nodes buffers)) rows nodes buffers refl
+pub zeros_long : (lengths : List ℕ) → map length (zeros lengths) ≡ lengths
+zeros_long [] = refl
+zeros_long (n ∷ ns) =
+    let first : length (replicate n 0) ≡ n = length-replicate n 0 in
+    let rest : map length (zeros ns) ≡ ns = zeros_long ns in
+    λ i. first i ∷ rest i
 
-pub same_front : (rows : ℕ) (nodes : List RawNode) (front : List ℕ) (buffers others : List (List ℕ)) → map length buffers ≡ map length others
-    → front ++ body buffers ≡ batch_message rows nodes buffers → front ++ body others ≡ batch_message rows nodes others
-same_front rows nodes front buffers others same is =
-    let own : front ≡ framed (batch_envelope rows nodes buffers).metadata [] =
-    append_cancel_right front (framed (batch_envelope rows nodes buffers).metadata []) (body buffers) (is ∙ sym (whole rows nodes buffers)) in
-    ap (λ (x : List ℕ). x ++ body others) (own ∙ ap (λ (m : List ℕ). framed m []) (same_metadata rows nodes buffers others same)) ∙ whole rows nodes others
+padded_long : (n : ℕ) → length (padded (replicate n 0)) ≡ n + (8 - n % 8) % 8
+padded_long n = length-padded (replicate n 0) ∙ ap (λ (k : ℕ). k + (8 - k % 8) % 8) (length-replicate n 0)
+
+-- the place of one buffer, and those of the others behind it
+pub next_placed : (at n : ℕ) (ns : List ℕ)
+    → map buffer_pair (placed at (zeros (n ∷ ns))) ≡ (at, n) ∷ map buffer_pair (placed (at + (n + (8 - n % 8) % 8)) (zeros ns))
+next_placed at n ns =
+    let long : length (replicate n 0) ≡ n = length-replicate n 0 in
+    let end : length (padded (replicate n 0)) ≡ n + (8 - n % 8) % 8 = padded_long n in
+    λ i. (at, long i) ∷ map buffer_pair (placed (at + end i) (zeros ns))
+
+pub next_body : (n : ℕ) (ns : List ℕ) → length (body (zeros (n ∷ ns))) ≡ (n + (8 - n % 8) % 8) + length (body (zeros ns))
+next_body n ns = length-append (padded (replicate n 0)) (body (zeros ns)) ∙ ap (λ (k : ℕ). k + length (body (zeros ns))) (padded_long n)
+
+-- a message has room for buffers of the same lengths
+pub room_for_zeros : (nodes : ℕ) (lengths : List ℕ) (buffers : List (List ℕ)) → map length buffers ≡ lengths → HasRoom nodes buffers → HasRoom nodes (zeros lengths)
+room_for_zeros nodes lengths buffers same room =
+    let long : map length (zeros lengths) ≡ map length buffers = zeros_long lengths ∙ sym same in
+    let count : length (zeros lengths) ≡ length buffers =
+    sym (length-map (zeros lengths) length) ∙ ap (λ (ns : List ℕ). length ns) long ∙ length-map buffers length in
+    record {
+      few_nodes = room.few_nodes;
+      few_buffers = rw count room.few_buffers;
+      short_body = rw (same_body (zeros lengths) buffers long) room.short_body;
+    }
+
+-- the batch of buffers of given lengths
+pub same_batch : (rows : ℕ) (nodes : List RawNode) (lengths : List ℕ) (buffers : List (List ℕ)) → map length buffers ≡ lengths
+    → batch_tree (batch_of rows nodes (zeros lengths)) ≡ batch_tree (batch_of rows nodes buffers)
+same_batch rows nodes lengths buffers same =
+    ap (λ (places : List RawBuffer). batch_tree (record { length = rows; nodes = nodes; buffers = places; compressed = false }))
+    (same_placed 0 (zeros lengths) buffers (zeros_long lengths ∙ sym same))
+
+pub same_end : (lengths : List ℕ) (buffers : List (List ℕ)) → map length buffers ≡ lengths → length (body (zeros lengths)) ≡ length (body buffers)
+same_end lengths buffers same = same_body (zeros lengths) buffers (zeros_long lengths ∙ sym same)

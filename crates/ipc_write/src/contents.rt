@@ -15,3 +15,13 @@ pub struct BatchContents<'a> {
     pub nodes: Vec<(u64, u64)>,
     pub buffers: &'a [&'a [u8]],
 }
+
+/// All of a batch's contents but the bytes of its buffers: a message without its body depends on nothing else. The limits are those of
+/// [`BatchContents`].
+#[derive(Drop)]
+pub struct BatchShape<'a> {
+    pub rows: u64,
+    pub nodes: Vec<(u64, u64)>,
+    /// How many bytes each buffer has.
+    pub lengths: &'a [usize],
+}

@@ -7,11 +7,12 @@ ghost use Rattle.flatbuf.specs.Held.{Fits, FitsStructs};
 ghost use Rattle.flatbuf.specs.Laid.{metadata};
 ghost use Rattle.flatbuf.specs.View.{node_of};
 ghost use Rattle.ipc_message.specs.Framing.{continuation_marker};
-ghost use Rattle.ipc_write.specs.Contents.{CanBeWritten, nodes_in, buffers_in};
+ghost use Rattle.ipc_write.specs.Contents.{CanBeWritten, HasRoomFor, nodes_in, buffers_in, shape_nodes};
+ghost use Rattle.ipc_write.specs.inner.Zeros.{zeros};
 ghost use Rattle.ipc_write.specs.Trees.{batch_tree, message_tree, buffer_pair};
-ghost use Rattle.ipc_write.specs.Written.{framed, message_bytes, schema_message, dictionary_message, batch_message, batch_of, IsWritableBatch, end_of_stream, padded, body, placed};
+ghost use Rattle.ipc_write.specs.Written.{framed, message_bytes, schema_message, dictionary_message, batch_message, batch_of, HasRoom, IsWritableBatch, end_of_stream, padded, body, placed};
 
-use crate::contents::BatchContents;
+use crate::contents::{BatchContents, BatchShape};
 use crate::laws::metadata_is_within_its_limit;
 use crate::trees::{batch_node, dictionary_node, message_node, schema_node};
 use arrow_schema::Schema;
@@ -139,16 +140,16 @@ pub fn encode_schema(alloc: Global, schema: &Schema) -> Result<Vec<u8>, AllocErr
 
 /// Returns the offset and length of each buffer in the body, and the length of the body.
 #[tactic(auto, using(crate::proofs::BatchNode::fits_more))]
-fn ranges_of(alloc: Global, buffers: &[&[u8]]) -> Result<(Vec<(u64, u64)>, u64), AllocError>
-    requires { length (body (map (λ b. b.now) buffers.now)) < 2 ^ 62 }
-    ensures ranges { IfOk result (λ r. r.0.items ≡ map buffer_pair (placed 0 (map (λ b. b.now) buffers.now))) }
+fn ranges_of(alloc: Global, lengths: &[usize]) -> Result<(Vec<(u64, u64)>, u64), AllocError>
+    requires { length (body (zeros lengths.now)) < 2 ^ 62 }
+    ensures ranges { IfOk result (λ r. r.0.items ≡ map buffer_pair (placed 0 (zeros lengths.now))) }
     ensures fits { IfOk result (λ r. FitsStructs r.0.items) }
-    ensures end { IfOk result (λ r. r.1 ≡ length (body (map (λ b. b.now) buffers.now))) }
+    ensures end { IfOk result (λ r. r.1 ≡ length (body (zeros lengths.now))) }
 {
     let mut ranges = Vec::new(alloc);
     let mut end: u64 = 0;
-    for buffer in buffers {
-        let length = buffer.len() as u64;
+    for size in lengths {
+        let length = *size as u64;
         ranges.push((end, length))?;
         end += length + (8 - length % 8) % 8;
     }
@@ -164,26 +165,37 @@ fn numbers_fit(nodes: &[(u64, u64)])
     }
 }
 
-/// Builds the RecordBatch of these contents, and returns it with the length of its body.
-fn batch_header(alloc: Global, contents: BatchContents<'_>) -> Result<(Node, u64), AllocError>
-    requires { CanBeWritten contents }
-    ensures node { IfOk result (λ r. node_of r.0 ≡ batch_tree (batch_of contents.entry.rows (nodes_in contents.entry) (buffers_in contents.entry))) }
-    ensures length { IfOk result (λ r. r.1 ≡ length (body (buffers_in contents.entry))) }
-    ensures writable { IfOk result (λ _. IsWritableBatch contents.entry.rows (nodes_in contents.entry) (buffers_in contents.entry)) }
+/// Builds the RecordBatch of this shape, and returns it with the length of its body.
+fn batch_header(alloc: Global, shape: BatchShape<'_>) -> Result<(Node, u64), AllocError>
+    requires { HasRoom (length shape.nodes.items) (zeros shape.lengths.now) }
+    ensures node { IfOk result (λ r. node_of r.0 ≡ batch_tree (batch_of shape.entry.rows (shape_nodes shape.entry) (zeros shape.entry.lengths.now))) }
+    ensures length { IfOk result (λ r. r.1 ≡ length (body (zeros shape.entry.lengths.now))) }
+    ensures writable { IfOk result (λ _. IsWritableBatch shape.entry.rows (shape_nodes shape.entry) (zeros shape.entry.lengths.now)) }
 {
-    let BatchContents {
+    let BatchShape {
         rows,
         nodes,
-        buffers,
-    } = contents;
+        lengths,
+    } = shape;
     numbers_fit(&nodes);
-    let (ranges, body_length) = ranges_of(alloc, buffers)?;
+    let (ranges, body_length) = ranges_of(alloc, lengths)?;
     let header = batch_node(alloc, rows, nodes, ranges)?;
     Ok((header, body_length))
 }
 
-/// Appends the message that [`write_dictionary`] appends, without its body. The body is the buffers, each padded to a multiple of 8 as
-/// [`write_padding`] does.
+// Returns how many bytes each buffer has.
+fn lengths_of(alloc: Global, buffers: &[&[u8]]) -> Result<Vec<usize>, AllocError>
+    ensures { IfOk result (λ lengths. lengths.items ≡ map length (map (λ b. b.now) buffers.now)) }
+{
+    let mut lengths = Vec::with_capacity(alloc, buffers.len())?;
+    for buffer in buffers {
+        lengths.push_reserved(buffer.len());
+    }
+    Ok(lengths)
+}
+
+/// Appends the message that [`write_dictionary`] appends for buffers of these lengths, without its body. The body is the buffers, each padded to a
+/// multiple of 8 as [`write_padding`] does.
 ///
 /// # Errors
 /// `AllocError` if memory was refused; then nothing is appended.
@@ -192,16 +204,16 @@ pub fn write_dictionary_front(
     out: &mut Vec<u8>,
     id: u64,
     is_delta: bool,
-    contents: BatchContents<'_>,
+    shape: BatchShape<'_>,
 ) -> Result<(), AllocError>
-    requires { CanBeWritten contents }
-    ensures appended { OnOk result (out.new.items ++ body (buffers_in contents.entry) ≡ out.old.items
-        ++ dictionary_message id is_delta contents.entry.rows (nodes_in contents.entry) (buffers_in contents.entry)) }
+    requires { HasRoomFor shape }
+    ensures appended { OnOk result ((buffers : List (List ℕ)) → map length buffers ≡ shape.entry.lengths.now
+        → out.new.items ++ body buffers ≡ out.old.items ++ dictionary_message id is_delta shape.entry.rows (shape_nodes shape.entry) buffers) }
     ensures begins { take (length out.old.items) out.new.items ≡ out.old.items }
     ensures kept { OnErr result (out.new.items ≡ out.old.items) }
 {
     metadata_is_within_its_limit();
-    let (batch, body_length) = batch_header(alloc, contents)?;
+    let (batch, body_length) = batch_header(alloc, shape)?;
     let header = dictionary_node(alloc, id, batch, is_delta)?;
     write_front(alloc, out, DICTIONARY_BATCH, header, body_length)
 }
@@ -223,29 +235,39 @@ pub fn write_dictionary(
     ensures kept { OnErr result (out.new.items ≡ out.old.items) }
 {
     let before = out.len();
-    let buffers = contents.buffers;
-    write_dictionary_front(alloc, out, id, is_delta, contents)?;
+    let BatchContents {
+        rows,
+        nodes,
+        buffers,
+    } = contents;
+    let lengths = lengths_of(alloc, buffers)?;
+    let shape = BatchShape {
+        rows,
+        nodes,
+        lengths: &lengths,
+    };
+    write_dictionary_front(alloc, out, id, is_delta, shape)?;
     put_body_or_cut(out, buffers, before)
 }
 
-/// Appends the message that [`write_batch`] appends, without its body. The body is the buffers, each padded to a multiple of 8 as [`write_padding`]
-/// does.
+/// Appends the message that [`write_batch`] appends for buffers of these lengths, without its body. The body is the buffers, each padded to a multiple
+/// of 8 as [`write_padding`] does.
 ///
 /// # Errors
 /// `AllocError` if memory was refused; then nothing is appended.
 pub fn write_batch_front(
     alloc: Global,
     out: &mut Vec<u8>,
-    contents: BatchContents<'_>,
+    shape: BatchShape<'_>,
 ) -> Result<(), AllocError>
-    requires { CanBeWritten contents }
-    ensures appended { OnOk result (out.new.items ++ body (buffers_in contents.entry) ≡ out.old.items
-        ++ batch_message contents.entry.rows (nodes_in contents.entry) (buffers_in contents.entry)) }
+    requires { HasRoomFor shape }
+    ensures appended { OnOk result ((buffers : List (List ℕ)) → map length buffers ≡ shape.entry.lengths.now
+        → out.new.items ++ body buffers ≡ out.old.items ++ batch_message shape.entry.rows (shape_nodes shape.entry) buffers) }
     ensures begins { take (length out.old.items) out.new.items ≡ out.old.items }
     ensures kept { OnErr result (out.new.items ≡ out.old.items) }
 {
     metadata_is_within_its_limit();
-    let (header, body_length) = batch_header(alloc, contents)?;
+    let (header, body_length) = batch_header(alloc, shape)?;
     write_front(alloc, out, RECORD_BATCH, header, body_length)
 }
 
@@ -264,8 +286,18 @@ pub fn write_batch(
     ensures kept { OnErr result (out.new.items ≡ out.old.items) }
 {
     let before = out.len();
-    let buffers = contents.buffers;
-    write_batch_front(alloc, out, contents)?;
+    let BatchContents {
+        rows,
+        nodes,
+        buffers,
+    } = contents;
+    let lengths = lengths_of(alloc, buffers)?;
+    let shape = BatchShape {
+        rows,
+        nodes,
+        lengths: &lengths,
+    };
+    write_batch_front(alloc, out, shape)?;
     put_body_or_cut(out, buffers, before)
 }
 

@@ -137,9 +137,3 @@ pub fn buffers_stand_in_their_body()
     ensures inside { (buffers : List (List ℕ)) → AllByRecursion (λ (b : RawBuffer). b.offset + b.length ≤ length (body buffers)) (placed 0 buffers) }
     ensures size { (buffers : List (List ℕ)) → length (body buffers) ≤ sum_by length buffers + 8 * length buffers }
 {}
-
-/// A record batch's message without its body depends only on the lengths of its buffers.
-pub fn fronts_depend_on_lengths()
-    ensures { (rows : ℕ) (nodes : List RawNode) (front : List ℕ) (buffers others : List (List ℕ)) → map length buffers ≡ map length others
-        → front ++ body buffers ≡ batch_message rows nodes buffers → front ++ body others ≡ batch_message rows nodes others }
-{}

@@ -19,7 +19,7 @@ mod framing;
 mod laws;
 mod trees;
 
-pub use contents::{BatchContents, MAX_BATCH_BUFFERS, MAX_BATCH_NODES};
+pub use contents::{BatchContents, BatchShape, MAX_BATCH_BUFFERS, MAX_BATCH_NODES};
 pub use framing::{
     encode_schema, write_batch, write_batch_front, write_dictionary, write_dictionary_front,
     write_end, write_padding, write_schema,
@@ -27,6 +27,6 @@ pub use framing::{
 pub use laws::{
     batch_is_read_again, batch_message_is_read_again, buffers_stand_in_their_body,
     dictionary_is_read_again, dictionary_message_is_read_again, field_is_read_again,
-    fronts_depend_on_lengths, message_is_read_again, metadata_is_within_its_limit,
-    schema_is_read_again, schema_message_is_read_again,
+    message_is_read_again, metadata_is_within_its_limit, schema_is_read_again,
+    schema_message_is_read_again,
 };

@@ -1,7 +1,7 @@
 // Tests of batches that are built from rows (batch_build). The expected values are worked out by hand from the standard (Arrow columnar format,
 // "Physical Memory Layout").
 use crate::made::{NotMade, assert_no_row, table_of_lines};
-use batch_build::{Buffer, BuiltBatch, BuiltDictionary, build};
+use batch_build::{BuiltBatch, BuiltBuffer, BuiltDictionary, build};
 use columns::rows_can_be_built;
 use std::alloc::Global;
 use values::Table;
@@ -197,14 +197,14 @@ fn batch_of_row(alloc: Global, table: &Table) -> Result<BuiltBatch<'_>, NotMade>
     }
 }
 
-fn is_buffer(built: Option<&Buffer<'_>>, want: &[u8]) -> bool {
+fn is_buffer(built: Option<&BuiltBuffer<'_>>, want: &[u8]) -> bool {
     match built {
-        Some(built) => built.bytes() == want,
-        None => false,
+        Some(BuiltBuffer::Whole(built)) => built.bytes() == want,
+        _ => false,
     }
 }
 
-fn are_buffers(built: &[Buffer<'_>], want: Buffers) -> bool {
+fn are_buffers(built: &[BuiltBuffer<'_>], want: Buffers) -> bool {
     let mut well = built.len() == want.len();
     let mut place = 0usize;
     for bytes in want {

@@ -34,9 +34,17 @@ built_batch rows nodes buffers = batch_message rows (map raw_node nodes) buffers
 abbrev pub IsFront : (front : List ℕ) (rows : ℕ) → List Node → List (List ℕ) → Type 0
 IsFront front rows nodes buffers = front ++ body buffers ≡ built_batch rows nodes buffers
 
+-- and that of any buffers of these lengths
+abbrev pub IsFrontFor : (front : List ℕ) (rows : ℕ) → List Node → (lengths : List ℕ) → Type 0
+IsFrontFor front rows nodes lengths = (buffers : List (List ℕ)) → map length buffers ≡ lengths → IsFront front rows nodes buffers
+
 -- a message has room for these; whoever writes one makes sure of it
 abbrev pub AreFew : List Node → List (List ℕ) → Type 0
 AreFew nodes buffers = HasRoom (length nodes) buffers
 
 abbrev pub HasFew : PlainDictionary → Type 0
 HasFew d = AreFew d.nodes d.buffers
+
+-- a message has room for buffers of these lengths
+abbrev pub AreFewFor : List Node → (lengths : List ℕ) → Type 0
+AreFewFor nodes lengths = (buffers : List (List ℕ)) × ((map length buffers ≡ lengths) × AreFew nodes buffers)

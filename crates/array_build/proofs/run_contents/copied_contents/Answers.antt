@@ -15,15 +15,15 @@ use Rattle.arrow_schema.specs.View.{kind_of}
 use Rattle.columns.specs.Built.{contents_of}
 use Rattle.facts.specs.laws.Lists.{drop-item}
 
-pub push_contents-requires-clause-sound : goal.push_contents-requires-clause-sound
-push_contents-requires-clause-sound c =
+pub content_slice-requires-clause-sound : goal.content_slice-requires-clause-sound
+content_slice-requires-clause-sound c =
     let col : Column = plain_column (kind_of c.args.data_type.now) None in
     let item = drop-item c.args.runs.now c.loop-run.run-index c.run-item.result c.loop-run-test.true c.run-item.is in
     let others : List SlotRun = drop (c.loop-run.run-index + 1) c.args.runs.now in
     (and_parts (is_run_sound col c.run-item.result) (are_runs_sound col others) (sym (ap (are_runs_sound col) item) ∙ c.loop-run.invariant.sound)).0
 
-pub push_contents-requires-clause-written : goal.push_contents-requires-clause-written
-push_contents-requires-clause-written c =
+pub content_slice-requires-clause-written : goal.content_slice-requires-clause-written
+content_slice-requires-clause-written c =
     let kind : Kind = kind_of c.args.data_type.now in
     let item = drop-item c.args.runs.now c.loop-run.run-index c.run-item.result c.loop-run-test.true c.run-item.is in
     let others : List SlotRun = drop (c.loop-run.run-index + 1) c.args.runs.now in
@@ -43,7 +43,8 @@ loop-run-preserved c =
     record {
       sound = (and_parts (is_run_sound col run) (are_runs_sound col others) (sym (ap (are_runs_sound col) item) ∙ c.loop-run.invariant.sound)).1;
       written = (and_parts (is_run_as_written kind run) (are_runs_as_written kind others) (sym (ap (are_runs_as_written kind) item) ∙ c.loop-run.invariant.written)).1;
-      contents = turned made (flat_map contents_of (run_cells col run)) (flat_map contents_of (runs_cells col others)) _ _ c.in_ok-push_contents.ensures kept;
+      contents = turned made (flat_map contents_of (run_cells col run)) (flat_map contents_of (runs_cells col others)) _ _
+          (c.in_ok-extend_from_slice.ensures.items ∙ ap (λ (xs : List ℕ). made ++ xs) c.content_slice.ensures) kept;
     }
 
 pub returns : goal.returns

@@ -1,44 +1,50 @@
-use Rattle.std.proofs.Common.{◌≡◌, ℕ, List, arith, refl, ◌∙◌}
+use Rattle.std.proofs.Common.{◌≡◌, ℕ, List, arith, length, map, refl, ◌∙◌}
 use Rattle.std.proofs.lemmas.Result.{on_ok_weaker}
 use Rattle.flatbuf.specs.Laid.{metadata}
 use Rattle.flatbuf.specs.Tree.{Tree}
 use Rattle.flatbuf.specs.View.{node_of}
 use Rattle.ipc_message.specs.declared.header_type.TheConstants.{DICTIONARY_BATCH}
 use Rattle.ipc_message.specs.Raw.{RawNode}
-use Rattle.ipc_write.specs.Contents.{nodes_in, buffers_in}
+use Rattle.ipc_write.specs.Contents.{shape_nodes}
 use Rattle.ipc_write.specs.Trees.{dictionary_tree, message_tree}
 use Rattle.ipc_write.specs.Written.{body, dictionary_batch_of, dictionary_message, framed}
 use Rattle.ipc_write.proofs.BatchNode.{dictionary_header, dictionary_is, framed_is}
 use Rattle.ipc_write.proofs.Fronts.{then_body}
 use Rattle.ipc_write.proofs.Room.{same_fits, same_size}
+use Rattle.ipc_write.proofs.SameLengths.{room_for_zeros, same_batch, same_end}
 use Rattle.ipc_write.proofs.WrittenMessages.{dictionary_tree_fits}
 use Rattle.ipc_write.proofs.framing.write_dictionary_front.Goals as goal
 
 pub write_front-requires-clause-fits : goal.write_front-requires-clause-fits
 write_front-requires-clause-fits c =
     let made = c.in_ok-batch.ensures in
-    let is = dictionary_header _ _ c.args.id c.args.is_delta c.args.contents.rows _ _ c.in_ok-header.ensures made.node in
+    let is = dictionary_header _ _ c.args.id c.args.is_delta c.args.shape.rows _ _ c.in_ok-header.ensures made.node in
     same_fits DICTIONARY_BATCH _ _ _ _ is made.length (dictionary_tree_fits c.args.id c.args.is_delta _ _ _ (omega arith) made.writable)
 
 pub write_front-requires-clause-small : goal.write_front-requires-clause-small
 write_front-requires-clause-small c =
     let made = c.in_ok-batch.ensures in
-    let is = dictionary_header _ _ c.args.id c.args.is_delta c.args.contents.rows _ _ c.in_ok-header.ensures made.node in
+    let is = dictionary_header _ _ c.args.id c.args.is_delta c.args.shape.rows _ _ c.in_ok-header.ensures made.node in
     same_size DICTIONARY_BATCH _ _ _ _ is made.length (c.metadata_is_within_its_limit.ensures.dictionary c.args.id c.args.is_delta _ _ _ made.writable)
+
+pub batch_header-requires : goal.batch_header-requires
+batch_header-requires c = room_for_zeros _ c.args.shape.lengths.now c.requires.0 c.requires.1.0 c.requires.1.1
 
 pub returns-clause-appended : goal.returns-clause-appended
 returns-clause-appended c =
-    let rows : ℕ = c.args.contents.rows in
-    let nodes : List RawNode = nodes_in c.args.contents in
-    let buffers : List (List ℕ) = buffers_in c.args.contents in
+    let rows : ℕ = c.args.shape.rows in
+    let nodes : List RawNode = shape_nodes c.args.shape in
+    let lengths : List ℕ = c.args.shape.lengths.now in
     let header : Tree = node_of c.in_ok-header.header in
     let len : ℕ = c.in_ok-batch.body_length in
-    let is_tree : header ≡ dictionary_tree (dictionary_batch_of c.args.id c.args.is_delta rows nodes buffers) =
-    dictionary_header _ _ c.args.id c.args.is_delta rows nodes buffers c.in_ok-header.ensures c.in_ok-batch.ensures.node in
-    let is : framed (metadata (message_tree DICTIONARY_BATCH header len)) (body buffers) ≡ dictionary_message c.args.id c.args.is_delta rows nodes buffers =
-    framed_is _ (message_tree DICTIONARY_BATCH header len) header DICTIONARY_BATCH len (body buffers) refl refl c.in_ok-batch.ensures.length
-    ∙ dictionary_is header c.args.id c.args.is_delta rows nodes buffers is_tree in
+    let made = c.in_ok-batch.ensures in
+    let is_tree : (buffers : List (List ℕ)) → map length buffers ≡ lengths → header ≡ dictionary_tree (dictionary_batch_of c.args.id c.args.is_delta rows nodes buffers) =
+    λ buffers same. dictionary_header _ _ c.args.id c.args.is_delta rows nodes buffers c.in_ok-header.ensures (made.node ∙ same_batch rows nodes lengths buffers same) in
+    let is : (buffers : List (List ℕ)) → map length buffers ≡ lengths
+    → framed (metadata (message_tree DICTIONARY_BATCH header len)) (body buffers) ≡ dictionary_message c.args.id c.args.is_delta rows nodes buffers =
+    λ buffers same. framed_is _ (message_tree DICTIONARY_BATCH header len) header DICTIONARY_BATCH len (body buffers) refl refl (made.length ∙ same_end lengths buffers same)
+    ∙ dictionary_is header c.args.id c.args.is_delta rows nodes buffers (is_tree buffers same) in
     on_ok_weaker c.write_front.result
-    (λ done. then_body c.write_front.new.out.items c.args.out.now.items (metadata (message_tree DICTIONARY_BATCH header len)) (body buffers)
-    (dictionary_message c.args.id c.args.is_delta rows nodes buffers) done is)
+    (λ done buffers same. then_body c.write_front.new.out.items c.args.out.now.items (metadata (message_tree DICTIONARY_BATCH header len)) (body buffers)
+    (dictionary_message c.args.id c.args.is_delta rows nodes buffers) done (is buffers same))
     c.write_front.ensures.appended
