@@ -18,8 +18,8 @@ use Rattle.tables.specs.declared.refusal.Refusal.TheVariants as refusals
 use Rattle.store_runs.specs.Calls.{done, refused, is_failure}
 use Rattle.store_runs.specs.Reading.{HasRows, LacksRows, OnlyReadsDevice}
 use Rattle.store_runs.specs.Held.{segment_rows}
-use Rattle.store_changes.specs.laws.Digests.{read_rows, damaged_lacks}
-use Rattle.store.specs.Salvaging.{AreFound, rows_found, left_out, Salvages, SalvagesAt, BreaksOff, RefusesSalvage}
+use Rattle.store_changes.specs.laws.Digests.{damaged_lacks, has_then}
+use Rattle.store.specs.Salvaging.{IsFound, AreFound, rows_found, left_out, Salvages, SalvagesAt, BreaksOff, RefusesSalvage}
 use Rattle.store_changes.specs.ReadSegment.{FailsReading}
 use Rattle.store.specs.inner.Salvaging.{is_of_segment, FindsMessages, messages_found, SalvagesOne, SalvagesEach}
 
@@ -54,7 +54,7 @@ module _ (tells : Bool) (image : Image) (s : PlainSchema) (g : Segment) where
       let same : messages ≡ rows_messages s finds.0 = cc finds.2 in
       record {
         found = Some finds.0;
-        shown = read_rows tells image s g finds.0 finds.1;
+        shown = finds.1;
         messages = subst (Appends written written') same wrote;
         others = sym (append-nil left);
       }
@@ -87,11 +87,16 @@ found_length tells image s [] (f ∷ fs) are = absurd are
 found_length tells image s (g ∷ gs) [] are = absurd are
 
 found_more : (tells : Bool) (image : Image) (s : PlainSchema) (gs : List Segment) (fs : List (Option (List (List Cell)))) (g : Segment) (f : Option (List (List Cell)))
-    → AreFound tells image s gs fs → (tells ≡ true → segment_rows s g image ≡ f) → AreFound tells image s (gs ++ g ∷ []) (fs ++ f ∷ [])
+    → AreFound tells image s gs fs → IsFound tells image s g f → AreFound tells image s (gs ++ g ∷ []) (fs ++ f ∷ [])
 found_more tells image s [] [] g f are is = (is, tt)
 found_more tells image s (x ∷ gs) (y ∷ fs) g f are is = (are.0, found_more tells image s gs fs g f are.1 is)
 found_more tells image s [] (y ∷ fs) g f are is = absurd are
 found_more tells image s (x ∷ gs) [] g f are is = absurd are
+
+-- as it was shown at first
+found_then : (tells : Bool) (a b : Image) → (tells ≡ true → b ≡ a) → (s : PlainSchema) (g : Segment) (f : Option (List (List Cell))) → IsFound tells b s g f → IsFound tells a s g f
+found_then tells a b same s g None none = λ told. ap (segment_rows s g) (sym (same told)) ∙ none told
+found_then tells a b same s g (Some rows) read = has_then tells a b same s g rows read
 
 left_more : (place : ℕ) (gs : List Segment) (fs : List (Option (List (List Cell)))) (g : Segment) (f : Option (List (List Cell))) (there : ℕ) → length fs ≡ length gs → there ≡ place + length gs
     → left_out place (gs ++ g ∷ []) (fs ++ f ∷ []) ≡ left_out place gs fs ++ left_out there (g ∷ []) (f ∷ [])
@@ -116,7 +121,7 @@ each_more tells image image' s gs more g place a b c left left' still is at each
     record {
       found = fs ++ f ∷ [];
       shown = subst (λ (xs : List Segment). AreFound tells image s xs (fs ++ f ∷ [])) (sym is)
-          (found_more tells image s gs fs g f each.shown (λ told. ap (segment_rows s g) (sym (still told)) ∙ one.shown told));
+          (found_more tells image s gs fs g f each.shown (found_then tells image image' still s g f one.shown));
       messages = subst (Appends a c) (sym (flat_map-append (messages_found s) fs (f ∷ [])))
           (Appends-trans a b c (flat_map (messages_found s) fs) (flat_map (messages_found s) (f ∷ [])) each.messages
           (subst (Appends b c) (sym (append-nil (messages_found s f))) one.messages));

@@ -12,11 +12,17 @@ use Rattle.tables.specs.declared.refusal.Refusal.{Refusal}
 use Rattle.tables.specs.declared.refusal.Refusal.TheVariants as refusals
 use Rattle.store.specs.declared.salvaging.LeftOut.{LeftOut}
 use Rattle.store_runs.specs.Held.{segment_rows}
+use Rattle.store_runs.specs.Reading.{HasRead}
 
--- what reads of the device show of each segment: its rows, or that it does not hold them
+-- what reads of the device show of a segment: its rows, which the bytes that were read mean, or that it does not hold them
+abbrev pub IsFound : (tells : Bool) → Image → PlainSchema → Segment → Option (List (List Cell)) → Type 0
+IsFound tells image schema g None = tells ≡ true → segment_rows schema g image ≡ None
+IsFound tells image schema g (Some rows) = HasRead tells image schema g rows
+
+-- the same for each of these segments
 abbrev pub AreFound : (tells : Bool) → Image → PlainSchema → List Segment → List (Option (List (List Cell))) → Type 0
 AreFound tells image schema [] [] = Unit {0}
-AreFound tells image schema (g ∷ gs) (f ∷ fs) = (tells ≡ true → segment_rows schema g image ≡ f) × AreFound tells image schema gs fs
+AreFound tells image schema (g ∷ gs) (f ∷ fs) = IsFound tells image schema g f × AreFound tells image schema gs fs
 AreFound tells image schema [] (f ∷ fs) = ⊥
 AreFound tells image schema (g ∷ gs) [] = ⊥
 

@@ -1,9 +1,9 @@
--- Laws of runs that are taken and given back, and of the lowest free run.
+-- Laws of runs that are taken, and of the lowest free run.
 use Rattle.std.proofs.Common.{◌≡◌, ◌≢◌, ◌⊎◌, ◌↔◌, inl, inr, ⊎_elim, ◌≤◌, ◌+◌, ◌++◌, ◌==◌, ◌||◌, ℕ, zero, suc, Bool, true, false, List, [], ◌∷◌, Option, Some, None, refl, sym, ap, ◌∙◌, arith}
 use Rattle.std.proofs.lemmas.Bool.{cases_eq, and_parts, and_from, eqb-true, eq-eqb}
 use Rattle.std.proofs.lemmas.Bool.Decides.{nat_tests}
 use Rattle.segments.specs.Runs.{IsFree, IsLowest}
-use Rattle.segments.specs.Usages.{Space, UNUSED, TAKEN, is_used, given, usage_of, same_run, is_among, times_among, SameUsages, IsUsedIn, Changes}
+use Rattle.segments.specs.Usages.{Space, UNUSED, TAKEN, is_used, usage_of, same_run, is_among, times_among, IsUsedIn, Changes}
 use Rattle.segments.specs.declared.run.Run.{Run}
 use Rattle.segments.specs.declared.entries.Usage.{Usage}
 use Rattle.segments.specs.declared.entries.UsageEntry.{UsageEntry}
@@ -67,16 +67,6 @@ free_unused size es run some free =
 pub still_used : (old new : Space) (taken run : Run) → Changes old new taken TAKEN → IsUsedIn old.entries run → IsUsedIn new.entries run
 still_used old new taken run takes used =
     ⊎_elim (λ (same : run ≡ taken). ap is_used (ap (usage_of new.entries) same ∙ takes.this)) (λ (apart : run ≢ taken). ap is_used (takes.others run apart) ∙ used) (same_or_not run taken)
-
--- after a free run was taken and given back, each run has the same usage as before
-pub given_back : (old mid new : Space) (run : Run) → 1 ≤ run.count → IsFree old.size (IsUsedIn old.entries) run → Changes old mid run TAKEN → Changes mid new run (given (usage_of mid.entries run)) → SameUsages old.entries new.entries
-given_back old mid new run some free takes gives other =
-    ⊎_elim
-    (λ (same : other ≡ run).
-    let was : usage_of old.entries run ≡ UNUSED = free_unused old.size old.entries run some free in
-    ap (usage_of new.entries) same ∙ gives.this ∙ ap given takes.this ∙ sym was ∙ ap (usage_of old.entries) (sym same))
-    (λ (apart : other ≢ run). gives.others other apart ∙ takes.others other apart)
-    (same_or_not other run)
 
 -- what is free stays free if fewer runs are used
 pub same_free : (size : ℕ) (used fewer : Run → Type 0) → ((run : Run) → fewer run → used run) → (run : Run) → IsFree size used run → IsFree size fewer run

@@ -10,8 +10,7 @@ use Rattle.catalogue.specs.declared.entry.Segment.{Segment}
 use Rattle.tables.specs.declared.refusal.Refusal.{Refusal}
 use Rattle.tables.specs.declared.refusal.Refusal.TheVariants as refusals
 use Rattle.store_runs.specs.Reading.{HasRows}
-use Rattle.store_runs.specs.Held.{segment_rows}
-use Rattle.store.specs.Salvaging.{AreFound, left_out}
+use Rattle.store.specs.Salvaging.{IsFound, AreFound, left_out}
 
 -- a refusal that is about a single segment
 abbrev pub is_of_segment : Refusal → Bool
@@ -28,7 +27,7 @@ FailsWriting _ = ⊥
 -- the messages of the rows of a segment, or `None` if it does not hold them
 abbrev pub FindsMessages : (tells : Bool) → Image → PlainSchema → Segment → Option (List ℕ) → Type 0
 FindsMessages tells image schema g (Some messages) = HasRows tells image schema g (Some messages)
-FindsMessages tells image schema g None = tells ≡ true → segment_rows schema g image ≡ None
+FindsMessages tells image schema g None = IsFound tells image schema g None
 
 -- the messages of the rows that were found
 abbrev pub messages_found : PlainSchema → Option (List (List Cell)) → List ℕ
@@ -38,7 +37,7 @@ messages_found schema (Some rows) = rows_messages schema rows
 -- the segment at a place was salvaged
 pub record SalvagesOne (tells : Bool) (image : Image) (schema : PlainSchema) (place : ℕ) (g : Segment) (written written' : Option (List ℕ)) (left left' : List (ℕ × ℕ)) : Type 0 where
   pub found : Option (List (List Cell))
-  pub shown : tells ≡ true → segment_rows schema g image ≡ found
+  pub shown : IsFound tells image schema g found
   pub messages : Appends written written' (messages_found schema found)
   pub others : left' ≡ left ++ left_out place (g ∷ []) (found ∷ [])
 

@@ -1,6 +1,5 @@
 -- What is decided by the catalogue, as its tests go.
 use Rattle.std.proofs.Common.{◌≡◌, ℕ, Bool, true, List, Option, None, Result, Ok, Err, inl, inr, refl, sym, ap, subst}
-use Rattle.std.specs.Prelude.{OnOk}
 use Rattle.facts.specs.Checks.{unless}
 use Rattle.sector_dev.specs.Disk.{Image}
 use Rattle.arrow_schema.specs.Column.{PlainSchema}
@@ -56,7 +55,3 @@ pub is_change : (tells : Bool) (image : Image) (c : PlainCatalogue) (command : P
 is_change tells image c command change told (inl memory) = absurd (cc memory)
 is_change tells image c command change told (inr (inl fails)) = let both : Ok change ≡ Err fails.refusal = fails.told in absurd (cc both)
 is_change tells image c command change told (inr (inr decided)) = subst (λ (b : Bool). IsDecided b image c command (Ok change)) told decided
-
-pub with_ok : {E P Q : Type 0} (r : Result (Unit {0}) E) → OnOk r P → (P → Q) → OnOk r Q
-with_ok (Ok unit) p f = f p
-with_ok (Err e) p f = tt

@@ -1,5 +1,5 @@
 -- What an exchange of segments makes of a catalogue: its runs and its numbers.
-use Rattle.std.specs.Prelude.{◌≡◌, ◌≤◌, ◌+◌, ◌++◌, ℕ, List, [], ◌∷◌, length, map, take, drop, sum_by, Some, refl}
+use Rattle.std.specs.Prelude.{◌≡◌, ◌+◌, ◌++◌, ℕ, List, [], ◌∷◌, length, map, take, drop, sum_by, Some, refl}
 use Rattle.std.proofs.Common.{inl, ap, ◌∙◌, arith}
 use Rattle.std.proofs.lemmas.List.{length-append, map-append}
 use Rattle.std.proofs.lemmas.List.Sums.{sum_by-cons}
@@ -7,7 +7,7 @@ use Rattle.segments.specs.declared.run.Run.{Run}
 use Rattle.catalogue.specs.declared.entry.Segment.{Segment}
 use Rattle.catalogue.specs.Entries.{PlainEntry, PlainCatalogue, page_runs, runs_in, runs_of, segment_count}
 use Rattle.catalogue.specs.Edits.{entry_of, with_segments, from_place, with_others, with_exchanged}
-use Rattle.catalogue.specs.laws.Sums.{taken_out, refilled_sum, segments_in}
+use Rattle.catalogue.specs.laws.Sums.{refilled_sum, segments_in}
 use Rattle.catalogue.specs.laws.Changed.{parted, exchanged_is}
 use Rattle.commit.specs.Placing.{times_among}
 use Rattle.commit.specs.laws.Fit.{times_both}
@@ -64,10 +64,6 @@ module _ (c : PlainCatalogue) (name : List ℕ) (e : PlainEntry) (found : entry_
           times_of d,
           refilled_sum times_in c name e (with_others e.segments place count others) found,
         )
-
-    pub exchanged_given : times_among (page_runs e.page ++ map run_of (from_place e.segments place count)) run ≤ times_among (runs_of c) run
-    unfolding times_in
-    exchanged_given = omega (arith, given_times, whole_times, stood_times, times_of c, taken_out times_in c name e found)
 
   -- numbers
   length_others : (others : List Segment) → length (with_others e.segments place count others) + length (from_place e.segments place count) ≡ length e.segments + length others

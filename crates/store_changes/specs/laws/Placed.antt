@@ -59,9 +59,6 @@ module _ (v : FormatVersion) (c : PlainCatalogue) (change : PlainChange) (sound 
       edited_stands c change (unplaced v change.streams change.counts) stands sound (unplaced_sound v change.streams change.counts (are_streams change.streams sound.some sound.short) sound.rows) few
 
   module _ (places : List Run) (many : length places ≡ length change.streams) where
-    new_segments : List Segment
-    new_segments = placed_segments v places change.streams change.counts
-
     same_sizes : sizes_in (placed_segments v places change.streams change.counts) ≡ sizes_in (unplaced v change.streams change.counts)
     same_sizes = placed_alike v places change.streams change.counts many sound.each
 

@@ -413,14 +413,8 @@ module _ (laws : PageLaws) (k : Commit) (old new : Space) (limits : is_size old.
   made_kind = kind_alike (unpaged k.version c change (runs_of pieces)) (outline k.version c change) (unpaged_shapes k.version c change sound (runs_of pieces) enough)
 
   -- the text that is written
-  made_text : List ℕ
-  made_text = settled_text (unpaged k.version c change (runs_of pieces)) pages
-
   text_is_long : length (settled_text (unpaged k.version c change (runs_of pieces)) pages) ≡ text_size (outline k.version c change)
   text_is_long = laws.text (unpaged k.version c change (runs_of pieces)) pages made_runs ∙ text_alike (unpaged k.version c change (runs_of pieces)) (outline k.version c change) (unpaged_shapes k.version c change sound (runs_of pieces) enough)
-
-  page_pieces : List PlainPiece
-  page_pieces = paired pages (page_texts (unpaged k.version c change (runs_of pieces)))
 
   as_many_texts : length pages ≡ length (page_texts (unpaged k.version c change (runs_of pieces)))
   as_many_texts =

@@ -1,7 +1,7 @@
 use Rattle.std.proofs.Common.{◌≡◌, ◌≢◌, Bool, true, false, Some, Result, Ok, Err, refl, sym, ap, ◌∙◌, subst}
 use Rattle.std.specs.Prelude.{IfErr, OnOk, ℕ}
 use Rattle.std.proofs.lemmas.Bool.{true≢false}
-use Rattle.std.proofs.lemmas.Result.{IfErr-weaker}
+use Rattle.std.proofs.lemmas.Result.{IfErr-weaker, on_ok_weaker}
 use Rattle.sector_dev.specs.Disk.{Disk, Story, now, shown_image}
 use Rattle.sector_dev.specs.laws.Time.{stays}
 use Rattle.sector_dev.specs.Time.{OnlyReads}
@@ -23,7 +23,7 @@ use Rattle.store.specs.Fits.{setting_of, listed_in}
 use Rattle.store.specs.Applying.{IsKept}
 use Rattle.store_runs.specs.Reading.{ended}
 use Rattle.store_runs.specs.Deciding.{IsAnswered, reads_device}
-use Rattle.store_changes.specs.laws.Decided.{is_change, with_ok}
+use Rattle.store_changes.specs.laws.Decided.{is_change}
 use Rattle.store.proofs.Asked.{is_running}
 use Rattle.store.proofs.ReadsStore.{shown, fits_reading}
 use Rattle.store.proofs.Applied.{change_verdict, refuses_first, refuses_halted, goes_after, tells_command, ends_after, kept_after, on_disk_after, decided_after, stood, writes_after, written_after, read_kept, read_halts}
@@ -131,7 +131,7 @@ returns-in-Ok-clause-writes g c = λ off told on.
 
 pub returns-in-Ok-clause-written : goal.returns-in-Ok-clause-written
 returns-in-Ok-clause-written g c =
-    with_ok c.carry_out-ended.result c.carry_out-ended.ensures.done
+    on_ok_weaker c.carry_out-ended.result
     (λ written told on.
     let D = g.D.SectorDevice in
     let old = c.args.self.now in
@@ -143,6 +143,7 @@ returns-in-Ok-clause-written g c =
     (command_written D.size D.story mid c.carry_out-ended.new.self (change_of c.in-Ok.change) cmd
     (decided_after D.size D.story D.failed D.tells old mid done reads told cmd (change_of c.in-Ok.change) decided)
     (written told (on_disk_after D.size D.story D.failed D.tells old mid done reads told on))))
+    c.carry_out-ended.ensures.done
 
 pub returns-in-Err-clause-writes : goal.returns-in-Err-clause-writes
 returns-in-Err-clause-writes g c = λ off told on.
