@@ -2,8 +2,8 @@
 //! "DictionaryBatch message").
 //!
 //! [`build_runs`] makes the same nodes and buffers as `batch_build::build` makes from borrowed rows with the same cells. Buffers that are already as
-//! they are written are borrowed, several runs slice by slice if they are long, or copied as bytes; below a null struct or fixed list, a mask says which slots are left. What is known of dictionaries
-//! is kept for the next rows (`dictionary_codes::KnownEntries`).
+//! they are written are borrowed, from several runs too if these are long, or copied as bytes; below a null struct or fixed list, a mask says which
+//! slots are left. What is known of dictionaries is kept for the next rows (`dictionary_codes::KnownEntries`).
 #![tactic(auto)]
 
 mod as_written;
