@@ -2,7 +2,6 @@ mod Alone
 mod BufferLemmas
 mod Gathering
 mod Meant
-mod PartLemmas
 mod RunSteps
 mod Steps
 mod Streams
