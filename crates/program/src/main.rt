@@ -21,22 +21,19 @@ fn main(rt: HostRuntime) -> ExitCode {
     let reader = Audience::of(&rt.stderr());
     let line = ProgressLine::begin(&rt, rt.stderr(), reader);
     let audience = audience_of(&rt, reader);
+    let target = Target::of_output(&rt);
     let failures = Failures::new();
     let mut errors = ProgressWriter::new(rt.stderr(), line.as_ref(), Target::Other);
     let ended = match arguments_of(&rt) {
         Ok(arguments) => run_with_files(
-            &ProgressFiles::new(&rt, line.as_ref(), noted_at(audience, &failures)),
+            &ProgressFiles::new(&rt, line.as_ref(), noted_at(audience, &failures), target),
             arguments.as_slice(),
             &mut KeptStart::new(
                 rt.alloc(),
                 ProgressReader::new(rt.reader(), line.as_ref()),
                 audience,
             ),
-            &mut WatchedOutput::new(ProgressWriter::new(
-                rt.stdout(),
-                line.as_ref(),
-                Target::of_output(&rt),
-            )),
+            &mut WatchedOutput::new(ProgressWriter::new(rt.stdout(), line.as_ref(), target)),
             &mut errors,
             &failures,
             audience,
