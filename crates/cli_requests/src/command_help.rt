@@ -29,7 +29,8 @@ timestamp_us, timestamp_ns, list<ITEM>, large_list<ITEM>, fixed_list(N,ITEM),
 struct<FIELD,..> or dict<INDEX,TYPE>, for example dict<int8,utf8>. A timestamp may
 have a timezone, as in timestamp_ms(UTC). An ITEM is a TYPE, followed by ? if nulls
 are allowed, as in 'tags:list<utf8?>'. A column of the type null needs the ?, as in
-n:null?, to accept rows. There are no floats, decimals and times.",
+n:null?, to accept rows. There are no floats, decimals and times. Without a FIELD the
+table has no columns.",
     },
     CommandHelp {
         name: "import",

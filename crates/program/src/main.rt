@@ -2,7 +2,8 @@
 //! terminal, work that takes more than a second shows a line of progress.
 //!
 //! Status 0 means done, 1 refused, with a line `refused CODE NAME ..` on standard error, or done in part, and 2 wrong arguments. On a terminal the
-//! line is left out if the reader of the output is gone, as when `head` has its lines.
+//! line is left out if the reader of the output is gone, as when `head` has its lines. With `ARROWSTORE_ADVICE=1` in the environment the report is that
+//! of a terminal everywhere.
 #![tactic(auto)]
 
 mod progress;
@@ -11,29 +12,28 @@ use arrowstore::{
     Audience, Failures, KeptStart, WatchedOutput, report_unreadable_arguments, run_with_files,
 };
 use progress::{ProgressFiles, ProgressLine, ProgressReader, ProgressWriter, Target};
+use std::env::{self, Env};
+use std::io;
 use std::process::ExitCode;
-use std::{env, io};
 
 fn main(rt: HostRuntime) -> ExitCode {
     // Asked before a file is opened, which may take the descriptor of a closed stream.
-    let audience = Audience::of(&rt.stderr());
-    let line = ProgressLine::begin(&rt, rt.stderr(), audience);
+    let reader = Audience::of(&rt.stderr());
+    let line = ProgressLine::begin(&rt, rt.stderr(), reader);
+    let audience = audience_of(&rt, reader);
+    let target = Target::of_output(&rt);
     let failures = Failures::new();
     let mut errors = ProgressWriter::new(rt.stderr(), line.as_ref(), Target::Other);
     let ended = match arguments_of(&rt) {
         Ok(arguments) => run_with_files(
-            &ProgressFiles::new(&rt, line.as_ref(), noted_at(audience, &failures)),
+            &ProgressFiles::new(&rt, line.as_ref(), noted_at(audience, &failures), target),
             arguments.as_slice(),
             &mut KeptStart::new(
                 rt.alloc(),
                 ProgressReader::new(rt.reader(), line.as_ref()),
                 audience,
             ),
-            &mut WatchedOutput::new(ProgressWriter::new(
-                rt.stdout(),
-                line.as_ref(),
-                Target::of_output(&rt),
-            )),
+            &mut WatchedOutput::new(ProgressWriter::new(rt.stdout(), line.as_ref(), target)),
             &mut errors,
             &failures,
             audience,
@@ -44,6 +44,16 @@ fn main(rt: HostRuntime) -> ExitCode {
         line.clear();
     }
     ExitCode::from(ended.code())
+}
+
+// Returns for whom to report: a program that reads standard error may ask to be told what a person at a terminal is.
+fn audience_of(rt: &HostRuntime, reader: Audience) -> Audience {
+    // The variable is read into a buffer, since `env::var` takes memory.
+    let mut value = [0; 2];
+    match rt.var("ARROWSTORE_ADVICE", &mut value) {
+        Ok(1) if value[0] == b'1' => Audience::Terminal,
+        _ => reader,
+    }
 }
 
 // Returns where failed calls on files are noted: only a terminal shows them.

@@ -83,6 +83,13 @@ impl<'a, C: Clock, T: Write + Copy> ProgressLine<'a, C, T> {
         let _ = terminal.write_all(TYPED_INPUT.as_bytes());
     }
 
+    /// Counts the time of the work from now on.
+    pub fn restart(&self) {
+        if let Ok(now) = Instant::now(self.clock) {
+            self.last_written.set(now);
+        }
+    }
+
     /// Returns whether the work has taken more than a second so far.
     pub fn is_long(&self) -> bool {
         self.shown.get().is_some() || self.is_due()

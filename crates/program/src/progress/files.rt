@@ -1,5 +1,5 @@
-// Shows how much of a store's file was read and written, and notes failed calls.
-use super::{LONG_WORK, ProgressLine, Stage};
+// Shows how much of a store's file was read and written, and notes failed calls. The file of the output is not opened.
+use super::{LONG_WORK, ProgressLine, Stage, Target};
 use arrowstore::{Failures, NotedFile};
 use sector_dev::LockFile;
 use std::alloc::{Allocator, Global};
@@ -11,12 +11,13 @@ use std::path::PathBuf;
 use std::rt::Files;
 use std::time::Clock;
 
-/// The files of `files`. While one is read or written, the line shows how much; a failed call is noted in `failures`.
+/// The files of `files`, except that of `output`. While one is read or written, the line shows how much; a failed call is noted in `failures`.
 #[derive(Drop)]
 pub struct ProgressFiles<'a, C: Clock, T, H> {
     files: &'a H,
     line: Option<&'a ProgressLine<'a, C, T>>,
     failures: Option<&'a Failures>,
+    output: Target,
 }
 
 impl<'a, C: Clock, T, H> ProgressFiles<'a, C, T, H> {
@@ -24,12 +25,25 @@ impl<'a, C: Clock, T, H> ProgressFiles<'a, C, T, H> {
         files: &'a H,
         line: Option<&'a ProgressLine<'a, C, T>>,
         failures: Option<&'a Failures>,
+        output: Target,
     ) -> ProgressFiles<'a, C, T, H> {
         ProgressFiles {
             files,
             line,
             failures,
+            output,
         }
+    }
+}
+
+impl<C: Clock, T, H: Files> ProgressFiles<'_, C, T, H> {
+    // Opens a file, unless the output is written to it: that would spoil a store.
+    fn open_unless_output(&self, how: &OpenOptions, path: &str) -> io::Result<H::File> {
+        let file = self.files.open_file(how, path)?;
+        if self.output.is_file(&file.metadata()?) {
+            return Err(io::Error::other("it is the output"));
+        }
+        Ok(file)
     }
 }
 
@@ -48,7 +62,7 @@ impl<'a, C: Clock, T: Write + Copy, H: Files + AllocGlobal> Files for ProgressFi
     type Dir = H::Dir;
 
     fn open_file(&self, how: &OpenOptions, path: &str) -> io::Result<Self::File> {
-        let opened = self.files.open_file(how, path);
+        let opened = self.open_unless_output(how, path);
         if let Some(failures) = self.failures {
             failures.note_opening(self.files.alloc(), path, &opened);
         }

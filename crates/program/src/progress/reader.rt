@@ -6,12 +6,13 @@ use std::io::{self, IsTerminal, Read, Write};
 use std::time::Clock;
 
 /// Reads `input` and shows how much was read and, at the end of a long input, that it is being worked on; or, before the first read of an input that is
-/// typed, how to end it.
+/// typed, how to end it. The time of typing is no work.
 #[derive(Drop)]
 pub struct ProgressReader<'a, C: Clock, T, R: Read> {
     input: R,
     line: Option<&'a ProgressLine<'a, C, T>>,
-    // where a typed input is asked for, until that is done
+    // the line on the terminal where the input is typed, and the same until the input is asked for there
+    typed_on: Option<&'a ProgressLine<'a, C, T>>,
     asked_on: Option<&'a ProgressLine<'a, C, T>>,
     bytes_read: u64,
 }
@@ -21,7 +22,7 @@ impl<'a, C: Clock, T: Write + Copy, R: Read + IsTerminal> ProgressReader<'a, C, 
     pub fn new(input: R, line: Option<&'a ProgressLine<'a, C, T>>) -> ProgressReader<'a, C, T, R>
         ensures { result.input ≡ input }
     {
-        let (line, asked_on) = if input.is_terminal() {
+        let (line, typed_on) = if input.is_terminal() {
             (None, line)
         } else {
             (line, None)
@@ -29,7 +30,8 @@ impl<'a, C: Clock, T: Write + Copy, R: Read + IsTerminal> ProgressReader<'a, C, 
         ProgressReader {
             input,
             line,
-            asked_on,
+            typed_on,
+            asked_on: typed_on,
             bytes_read: 0,
         }
     }
@@ -43,6 +45,9 @@ impl<C: Clock, T: Write + Copy, R: Read> Read for ProgressReader<'_, C, T, R> {
             line.ask_for_input();
         }
         let read = self.input.read(buf);
+        if let Some(line) = self.typed_on {
+            line.restart();
+        }
         if let Some(line) = self.line {
             match &read {
                 Ok(0) => tell_end(line, self.bytes_read),

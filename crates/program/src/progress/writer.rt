@@ -2,8 +2,9 @@
 ghost use Rattle.std.specs.Prelude.{◌≡◌};
 
 use super::{LEAST_SHOWN, ProgressLine, Stage};
-use std::fs;
+use std::fs::{self, Metadata};
 use std::io::{self, Write};
+use std::os::unix::fs::MetadataExt;
 use std::rt::Files;
 use std::time::Clock;
 
@@ -13,8 +14,8 @@ const MOST_AT_ONCE: usize = 64 * 1024;
 /// Where a stream of the process leads.
 #[derive(Clone, Copy, Debug, PartialEq, Eq)]
 pub enum Target {
-    /// A regular file.
-    File,
+    /// A regular file, as its device and its inode name it.
+    File { device: u64, inode: u64 },
     /// A terminal, a pipe, whose reader may print on the same terminal, or anything else.
     Other,
 }
@@ -23,9 +24,24 @@ impl Target {
     /// Where standard output leads.
     pub fn of_output<H: Files>(files: &H) -> Target {
         match fs::metadata(files, "/dev/stdout") {
-            Ok(found) if found.is_file() => Target::File,
-            _ => Target::Other,
+            Ok(found) => Target::of(&found),
+            Err(_) => Target::Other,
         }
+    }
+
+    fn of(found: &Metadata) -> Target {
+        if !found.is_file() {
+            return Target::Other;
+        }
+        Target::File {
+            device: found.dev(),
+            inode: found.ino(),
+        }
+    }
+
+    /// Returns whether it is the file that was found.
+    pub fn is_file(self, found: &Metadata) -> bool {
+        self != Target::Other && self == Target::of(found)
     }
 }
 
