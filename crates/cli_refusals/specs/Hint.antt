@@ -16,11 +16,13 @@ use Rattle.cli_refusals.specs.declared.refusal.Refusal.{Refusal}
 use Rattle.cli_refusals.specs.declared.refusal.Refusal.TheVariants.{Text}
 use Rattle.cli_refusals.specs.declared.remedies.TheConstants.{NUMBER_OF_SECTORS, READ_INPUT, LOOK_FIRST}
 
+-- the name of a field, and its text, which is not empty
+abbrev pub filled_field_text : (name text : List ℕ) → List ℕ
+filled_field_text name text = codes "The text `" ++ text ++ codes "` of field `" ++ name ++ codes "` is refused. "
+
 -- the name and the text of a field, which may be empty
 abbrev pub text_of_field : (name text : List ℕ) → List ℕ
-text_of_field name text =
-    if length text == 0 then codes "The field `" ++ name ++ codes "` is empty. "
-    else codes "The text `" ++ text ++ codes "` of field `" ++ name ++ codes "` is refused. "
+text_of_field name text = if length text == 0 then codes "The field `" ++ name ++ codes "` is empty. " else filled_field_text name text
 
 -- the name of a field, and its text
 abbrev pub field_text : (name text : Option (List ℕ)) → List ℕ

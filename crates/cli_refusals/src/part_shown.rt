@@ -7,6 +7,28 @@ use crate::shown::shown;
 use std::fmt;
 use text_import::{LinePart, Reason, RefusedPart};
 
+// The name of a field, and its text, which is not empty.
+#[derive(Drop)]
+struct FilledField<'a> {
+    name: &'a str,
+    text: &'a str,
+}
+
+impl fmt::Display for FilledField<'_> {
+    ghost use Rattle.std.specs.Prelude.{Some};
+    ghost use Rattle.cli_refusals.specs.Hint.{filled_field_text};
+
+    ghost output = { λ field. Some (filled_field_text field.name.now field.text.now) };
+
+    fn fmt<W: fmt::Write>(&self, f: &mut fmt::Formatter<W>) -> fmt::Result {
+        write!(
+            f,
+            "The text `{}` of field `{}` is refused. ",
+            self.text, self.name
+        )
+    }
+}
+
 // The name and the text of a field, which may be empty.
 #[derive(Drop)]
 struct TextOfField<'a> {
@@ -24,11 +46,11 @@ impl fmt::Display for TextOfField<'_> {
         if self.text.is_empty() {
             return write!(f, "The field `{}` is empty. ", self.name);
         }
-        write!(
-            f,
-            "The text `{}` of field `{}` is refused. ",
-            self.text, self.name
-        )
+        let field = FilledField {
+            name: self.name,
+            text: self.text,
+        };
+        write!(f, "{field}")
     }
 }
 
