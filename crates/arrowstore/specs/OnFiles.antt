@@ -224,7 +224,7 @@ status_of (Err refusal) left = Refused refusal
 
 -- the part of the input or the table that a hint names, if it names one
 abbrev pub hinted_of : Option Hint → Option Hinted
-hinted_of (Some (hints.Part p)) = Some (Part p.now)
+hinted_of (Some (hints.Part p about)) = Some (Part p.now)
 hinted_of (Some (hints.Table name others)) = Some (Table name.now)
 hinted_of _ = None
 

@@ -72,6 +72,24 @@ fn reason_of_lock(alloc: Global, error: &io::Error) -> Option<FileReason> {
     }
 }
 
+fn reason_of_write(alloc: Global, is_new: bool, error: &io::Error) -> Option<FileReason> {
+    let text = system_text(alloc, error)?;
+    Some(if is_new {
+        FileReason::NewUnwritten(text)
+    } else {
+        FileReason::Unwritten(text)
+    })
+}
+
+fn reason_of_sync(alloc: Global, is_new: bool, error: &io::Error) -> Option<FileReason> {
+    let text = system_text(alloc, error)?;
+    Some(if is_new {
+        FileReason::NewUnsynced(text)
+    } else {
+        FileReason::Unsynced(text)
+    })
+}
+
 fn reason_of<H: Files + AllocGlobal>(
     rt: &H,
     request: &StoreRequest<'_>,
@@ -83,8 +101,8 @@ fn reason_of<H: Files + AllocGlobal>(
         FileCall::Open => reason_of_opening(rt, request, path, error),
         FileCall::Lock => reason_of_lock(rt.alloc(), error),
         FileCall::Read => Some(FileReason::Unread(system_text(rt.alloc(), error)?)),
-        FileCall::Write => Some(FileReason::Unwritten(system_text(rt.alloc(), error)?)),
-        FileCall::Sync => Some(FileReason::Unsynced(system_text(rt.alloc(), error)?)),
+        FileCall::Write => reason_of_write(rt.alloc(), makes(request, path), error),
+        FileCall::Sync => reason_of_sync(rt.alloc(), makes(request, path), error),
     }
 }
 

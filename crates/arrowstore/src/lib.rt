@@ -11,6 +11,8 @@
 //! ```
 #![tactic(auto)]
 
+mod about_parts;
+mod about_words;
 mod asking_again;
 mod command_line;
 mod copying_files;

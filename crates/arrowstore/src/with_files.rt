@@ -18,13 +18,15 @@ ghost use Rattle.cli_refusals.specs.declared.refusal.Refusal.TheVariants as refu
 ghost use Rattle.cli_refusals.specs.declared.hint.Hint.{Hint};
 ghost use Rattle.store.specs.Salvaging.{plain_left};
 
+use crate::about_parts::about_part;
+use crate::about_words::{about_line, about_word};
 use crate::asking_again::{AskedAgain, Served, ask_again};
 use crate::ending::end_whole_or_partly;
 use crate::kept_start::Input;
 use crate::serving::serve;
 use crate::unread_tables::report_of_others;
 use crate::{Failures, run};
-use cli_refusals::{Hint, Hinted, Refusal};
+use cli_refusals::{Hint, Hinted, Refusal, Word};
 use cli_requests::{Mistake, StoreRequest, ask_for_help, is_of_store, refused_word, request_of};
 use cli_texts::{
     Audience, Ended, Output, audience_after_output, report_arguments, report_signed_number,
@@ -37,41 +39,56 @@ use std::fs::OpenFile;
 use std::io::{Empty, Read, Seek, Write};
 use std::rt::Files;
 use store::LeftOut;
-use values::Table;
 
-// Returns the hint that the command itself gave. If it is a table, `others` has sentences about other tables.
-fn hint_of<'a>(hinted: &'a Option<Hinted>, others: &'a str) -> Option<Hint<'a>>
+// Returns the hint that the command itself gave, with sentences about the part of a text or about other tables.
+fn hint_of<'a>(hinted: &'a Option<Hinted>, about: &'a str) -> Option<Hint<'a>>
     ensures { hinted_of result ≡ hinted.now }
 {
     match hinted {
-        Some(Hinted::Part(part)) => Some(Hint::Part(part)),
-        Some(Hinted::Table(name)) => Some(Hint::Table { name, others }),
+        Some(Hinted::Part(part)) => Some(Hint::Part { part, about }),
+        Some(Hinted::Table(name)) => Some(Hint::Table {
+            name,
+            others: about,
+        }),
         None => None,
     }
 }
 
-// Returns a hint at the refused word of the command line, if that word is known.
+// Returns the refused word of the command line, if it is known.
 fn word_of<'a>(
-    alloc: Global,
-    request: &StoreRequest<'a>,
-    table: Option<&'a Table>,
-    done: &Result<(), Refusal>,
-) -> Option<Hint<'a>>
-    ensures { hinted_of result ≡ None }
-{
-    match done {
-        Ok(()) => None,
-        Err(refusal) => Some(Hint::Word(refused_word(alloc, request, table, refusal)?)),
-    }
-}
-
-// Returns a hint at what was found by asking again, or at a word of the command line.
-fn found_hint<'a>(
     alloc: Global,
     request: &StoreRequest<'a>,
     asked: &'a AskedAgain,
     done: &Result<(), Refusal>,
-) -> Option<Hint<'a>>
+) -> Option<Word<'a>> {
+    match (asked, done) {
+        (AskedAgain::Queried(table), Err(refusal)) => {
+            refused_word(alloc, request, Some(table), refusal)
+        }
+        (AskedAgain::Nothing, Err(refusal)) => refused_word(alloc, request, None, refusal),
+        _ => None,
+    }
+}
+
+// Returns sentences about the refused word, or about a line of a script.
+fn about_found(
+    alloc: Global,
+    asked: &AskedAgain,
+    word: Option<Word<'_>>,
+    done: &Result<(), Refusal>,
+) -> Option<String> {
+    match (asked, done) {
+        (AskedAgain::Queried(table), Err(refusal)) => {
+            about_word(alloc, word?, Some(table), refusal)
+        }
+        (AskedAgain::Nothing, Err(refusal)) => about_word(alloc, word?, None, refusal),
+        (AskedAgain::Line(text), _) => about_line(alloc, text.as_slice()),
+        _ => None,
+    }
+}
+
+// Returns a hint at what was found by asking again, or at a word of the command line, with these sentences about it.
+fn found_hint<'a>(asked: &'a AskedAgain, word: Option<Word<'a>>, about: &'a str) -> Option<Hint<'a>>
     ensures { hinted_of result ≡ None }
 {
     match asked {
@@ -79,10 +96,12 @@ fn found_hint<'a>(
         AskedAgain::File(file) => Some(Hint::File(file)),
         AskedAgain::Streams(found) => Some(found.hint()),
         AskedAgain::Unread(name) => Some(Hint::UnreadTable(name.as_str())),
-        AskedAgain::Line(text) => Some(Hint::ScriptLine(text.as_slice())),
+        AskedAgain::Line(text) => Some(Hint::ScriptLine {
+            text: text.as_slice(),
+            about,
+        }),
         AskedAgain::Field(field) => Some(field.hint()),
-        AskedAgain::Queried(table) => word_of(alloc, request, Some(table), done),
-        AskedAgain::Nothing => word_of(alloc, request, None, done),
+        AskedAgain::Queried(_) | AskedAgain::Nothing => Some(Hint::Word { word: word?, about }),
     }
 }
 
@@ -102,8 +121,30 @@ fn end_of_request<E: Write>(
     ensures line { (hint : Option Hint) × (hinted_of hint ≡ None)
         × TellsRefusal (told audience hint) result (E.contents errors.old) (E.contents errors.new) }
 {
-    let hint = found_hint(alloc, request, asked, &done);
+    let word = word_of(alloc, request, asked, &done);
+    let about = about_found(alloc, asked, word, &done).unwrap_or(String::new(alloc));
+    let hint = found_hint(asked, word, about.as_str());
     end_whole_or_partly(done, left_out, hint, audience, errors)
+}
+
+// Returns sentences about what a command itself hints at, if a person reads them: the part of a text, or other tables.
+fn about_hinted<
+    F: Read + Write + Seek + OpenFile + LockFile + Drop,
+    H: Files<File = F> + AllocGlobal,
+>(
+    rt: &H,
+    request: &StoreRequest<'_>,
+    hinted: &Option<Hinted>,
+    start: &[u8],
+    done: &Result<(), Refusal>,
+    audience: Audience,
+) -> String {
+    match (hinted, audience) {
+        (Some(Hinted::Part(part)), Audience::Terminal) => {
+            about_part(rt, request, part, start, done).unwrap_or(String::new(rt.alloc()))
+        }
+        _ => report_of_others(rt, request, hinted, done, audience),
+    }
 }
 
 // Serves a request of a store and reports how it ended. The hint is the part of the input or the table that the command itself hinted at, or else
@@ -133,8 +174,8 @@ fn serve_and_report<
     let mut left_out = Vec::new(rt.alloc());
     let done = serve(rt, request, input, output, &mut hinted, &mut left_out);
     let audience = audience_after_output(audience, output);
-    let others = report_of_others(rt, request, &hinted, &done, audience);
-    match hint_of(&hinted, others.as_str()) {
+    let about = about_hinted(rt, request, &hinted, input.start(), &done, audience);
+    match hint_of(&hinted, about.as_str()) {
         Some(hint) => end_whole_or_partly(done, &left_out, Some(hint), audience, errors),
         None => {
             let served = Served {

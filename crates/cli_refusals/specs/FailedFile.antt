@@ -33,6 +33,8 @@ reason_text (reasons.Unmade text) = codes "cannot be made: " ++ string_bytes tex
 reason_text (reasons.Unread text) = codes "cannot be read: " ++ string_bytes text
 reason_text (reasons.Unwritten text) = codes "cannot be written: " ++ string_bytes text
 reason_text (reasons.Unsynced text) = codes "cannot be synced: " ++ string_bytes text
+reason_text (reasons.NewUnwritten text) = codes "cannot be written: " ++ string_bytes text
+reason_text (reasons.NewUnsynced text) = codes "cannot be synced: " ++ string_bytes text
 
 -- what to do about a file of another length than its store: one byte more is left by a copy that was interrupted, whose file lacks tables
 abbrev pub length_remedy : OtherLength → List ℕ
@@ -61,3 +63,5 @@ reason_remedy (reasons.Unmade text) refusal = remedies.FOLDER_OF_A_NEW_FILE.now
 reason_remedy (reasons.Unread text) refusal = unread_remedy refusal
 reason_remedy (reasons.Unwritten text) refusal = unwritten_remedy refusal
 reason_remedy (reasons.Unsynced text) refusal = unwritten_remedy refusal
+reason_remedy (reasons.NewUnwritten text) refusal = remedies.ROOM_FOR_THE_NEW_FILE.now
+reason_remedy (reasons.NewUnsynced text) refusal = remedies.ROOM_FOR_THE_NEW_FILE.now

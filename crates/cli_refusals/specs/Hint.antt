@@ -1,6 +1,6 @@
 -- What is reported on a terminal as refused, before what to do: a word of the command line, a file, the input or the output, a part of the input, a
 -- field of a stream, a table, or a line of a script.
-use Rattle.std.specs.Prelude.{ℕ, ◌==◌, ◌++◌, decimal, codes, List, [], Option, Some, None, string_bytes, if◌then◌else◌}
+use Rattle.std.specs.Prelude.{ℕ, ◌==◌, ◌++◌, decimal, codes, List, [], length, Option, Some, None, string_bytes, if◌then◌else◌}
 use Rattle.text_import.specs.Part.{PlainPart, nested_column, header_name, header_count, record_count, field, line, PlainLinePart, value_part, other_count, unknown_name, repeated_name, part_of}
 use Rattle.text_import.specs.declared.value_part.Reason.{Reason}
 use Rattle.text_import.specs.declared.value_part.Reason.TheVariants.{Value, Missing, Unknown, Repeated, Count}
@@ -11,14 +11,24 @@ use Rattle.cli_refusals.specs.FailedFile.{path_of, reason_of, reason_text, reaso
 use Rattle.cli_refusals.specs.Shown.{shown}
 use Rattle.cli_refusals.specs.Form.{line_form, name_form, script_line_form}
 use Rattle.cli_refusals.specs.Remedies.{remedy}
+use Rattle.cli_refusals.specs.PartRemedy.{part_remedy}
 use Rattle.cli_refusals.specs.declared.refusal.Refusal.{Refusal}
+use Rattle.cli_refusals.specs.declared.refusal.Refusal.TheVariants.{Text}
 use Rattle.cli_refusals.specs.declared.remedies.TheConstants.{NUMBER_OF_SECTORS, READ_INPUT, LOOK_FIRST}
+
+-- the name of a field, and its text, which is not empty
+abbrev pub filled_field_text : (name text : List ℕ) → List ℕ
+filled_field_text name text = codes "The text `" ++ text ++ codes "` of field `" ++ name ++ codes "` is refused. "
+
+-- the name and the text of a field, which may be empty
+abbrev pub text_of_field : (name text : List ℕ) → List ℕ
+text_of_field name text = if length text == 0 then codes "The field `" ++ name ++ codes "` is empty. " else filled_field_text name text
 
 -- the name of a field, and its text
 abbrev pub field_text : (name text : Option (List ℕ)) → List ℕ
 field_text None text = []
 field_text (Some name) None = codes "The field `" ++ name ++ codes "` is refused. "
-field_text (Some name) (Some text) = codes "The text `" ++ text ++ codes "` of field `" ++ name ++ codes "` is refused. "
+field_text (Some name) (Some text) = text_of_field name text
 
 -- the name and the text of a field of a stream, and the text of the field that the table has in its place
 abbrev pub other_field_text : (name found wanted : Option (List ℕ)) → List ℕ
@@ -101,24 +111,30 @@ part_text (field name text) = field_text (shown name) (shown text)
 part_text (line part text) = line_text (shown text) ++ line_form text ++ line_part_text part
 
 unfoldable pub hint_text : Hint → List ℕ
-hint_text (Word word) = codes "The " ++ role_text word.role ++ codes " `" ++ word.text.now ++ codes "` is refused. "
+hint_text (Word word about) = codes "The " ++ role_text word.role ++ codes " `" ++ word.text.now ++ codes "` is refused. " ++ about.now
 hint_text (Sectors number) = codes "The number of sectors `" ++ decimal number ++ codes "` is refused. "
 hint_text (File file) = codes "The file `" ++ path_of file.now ++ codes "` " ++ reason_text (reason_of file.now) ++ codes ". "
 hint_text (Input reason) = codes "The input cannot be read: " ++ reason.now ++ codes ". "
 hint_text EmptyInput = codes "The input is empty. "
 hint_text (Output reason) = codes "The output cannot be written: " ++ reason.now ++ codes ". "
-hint_text (Part part) = part_text (part_of part.now)
+hint_text (Part part about) = part_text (part_of part.now) ++ about.now
 hint_text (Table name others) = table_text (shown (string_bytes name.now)) ++ others.now
 hint_text (UnreadTable name) = table_text (shown name.now)
-hint_text (ScriptLine text) = line_text (shown text.now) ++ script_line_form text.now
+hint_text (ScriptLine text about) = line_text (shown text.now) ++ script_line_form text.now ++ about.now
 hint_text (Field name) = field_text (shown name.now) None
 hint_text (OtherField name found wanted) = other_field_text (shown name.now) (shown found.now) (shown wanted.now)
 hint_text (FieldCount fields columns) = counts_text (codes "input") (codes "field") fields columns
 
--- what to do about a refusal of which this is known: a number of sectors, a file, the input and the output have sentences of their own
+-- what to do about a refusal of a part of the input: only a text has such a part
+abbrev pub remedy_of_part : PlainPart → Refusal → List ℕ
+remedy_of_part part (Text refused) = part_remedy part refused.refusal
+remedy_of_part part refusal = remedy refusal
+
+-- what to do about a refusal of which this is known: a number of sectors, a file, the input, its parts and the output have sentences of their own
 abbrev pub remedy_of : Hint → Refusal → List ℕ
 remedy_of (Sectors number) refusal = NUMBER_OF_SECTORS.now
 remedy_of (File file) refusal = reason_remedy (reason_of file.now) refusal
 remedy_of (Input reason) refusal = READ_INPUT.now
 remedy_of (Output reason) refusal = LOOK_FIRST.now
+remedy_of (Part part about) refusal = remedy_of_part (part_of part.now) refusal
 remedy_of hint refusal = remedy refusal

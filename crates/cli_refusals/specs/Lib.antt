@@ -1,5 +1,6 @@
 pub mod Refusals
 pub mod Remedies
+pub mod PartRemedy
 pub mod Page
 pub mod RefusedWord
 pub mod Shown

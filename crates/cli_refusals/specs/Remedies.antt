@@ -41,7 +41,7 @@ fields_remedy (fields.BadText number) = remedies.FORM_OF_A_FIELD.now
 fields_remedy fields.Limit = remedies.SMALLER_FIELDS.now
 fields_remedy fields.OutOfMemory = remedies.MORE_MEMORY.now
 
--- for a text of rows; all others lie with a record
+-- for a text of rows
 unfoldable pub text_remedy : text_refusals.Refusal → List ℕ
 text_remedy texts.Header = remedies.NAMES_FIRST.now
 text_remedy texts.Nested = remedies.GIVE_JSON_LINES.now
@@ -49,7 +49,17 @@ text_remedy texts.AmbiguousNames = remedies.GIVE_ARRAYS.now
 text_remedy texts.NotANumber = remedies.WRITE_DIGITS.now
 text_remedy texts.Json = remedies.ROW_ON_A_LINE.now
 text_remedy texts.Width = remedies.CLOSE_QUOTATION_MARKS.now
-text_remedy _ = remedies.FIX_RECORD.now
+text_remedy texts.TooHeavy = remedies.CLOSE_QUOTATION_MARKS.now
+text_remedy texts.NotUtf8 = remedies.WRITE_UTF_8.now
+text_remedy texts.OutOfRange = remedies.WITHIN_THE_RANGE.now
+text_remedy texts.NotABool = remedies.WRITE_A_BOOLEAN.now
+text_remedy texts.NotHex = remedies.WRITE_HEXADECIMAL.now
+text_remedy texts.NullMismatch = remedies.GIVE_A_VALUE.now
+text_remedy texts.UnknownName = remedies.NAMES_OF_THE_SCHEMA.now
+text_remedy texts.MissingName = remedies.GIVE_THE_NAME.now
+text_remedy texts.FixedWidth = remedies.BYTES_OF_THE_TYPE.now
+text_remedy texts.DictionaryFull = remedies.FEWER_VALUES.now
+text_remedy texts.WrongKind = remedies.KIND_OF_THE_TYPE.now
 
 -- for a query
 unfoldable pub query_remedy : QueryRefusal → List ℕ

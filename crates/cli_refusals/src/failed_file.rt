@@ -8,7 +8,7 @@ ghost use Rattle.cli_refusals.specs.Shown.{is_unshown};
 use crate::Refusal;
 use crate::remedies::{
     FILE_OF_A_STORE, FOLDER_OF_A_NEW_FILE, LENGTH_OF_THE_STORE, NEW_PATH, NO_FOLDER,
-    PATH_AND_RIGHTS, READABLE_FILE, ROOM_ON_THE_DISK, UNFINISHED_COPY, WAIT,
+    PATH_AND_RIGHTS, READABLE_FILE, ROOM_FOR_THE_NEW_FILE, ROOM_ON_THE_DISK, UNFINISHED_COPY, WAIT,
 };
 use crate::shown::has_unshown;
 use std::alloc::Global;
@@ -76,6 +76,10 @@ pub enum FileReason {
     Unwritten(String),
     /// It could not be synced to the disk, with the system's reason.
     Unsynced(String),
+    /// The command made it, could not write it or give it its length, and removed it, with the system's reason.
+    NewUnwritten(String),
+    /// The command made it, could not sync it to the disk, and removed it, with the system's reason.
+    NewUnsynced(String),
 }
 
 // Returns what to do about a file that can't be read. A device has the remedy of its refusal, and so has one that can't be written.
@@ -112,6 +116,7 @@ impl FileReason {
             FileReason::Unmade(_) => FOLDER_OF_A_NEW_FILE,
             FileReason::Unread(_) => unread_remedy(refusal),
             FileReason::Unwritten(_) | FileReason::Unsynced(_) => unwritten_remedy(refusal),
+            FileReason::NewUnwritten(_) | FileReason::NewUnsynced(_) => ROOM_FOR_THE_NEW_FILE,
         }
     }
 }
@@ -135,6 +140,8 @@ impl fmt::Display for FileReason {
             FileReason::Unread(text) => write!(f, "cannot be read: {text}"),
             FileReason::Unwritten(text) => write!(f, "cannot be written: {text}"),
             FileReason::Unsynced(text) => write!(f, "cannot be synced: {text}"),
+            FileReason::NewUnwritten(text) => write!(f, "cannot be written: {text}"),
+            FileReason::NewUnsynced(text) => write!(f, "cannot be synced: {text}"),
         }
     }
 }

@@ -1,9 +1,11 @@
 // What is refused, if more of it is known than the refusal carries.
 ghost use Rattle.std.specs.Prelude.{◌≡◌, ◌++◌, option_map, string_bytes, OnOk};
-ghost use Rattle.cli_refusals.specs.Hint.{remedy_of, table_text};
+ghost use Rattle.text_import.specs.Part.{part_of};
+ghost use Rattle.cli_refusals.specs.Hint.{remedy_of, remedy_of_part, table_text};
 ghost use Rattle.cli_refusals.specs.Shown.{shown};
 
 use crate::form::script_line_form;
+use crate::part_remedy::part_remedy;
 use crate::part_shown::{Counts, FieldShown, LineShown, OtherFieldShown, PartShown};
 use crate::remedies::{LOOK_FIRST, NUMBER_OF_SECTORS, READ_INPUT};
 use crate::shown::shown;
@@ -24,8 +26,11 @@ pub enum Hinted {
 /// What is reported on a terminal as refused.
 #[derive(Clone, Copy)]
 pub enum Hint<'a> {
-    /// A word of the command line.
-    Word(Word<'a>),
+    /// A word of the command line, and sentences about it, printed as they are.
+    Word {
+        word: Word<'a>,
+        about: &'a str,
+    },
     /// A number of sectors that no store has.
     Sectors(u64),
     /// A file that the command line or a script names and that can't be used, and why.
@@ -36,8 +41,12 @@ pub enum Hint<'a> {
     EmptyInput,
     /// The system's reason for a failed write of the output.
     Output(&'a str),
-    /// A part of the input. Each of its strings is printed if a terminal may be shown it, and what the bytes of a line or a name say about its form.
-    Part(&'a RefusedPart),
+    /// A part of the input. Each of its strings is printed if a terminal may be shown it, and what the bytes of a line or a name say about its form;
+    /// and sentences about it, printed as they are.
+    Part {
+        part: &'a RefusedPart,
+        about: &'a str,
+    },
     /// The name of a table that a command hints at, printed if a terminal may be shown it; and sentences about other tables, as [`report_table`]
     /// writes them, printed as they are.
     Table {
@@ -46,8 +55,12 @@ pub enum Hint<'a> {
     },
     /// The name of a table that was found unreadable after the command, printed if a terminal may be shown it.
     UnreadTable(&'a str),
-    /// A line of a script, printed if a terminal may be shown it, and what its first or last bytes say about its form.
-    ScriptLine(&'a [u8]),
+    /// A line of a script, printed if a terminal may be shown it, and what its first or last bytes say about its form; and sentences about it,
+    /// printed as they are.
+    ScriptLine {
+        text: &'a [u8],
+        about: &'a str,
+    },
     /// The name of a field of a stream, printed if a terminal may be shown it.
     Field(&'a [u8]),
     /// The name and the text of a field of a stream, and the text of the field that the table has in its place. Each is printed if a terminal may
@@ -104,6 +117,16 @@ pub fn report_table(text: &mut String, name: &str) -> Result<(), AllocError>
     write!(text, "{}", TableShown::new(name))
 }
 
+// Returns what to do about a refusal of a part of the input. Only a text has such a part.
+fn remedy_of_part(part: &RefusedPart, refusal: Refusal) -> &'static str
+    ensures { result.now ≡ remedy_of_part (part_of part.now) refusal }
+{
+    match refusal {
+        Refusal::Text(refused) => part_remedy(part, refused.refusal),
+        _ => refusal.remedy(),
+    }
+}
+
 impl Hint<'_> {
     /// Returns what to do about a refusal of which this is known, in a sentence.
     pub fn remedy(&self, refusal: Refusal) -> &'static str
@@ -114,6 +137,7 @@ impl Hint<'_> {
             Hint::File(file) => file.reason.remedy(refusal),
             Hint::Input(_) => READ_INPUT,
             Hint::Output(_) => LOOK_FIRST,
+            Hint::Part { part, .. } => remedy_of_part(part, refusal),
             _ => refusal.remedy(),
         }
     }
@@ -129,20 +153,23 @@ impl fmt::Display for Hint<'_> {
     #[tactic(auto, unfolding(crate::specs::Hint::hint_text))]
     fn fmt<W: fmt::Write>(&self, f: &mut fmt::Formatter<W>) -> fmt::Result {
         match self {
-            Hint::Word(Word { role, text }) => write!(f, "The {role} `{text}` is refused. "),
+            Hint::Word {
+                word: Word { role, text },
+                about,
+            } => write!(f, "The {role} `{text}` is refused. {about}"),
             Hint::Sectors(number) => write!(f, "The number of sectors `{number}` is refused. "),
             Hint::File(file) => write!(f, "The file `{}` {}. ", file.path, file.reason),
             Hint::Input(reason) => write!(f, "The input cannot be read: {reason}. "),
             Hint::EmptyInput => f.write_str("The input is empty. "),
             Hint::Output(reason) => write!(f, "The output cannot be written: {reason}. "),
-            Hint::Part(part) => write!(f, "{}", PartShown { part }),
+            Hint::Part { part, about } => write!(f, "{}{about}", PartShown { part }),
             Hint::Table { name, others } => {
                 write!(f, "{}{others}", TableShown::new(name.as_str()))
             }
             Hint::UnreadTable(name) => write!(f, "{}", TableShown::new(name)),
-            Hint::ScriptLine(text) => {
+            Hint::ScriptLine { text, about } => {
                 let line = LineShown { text: shown(text) };
-                write!(f, "{line}{}", script_line_form(text))
+                write!(f, "{line}{}{about}", script_line_form(text))
             }
             Hint::Field(name) => write!(f, "{}", FieldShown::of_name(name)),
             Hint::OtherField {

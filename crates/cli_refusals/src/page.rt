@@ -1,24 +1,27 @@
 // The page of refusals.
 ghost use Rattle.std.specs.Prelude.{◌≡◌, string_bytes, IfOk};
-ghost use Rattle.cli_refusals.specs.Page.{refusals_page};
+ghost use Rattle.cli_refusals.specs.Page.{file_refusals, table_refusals, refusals_page};
 
 use crate::remedies::{
-    CHECK_FILES, CLOSE_AN_EXPORT, CLOSE_QUOTATION_MARKS, CONVERT_COLUMN, EARLIER_COPY,
-    FEWER_FIELDS, FEWER_ROWS, FEWER_SEGMENTS, FEWER_TABLES, FIELDS_OF_THE_TABLE, FILE_OF_A_STORE,
-    FIX_RECORD, FIX_ROW, FOLDER_OF_A_NEW_FILE, FORM_OF_A_CONDITION, FORM_OF_A_FIELD,
-    FORM_OF_A_NAME, GIVE_A_STREAM, GIVE_ALL, GIVE_ARRAYS, GIVE_JSON_LINES, GIVE_LESS, IMPORT_AGAIN,
-    LEAVE_OUT_MESSAGES, LENGTH_OF_THE_STORE, LINES_OF_A_SCRIPT, LITTLE_ENDIAN, LOOK_AGAIN,
-    LOOK_FIRST, MORE_MEMORY, MORE_ROOM, NAME_OF_A_TABLE, NAMES_FIRST, NAMES_OF_COLUMNS, NEW_PATH,
-    NEW_STORE, NO_COMPRESSION, NO_FOLDER, NUMBER_OF_SECTORS, ONE_STREAM, OTHER_NAME, OTHER_TABLE,
-    PATH_AND_RIGHTS, READ_INPUT, READABLE_FILE, ROOM_ON_THE_DISK, ROW_ON_A_LINE, SCHEMA_FIRST,
-    SHORTER_BATCHES, SMALLER_FIELDS, TEST_FOR_NULL, TRY_AGAIN, UNFINISHED_COPY, WAIT, WHOLE_FILE,
-    WRITE_AGAIN, WRITE_DIGITS, WRITE_V5,
+    BYTES_OF_THE_TYPE, CHECK_FILES, CLOSE_AN_EXPORT, CLOSE_QUOTATION_MARKS, CONVERT_COLUMN,
+    EARLIER_COPY, ESCAPE_CONTROLS, FEWER_FIELDS, FEWER_ROWS, FEWER_SEGMENTS, FEWER_TABLES,
+    FEWER_VALUES, FIELDS_OF_THE_TABLE, FILE_OF_A_STORE, FIX_ROW, FOLDER_OF_A_NEW_FILE,
+    FORM_OF_A_CONDITION, FORM_OF_A_FIELD, FORM_OF_A_NAME, GIVE_A_NUMBER, GIVE_A_STREAM,
+    GIVE_A_VALUE, GIVE_ALL, GIVE_ARRAYS, GIVE_JSON_LINES, GIVE_LESS, GIVE_THE_NAME, IMPORT_AGAIN,
+    ITEMS_OF_A_LINE, KIND_OF_THE_TYPE, LEAVE_OUT_MESSAGES, LENGTH_OF_THE_STORE, LINES_OF_A_SCRIPT,
+    LITTLE_ENDIAN, LOOK_AGAIN, LOOK_FIRST, MORE_MEMORY, MORE_ROOM, NAME_OF_A_TABLE, NAMES_FIRST,
+    NAMES_OF_COLUMNS, NAMES_OF_THE_SCHEMA, NEW_PATH, NEW_STORE, NO_COMPRESSION, NO_FOLDER,
+    NUMBER_OF_SECTORS, ONE_STREAM, OTHER_NAME, OTHER_TABLE, PATH_AND_RIGHTS, READ_INPUT,
+    READABLE_FILE, ROOM_FOR_THE_NEW_FILE, ROOM_ON_THE_DISK, ROW_ON_A_LINE, SCHEMA_FIRST,
+    SHORTER_BATCHES, SHORTER_VALUES, SMALLER_FIELDS, TEST_FOR_NULL, TRY_AGAIN, UNFINISHED_COPY,
+    WAIT, WHOLE_FILE, WITHIN_THE_RANGE, WRITE_A_BOOLEAN, WRITE_AGAIN, WRITE_DIGITS,
+    WRITE_HEXADECIMAL, WRITE_UTF_8, WRITE_V5,
 };
 use std::alloc::{AllocError, Global};
 
-/// What each refusal means and what to do about it: strings to be joined, among them the sentences of `remedies`. The file `docs/refusals.md` has
-/// the same bytes.
-pub const REFUSALS: [&str; 129] = [
+/// The pieces of the page of which its first sections are made: what each refusal of a stream, a file, a store or a field text means and what to do
+/// about it, among them the sentences of `remedies`. The file `docs/refusals.md` has the same bytes as the page.
+pub const FILE_REFUSALS: [&str; 81] = [
     "# What each refusal means
 
 A refusal is one line on standard error: `refused`, a code, a name, and for some of them a detail, as in
@@ -33,7 +36,11 @@ that can't be read. For a part of a text it shows the column that is a list or a
 header and the one that the table has, the number of fields of a record, a field with its text, or a line
 and what is refused in it. In a line, `p.x[3]` is the fourth item of the list `x` in the struct `p`: items
 are counted from 0. It also says if a line begins with a byte order mark or, in a script, ends with a
-carriage return, and if the header has a tab, a semicolon or the mark of UTF-16.
+carriage return, if the header has a tab, a semicolon or the mark of UTF-16, and if the text begins as a
+file that gzip has compressed. Where a type is the cause, it shows the field of the table, or its range. It
+gives the line on which a record of CSV begins, if quotation marks or empty lines before it have moved that
+and if it is within the first 65,536 bytes. And it says what is wrong with a condition or with the text of a
+new field.
 
 A refused command has changed no table, except as S9 and G1 say. It has written no output, except as G1
 says. `salvage` writes one segment after another, so it may have written some before S9 and OutOfMemory
@@ -144,6 +151,10 @@ or appended. If no advice follows a fault, the cause is the program that wrote t
   For a file that can't be written or synced: ",
     ROOM_ON_THE_DISK,
     "
+  For the new file of `format` or `copy` that can't be written or synced:
+  ",
+    ROOM_FOR_THE_NEW_FILE,
+    "
   For a folder, a named pipe or a device that is not a disk: ",
     NO_FOLDER,
     "
@@ -215,6 +226,10 @@ or appended. If no advice follows a fault, the cause is the program that wrote t
   ",
     TRY_AGAIN,
     "
+  For the new file of `format` or `copy` that can't be written or synced:
+  ",
+    ROOM_FOR_THE_NEW_FILE,
+    "
 
 ## P: the fields of `create`
 
@@ -227,15 +242,17 @@ or appended. If no advice follows a fault, the cause is the program that wrote t
   ",
     SMALLER_FIELDS,
     "
+",
+];
 
+/// The pieces of the page of which the other sections are made: refusals of a text, of a query and of an open store.
+pub const TABLE_REFUSALS: [&str; 83] = [
+    "
 ## X: a text that was to be appended
 
 N is the number of the first refused record. Records are counted from 1, in CSV after the line of names,
 in JSON Lines without blank lines. N is 0 if the text as a whole is refused. No row of the input is
-appended. If no advice follows a refusal, the cause is that record.
-",
-    FIX_RECORD,
-    "
+appended.
 
 - X1 Header 0: the first line does not consist of the names of the columns, separated by commas.
   ",
@@ -246,36 +263,82 @@ appended. If no advice follows a refusal, the cause is that record.
   ",
     CLOSE_QUOTATION_MARKS,
     "
-- X3 NotUtf8 N: a text, or a line of JSON, is not UTF-8.
+  For a line of JSON:
+  ",
+    ITEMS_OF_A_LINE,
+    "
+- X3 NotUtf8 N: a text, or a line of JSON, is not UTF-8. ",
+    WRITE_UTF_8,
+    "
 - X4 NotANumber N: a value is not an integer, which is written as digits, with or without a `-` before
   them. Dates and timestamps are integers too. In JSON `-0`, `1.0` and integers of more than 64 bits are
   also refused.
   ",
     WRITE_DIGITS,
     "
+  For a field of CSV that a terminal says is empty:
+  ",
+    GIVE_A_NUMBER,
+    "
 - X5 OutOfRange N: an integer is outside the range of its type.
+  ",
+    WITHIN_THE_RANGE,
+    "
 - X6 NotABool N: a value is neither `true` nor `false`.
+  ",
+    WRITE_A_BOOLEAN,
+    "
 - X7 NotHex N: bytes are not written as pairs of hexadecimal digits.
+  ",
+    WRITE_HEXADECIMAL,
+    "
 - X8 NullMismatch N: there is a null where none is allowed, or another value in a column of nulls.
+  ",
+    GIVE_A_VALUE,
+    "
 - X9 Nested 0: the table has lists or structs, which CSV cannot express. ",
     GIVE_JSON_LINES,
     "
 - X10 Json N: the line is not a JSON value, or it is nested more than 127 deep, or it has a number that is
-  too large for a float, or half of a surrogate pair without the other half. Within a string a tab is
-  written as `\\t`.
+  too large for a float, or half of a surrogate pair without the other half.
   ",
     ROW_ON_A_LINE,
     "
+  For a line with a control character:
+  ",
+    ESCAPE_CONTROLS,
+    "
 - X11 UnknownName N: an object has a name that is not a column or field.
+  ",
+    NAMES_OF_THE_SCHEMA,
+    "
 - X12 MissingName N: an object lacks the name of a column or field that does not allow nulls.
+  ",
+    GIVE_THE_NAME,
+    "
 - X13 AmbiguousNames N: two columns or fields have the same name. ",
     GIVE_ARRAYS,
     "
 - X14 FixedWidth N: a value has more or fewer bytes than its type.
+  ",
+    BYTES_OF_THE_TYPE,
+    "
 - X15 TooHeavy N: the row weighs more than 16,777,216 (F28).
-- X16 DictionaryFull N: within the row, a column has more distinct values than its dictionary can number.
-- X17 WrongKind N: the type takes another kind of JSON value: a string for texts and bytes, an array for
-  a list, an array or an object for a struct and for the row.
+  ",
+    CLOSE_QUOTATION_MARKS,
+    "
+  For a line of JSON: ",
+    SHORTER_VALUES,
+    "
+- X16 DictionaryFull N: within the row, a column has more distinct values than its dictionary can number:
+  indices of uint8 number 256 values, of int8 128, of uint16 65,536 and of int16 32,768.
+  ",
+    FEWER_VALUES,
+    "
+- X17 WrongKind N: the type takes another kind of JSON value.
+  ",
+    KIND_OF_THE_TYPE,
+    "
 
 ## Q: a query
 
@@ -344,6 +407,10 @@ appended. If no advice follows a refusal, the cause is that record.
   ",
     LOOK_AGAIN,
     "
+  For the new file of a `copy` that can't be written or synced:
+  ",
+    ROOM_FOR_THE_NEW_FILE,
+    "
 - S10 Halted: the device failed before, so the store accepts no command until it is opened again. Only
   `replay` reports this, for the lines of its script between a failure and `reopen`.
 - S12 Query REASON: the query of `query --save` is refused for this reason (Q).
@@ -360,6 +427,21 @@ appended. If no advice follows a refusal, the cause is that record.
     IMPORT_AGAIN,
     "
 
+## A store that does not open
+
+`C3 Damaged` means that bytes of the list of tables or of a commit were changed, or that the file has
+another length. Use an earlier copy of the file. If there is none, try this on a copy of the file, here
+named `copy`, and run `check` on that after it:
+
+- DeviceSize: give the copy its length again, 512 bytes for each sector that `format` was given, with
+  `truncate -s`. A terminal shows this length, also after G2 if the file begins as a store does. But if the
+  file is one byte longer than that, it is the new file of a `copy` that was interrupted, and lacks tables:
+  never cut it off, but delete it and copy again.
+- Another cause: write zeros over the commit with the greater epoch. The store may then open as it was
+  before its last command. `od -An -tu8 -j8 -N8 copy` prints the epoch in sector 0, and `-j520` in place of
+  `-j8` the one in sector 1. `dd if=/dev/zero of=copy bs=512 count=1 conv=notrunc` writes zeros over sector
+  0, and with `seek=1` over sector 1.
+
 ## Memory
 
 - OutOfMemory: memory was refused.
@@ -369,7 +451,21 @@ appended. If no advice follows a refusal, the cause is that record.
 ",
 ];
 
-/// Returns the strings of the page, joined.
+#[tactic(auto, unfolding(crate::specs::Page::file_refusals))]
+fn file_refusals(alloc: Global) -> Result<String, AllocError>
+    ensures { IfOk result (λ text. string_bytes text ≡ file_refusals) }
+{
+    FILE_REFUSALS.concat(alloc)
+}
+
+#[tactic(auto, unfolding(crate::specs::Page::table_refusals))]
+fn table_refusals(alloc: Global) -> Result<String, AllocError>
+    ensures { IfOk result (λ text. string_bytes text ≡ table_refusals) }
+{
+    TABLE_REFUSALS.concat(alloc)
+}
+
+/// Returns the page: the pieces of both parts, joined.
 ///
 /// # Errors
 /// `AllocError` if memory is refused.
@@ -377,5 +473,7 @@ appended. If no advice follows a refusal, the cause is that record.
 pub fn refusals_page(alloc: Global) -> Result<String, AllocError>
     ensures { IfOk result (λ text. string_bytes text ≡ refusals_page) }
 {
-    REFUSALS.concat(alloc)
+    let mut page = file_refusals(alloc)?;
+    page.push_str(&table_refusals(alloc)?)?;
+    Ok(page)
 }

@@ -7,6 +7,53 @@ use crate::shown::shown;
 use std::fmt;
 use text_import::{LinePart, Reason, RefusedPart};
 
+// The name of a field, and its text, which is not empty.
+#[derive(Drop)]
+struct FilledField<'a> {
+    name: &'a str,
+    text: &'a str,
+}
+
+impl fmt::Display for FilledField<'_> {
+    ghost use Rattle.std.specs.Prelude.{Some};
+    ghost use Rattle.cli_refusals.specs.Hint.{filled_field_text};
+
+    ghost output = { λ field. Some (filled_field_text field.name.now field.text.now) };
+
+    fn fmt<W: fmt::Write>(&self, f: &mut fmt::Formatter<W>) -> fmt::Result {
+        write!(
+            f,
+            "The text `{}` of field `{}` is refused. ",
+            self.text, self.name
+        )
+    }
+}
+
+// The name and the text of a field, which may be empty.
+#[derive(Drop)]
+struct TextOfField<'a> {
+    name: &'a str,
+    text: &'a str,
+}
+
+impl fmt::Display for TextOfField<'_> {
+    ghost use Rattle.std.specs.Prelude.{Some};
+    ghost use Rattle.cli_refusals.specs.Hint.{text_of_field};
+
+    ghost output = { λ field. Some (text_of_field field.name.now field.text.now) };
+
+    fn fmt<W: fmt::Write>(&self, f: &mut fmt::Formatter<W>) -> fmt::Result {
+        if self.text.is_empty() {
+            return write!(f, "The field `{}` is empty. ", self.name);
+        }
+        let field = FilledField {
+            name: self.name,
+            text: self.text,
+        };
+        write!(f, "{field}")
+    }
+}
+
 /// The name and the text of a field, if they may be shown.
 #[derive(Drop)]
 pub(crate) struct FieldShown<'a> {
@@ -36,9 +83,7 @@ impl fmt::Display for FieldShown<'_> {
         match (self.name, self.text) {
             (None, _) => Ok(()),
             (Some(name), None) => write!(f, "The field `{name}` is refused. "),
-            (Some(name), Some(text)) => {
-                write!(f, "The text `{text}` of field `{name}` is refused. ")
-            }
+            (Some(name), Some(text)) => write!(f, "{}", TextOfField { name, text }),
         }
     }
 }

@@ -38,7 +38,8 @@ pub const NO_COMPRESSION: &str = "Have the stream written without compression.";
 
 pub const SHORTER_BATCHES: &str = "Have the stream written in shorter batches.";
 
-pub const FEWER_ROWS: &str = "Give fewer rows.";
+pub const FEWER_ROWS: &str =
+    "Give fewer rows. If one row alone is too heavy, give shorter texts, binaries and lists in it.";
 
 // ---- G and C: files
 
@@ -65,6 +66,9 @@ pub const READABLE_FILE: &str = "Check that it is a file that can be read, and t
 pub const ROOM_ON_THE_DISK: &str =
     "Check the disk, its room and any limit on the size of files, and try again.";
 
+pub const ROOM_FOR_THE_NEW_FILE: &str =
+    "The new file was removed. Check the disk, its room and any limit on the size of files, and run the command again.";
+
 pub const NUMBER_OF_SECTORS: &str = "Give 16 to 4194304 sectors.";
 
 pub const WHOLE_FILE: &str =
@@ -85,7 +89,7 @@ pub const FILE_OF_A_STORE: &str =
     "Give the file of a store. If a `format` or `copy` was interrupted, delete its new file and run the command again.";
 
 pub const EARLIER_COPY: &str =
-    "Use an earlier copy of the file. If there is none, see \"A store that does not open\" in docs/using.md.";
+    "Use an earlier copy of the file. If there is none, see \"A store that does not open\" in `arrowstore help refusals`.";
 
 pub const TRY_AGAIN: &str = "Check the disk, and try again.";
 
@@ -99,16 +103,55 @@ pub const SMALLER_FIELDS: &str =
 
 // ---- X: texts
 
-pub const FIX_RECORD: &str = "Fix the record, and append the whole text again.";
-
 pub const CLOSE_QUOTATION_MARKS: &str =
     "Fix the record, and append the whole text again. In CSV a quotation mark that is not closed takes the lines after it into its field.";
+
+pub const ITEMS_OF_A_LINE: &str =
+    "Give an item for each column of the table, each field of the struct or each place of the list. Then append the whole text again.";
+
+pub const WRITE_UTF_8: &str = "Write the text in UTF-8, and append the whole text again.";
 
 pub const WRITE_DIGITS: &str =
     "Write an integer as digits, within 64 bits; a date or a timestamp is the number of days or seconds, .. since 1970-01-01. Then append the whole text again.";
 
+pub const GIVE_A_NUMBER: &str =
+    "Give an integer. An empty field is a null only if the column allows nulls and `--null` names no other text. Then append the whole text again.";
+
+pub const WITHIN_THE_RANGE: &str =
+    "Give an integer within the range of its type, as -128 to 127 for int8 and 0 to 255 for uint8. Then append the whole text again.";
+
+pub const WRITE_A_BOOLEAN: &str =
+    "Write `true` or `false` in lower case, in JSON without quotation marks. Then append the whole text again.";
+
+pub const WRITE_HEXADECIMAL: &str =
+    "Write bytes as pairs of hexadecimal digits, as in `00ff`. Then append the whole text again.";
+
+pub const GIVE_A_VALUE: &str =
+    "Give a value where the field allows no null, and only a null where its type is null. Then append the whole text again.";
+
 pub const ROW_ON_A_LINE: &str =
     "Fix the line. If rows are over several lines, `jq -c .` makes a line of each, and `jq -c '.[]'` does so of one array. Then append the whole text again.";
+
+pub const ESCAPE_CONTROLS: &str =
+    "Fix the line, which has a control character: within a string write a tab as `\\t`, and others as in `\\u001b`. Then append the whole text again.";
+
+pub const NAMES_OF_THE_SCHEMA: &str =
+    "Give only the names of columns and fields that `schema` prints. Then append the whole text again.";
+
+pub const GIVE_THE_NAME: &str =
+    "Give the name with a value: only one that allows nulls can be left out. Then append the whole text again.";
+
+pub const BYTES_OF_THE_TYPE: &str =
+    "Give as many bytes as the type has, each as two hexadecimal digits. `schema` prints the type. Then append the whole text again.";
+
+pub const SHORTER_VALUES: &str =
+    "Give shorter texts, binaries and lists in the row. Then append the whole text again.";
+
+pub const FEWER_VALUES: &str =
+    "Give at most 128 distinct values of the column in one row if its dictionary has int8 indices, and 256 if uint8. Then append the whole text again.";
+
+pub const KIND_OF_THE_TYPE: &str =
+    "Give a string for a text or bytes, an array for a list, and an array or an object for a struct or the row. Then append the whole text again.";
 
 pub const NAMES_FIRST: &str =
     "Begin the text with the names of the columns, in the order that `schema` prints.";
@@ -213,7 +256,7 @@ fn fields_remedy(error: ParseError) -> &'static str
 }
 
 #[tactic(auto, unfolding(crate::specs::Remedies::text_remedy))]
-fn text_remedy(refusal: text_import::Refusal) -> &'static str
+pub(crate) fn text_remedy(refusal: text_import::Refusal) -> &'static str
     ensures { result.now ≡ text_remedy refusal }
 {
     match refusal {
@@ -222,18 +265,17 @@ fn text_remedy(refusal: text_import::Refusal) -> &'static str
         text_import::Refusal::AmbiguousNames => GIVE_ARRAYS,
         text_import::Refusal::NotANumber => WRITE_DIGITS,
         text_import::Refusal::Json => ROW_ON_A_LINE,
-        text_import::Refusal::Width => CLOSE_QUOTATION_MARKS,
-        text_import::Refusal::NotUtf8
-        | text_import::Refusal::OutOfRange
-        | text_import::Refusal::NotABool
-        | text_import::Refusal::NotHex
-        | text_import::Refusal::NullMismatch
-        | text_import::Refusal::UnknownName
-        | text_import::Refusal::MissingName
-        | text_import::Refusal::FixedWidth
-        | text_import::Refusal::TooHeavy
-        | text_import::Refusal::DictionaryFull
-        | text_import::Refusal::WrongKind => FIX_RECORD,
+        text_import::Refusal::Width | text_import::Refusal::TooHeavy => CLOSE_QUOTATION_MARKS,
+        text_import::Refusal::NotUtf8 => WRITE_UTF_8,
+        text_import::Refusal::OutOfRange => WITHIN_THE_RANGE,
+        text_import::Refusal::NotABool => WRITE_A_BOOLEAN,
+        text_import::Refusal::NotHex => WRITE_HEXADECIMAL,
+        text_import::Refusal::NullMismatch => GIVE_A_VALUE,
+        text_import::Refusal::UnknownName => NAMES_OF_THE_SCHEMA,
+        text_import::Refusal::MissingName => GIVE_THE_NAME,
+        text_import::Refusal::FixedWidth => BYTES_OF_THE_TYPE,
+        text_import::Refusal::DictionaryFull => FEWER_VALUES,
+        text_import::Refusal::WrongKind => KIND_OF_THE_TYPE,
     }
 }
 

@@ -1,0 +1,159 @@
+// What is wrong with a refused word of the command line or with a field text in a script, in sentences for a terminal.
+use arrow_schema::Field;
+use cli_refusals::{MOST_SHOWN, Refusal, Role, Word, has_unshown};
+use field_texts::{ParseError, field_text, parse_fields};
+use query::{Condition, Test};
+use std::alloc::Global;
+use tables::QueryRefusal;
+use values::Table;
+
+/// Returns whether a terminal is shown a text beside a refusal. A long one could hide the rest of the line.
+pub(crate) fn is_shown(text: &str) -> bool {
+    text.len() <= MOST_SHOWN && !has_unshown(text)
+}
+
+// Returns whether a text is one word of ASCII letters, digits and `_`, as the names of types are.
+fn is_plain(text: &str) -> bool {
+    text.bytes()
+        .all(|byte| byte.is_ascii_alphanumeric() || byte == b'_')
+}
+
+fn about_type(alloc: Global, name: &str) -> Option<String> {
+    if !is_plain(name) || !is_shown(name) {
+        return String::from_str(alloc, "Its type is unknown or has a wrong form. ").ok();
+    }
+    match name {
+        "list" | "large_list" | "fixed_list" | "struct" | "dict" | "fixed_binary" => {
+            format!(in alloc; "The type `{name}` lacks what it is made of. ").ok()
+        }
+        _ => format!(in alloc; "The type `{name}` is unknown. ").ok(),
+    }
+}
+
+// Returns what is wrong with a text that is not that of a field. Behind a right name a right type makes a field.
+fn about_field(alloc: Global, text: &str) -> Option<String> {
+    let Some((_, data_type)) = text.split_once(':') else {
+        return String::from_str(alloc, "It has no colon before a type. ").ok();
+    };
+    let probe = format!(in alloc; "a:{data_type}").ok()?;
+    match parse_fields(alloc, &[probe.as_str()]) {
+        Ok(_) => String::from_str(alloc, "Its name is not that of a field. ").ok(),
+        Err(ParseError::BadText(_)) => {
+            about_type(alloc, data_type.strip_suffix('?').unwrap_or(data_type))
+        }
+        Err(_) => None,
+    }
+}
+
+/// Returns which field text of a line of a script is refused, and what is wrong with it.
+pub(crate) fn about_line(alloc: Global, line: &[u8]) -> Option<String> {
+    let words = str::from_utf8(line).ok()?.strip_prefix("create ")?;
+    let (_, texts) = words.split_once(' ')?;
+    for text in texts.split(' ') {
+        if parse_fields(alloc, &[text]).is_err() {
+            if !is_shown(text) {
+                return None;
+            }
+            let about = about_field(alloc, text)?;
+            return format!(in alloc; "The field `{text}` is refused. {about}").ok();
+        }
+    }
+    None
+}
+
+// Returns what is wrong with a text that is not a condition.
+fn about_form(alloc: Global, text: &str) -> Option<String> {
+    let Some((_, rest)) = text.split_once(' ') else {
+        return String::from_str(alloc, "It has no space before an operator. ").ok();
+    };
+    let operator = match rest.split_once(' ') {
+        Some((operator, _)) => operator,
+        None => rest,
+    };
+    match operator {
+        "" => String::from_str(alloc, "It has no operator after the first space. ").ok(),
+        "=" | "!=" | "<" | "<=" | ">" | ">=" => {
+            String::from_str(alloc, "It has no space after its operator. ").ok()
+        }
+        "is" => String::from_str(alloc, "It ends neither in `is null` nor in `is not null`. ").ok(),
+        _ if is_shown(operator) => format!(in alloc; "`{operator}` is not an operator. ").ok(),
+        _ => None,
+    }
+}
+
+// Returns that a literal is not a value of the column's type.
+fn about_literal(alloc: Global, table: &Table, condition: &Condition) -> Option<String> {
+    let Test::Compared(_, literal) = &condition.test else {
+        return None;
+    };
+    let fields = &table.schema().fields;
+    let field = fields
+        .iter()
+        .find(|field| field.name.as_str() == condition.column.as_str())?;
+    let wanted = field_text(alloc, field).ok()?;
+    if !is_shown(literal) || !is_shown(&wanted) {
+        return None;
+    }
+    format!(in alloc; "`{literal}` is not a value of `{wanted}`. ").ok()
+}
+
+fn about_condition(alloc: Global, text: &str, table: Option<&Table>) -> Option<String> {
+    match Condition::parse(alloc, text) {
+        Ok(condition) => about_literal(alloc, table?, &condition),
+        Err(query::QueryError::BadCondition) => about_form(alloc, text),
+        Err(_) => None,
+    }
+}
+
+// Returns whether a name is that of a part of this list or struct, as `p.x` and `l[0]`.
+fn is_below(field: &Field, name: &str) -> bool {
+    match name.strip_prefix(field.name.as_str()) {
+        Some(rest) => field.data_type.is_nested()
+            && (rest.starts_with('.') || rest.starts_with('[')),
+        None => false,
+    }
+}
+
+// Returns that a name is that of a part of a column.
+fn about_name(alloc: Global, table: &Table, name: &str) -> Option<String> {
+    let fields = &table.schema().fields;
+    let field = fields.iter().find(|field| is_below(field, name))?;
+    let column = field.name.as_str();
+    if !is_shown(column) {
+        return None;
+    }
+    format!(in alloc; "Only the whole column `{column}` can be named, not a part of it. ").ok()
+}
+
+fn about_query(
+    alloc: Global,
+    word: Word<'_>,
+    table: Option<&Table>,
+    reason: QueryRefusal,
+) -> Option<String> {
+    match (word.role, reason) {
+        (Role::Condition, QueryRefusal::BadCondition) => about_condition(alloc, word.text, table),
+        (Role::Condition, QueryRefusal::UnknownColumn) => {
+            let (name, _) = word.text.split_once(' ')?;
+            about_name(alloc, table?, name)
+        }
+        (Role::Column, QueryRefusal::UnknownColumn) => about_name(alloc, table?, word.text),
+        _ => None,
+    }
+}
+
+/// Returns what is wrong with a refused word: with the text of a field, or with a condition or a column for a query of this table.
+pub(crate) fn about_word(
+    alloc: Global,
+    word: Word<'_>,
+    table: Option<&Table>,
+    refusal: &Refusal,
+) -> Option<String> {
+    match refusal {
+        Refusal::Fields(_) => about_field(alloc, word.text),
+        Refusal::Query(reason) | Refusal::Store(tables::Refusal::Query(reason)) => {
+            about_query(alloc, word, table, *reason)
+        }
+        _ => None,
+    }
+}
