@@ -14,7 +14,7 @@ loop-part-preserved g c =
     let i = c.loop-part.part-index in
     let bytes = c.bytes.result.now in
     let more = gathers_more (contents c.args.writer.now) (contents c.loop-part.writer) (contents c.put_part.new.writer) c.args.gathered.now.items c.loop-part.gathered.items c.put_part.new.gathered.items
-        (joined_parts (take i c.args.parts.now)) bytes c.loop-part.invariant c.in_ok-put_part.ensures.written in
+    (joined_parts (take i c.args.parts.now)) bytes c.loop-part.invariant c.in_ok-put_part.ensures.written in
     rw (parts_taken c.args.parts.now i c.part-item.result bytes c.loop-part-test.true c.part-item.is c.bytes.ensures) more
 
 pub returns-clause-written : goal.returns-clause-written

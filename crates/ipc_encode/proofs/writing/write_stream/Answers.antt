@@ -16,7 +16,7 @@ returns-clause-written g c =
     let was = rw c.deref.ensures.value at c.in_ok-put_parts.ensures.written in
     let now = rw c.deref-2.ensures.value at c.in_ok-put_part.ensures.written in
     let all = gathers_more first (contents c.put_parts.new.writer) (contents c.put_part.new.writer) c.args.gathered.now.items c.put_parts.new.gathered.items c.put_part.new.gathered.items
-        (joined_parts parts) last was now in
+    (joined_parts parts) last was now in
     let written = all_gathered first (contents c.put_part.new.writer) (contents c.write_gathered.new.writer) c.args.gathered.now.items c.put_part.new.gathered.items
-        (stream_in c.args.stream.now) all c.requires c.in_ok-write_gathered.ensures.written in
+    (stream_in c.args.stream.now) all c.requires c.in_ok-write_gathered.ensures.written in
     Appends-kept first (contents c.write_gathered.new.writer) (contents c.flush.new.self) (stream_in c.args.stream.now) written c.in_ok-flush.ensures.bytes
