@@ -1,9 +1,7 @@
 -- The bytes of buffers, as a loop goes over them.
-use Rattle.std.specs.List.{flat_map}
-use Rattle.std.proofs.Common.{◌≡◌, ℕ, ◌+◌, ◌<◌, List, [], ◌∷◌, ◌++◌, Bor, map, length, get_or, take, drop, ap, sym, ◌∙◌, append_assoc, append-nil, length-append}
+use Rattle.std.proofs.Common.{◌≡◌, ℕ, ◌+◌, ◌<◌, List, [], ◌∷◌, ◌++◌, Bor, map, length, get_or, take, drop, ap, sym, ◌∙◌, append_assoc, length-append}
 use Rattle.std.proofs.lemmas.List.{drop_more, map_push}
-use Rattle.std.proofs.lemmas.List.Concat.{flat_map-append}
-use Rattle.facts.specs.laws.Lists.{drop-item, flat_map-item, take-item}
+use Rattle.facts.specs.laws.Lists.{drop-item, flat_map-item, flat_map-push, take-item}
 use Rattle.batch_build.specs.Batch.{buffer_bytes, buffers_in, built_bytes, joined_slices}
 use Rattle.batch_build.specs.declared.batch.Buffer.{Buffer}
 use Rattle.batch_build.specs.declared.batch.BuiltBuffer.{BuiltBuffer}
@@ -45,8 +43,7 @@ slice_joined ss i d old new all lt added was =
 
 -- a part more
 pub part_joined : (old new : List Buffer) (part : Buffer) → new ≡ old ++ part ∷ [] → joined_parts new ≡ joined_parts old ++ buffer_bytes part
-part_joined old new part added =
-    ap joined_parts added ∙ flat_map-append buffer_bytes old (part ∷ []) ∙ ap (λ (xs : List ℕ). joined_parts old ++ xs) (append-nil (buffer_bytes part))
+part_joined old new part added = ap joined_parts added ∙ flat_map-push buffer_bytes old part
 
 -- the parts so far, with one more
 pub parts_taken : (parts : List Buffer) (i : ℕ) (part : Buffer) (bytes : List ℕ) → i < length parts → part ≡ get_or parts i part → bytes ≡ buffer_bytes part

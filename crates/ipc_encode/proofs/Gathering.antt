@@ -1,7 +1,7 @@
 -- Bytes that are gathered before they are written.
 use Rattle.std.specs.Prelude.{Option}
 use Rattle.std.specs.Io.KnownBytes.{Appends}
-use Rattle.std.proofs.Common.{◌≡◌, ℕ, List, [], ◌++◌, ap, refl, sym, ◌∙◌, append_assoc, append-nil}
+use Rattle.std.proofs.Common.{◌≡◌, ℕ, List, [], ◌++◌, ap, sym, ◌∙◌, append_assoc, append-nil}
 use Rattle.std.proofs.KnownBytes.{Appends-nil, Appends-trans}
 use Rattle.ipc_encode.specs.inner.Writing.{Gathers}
 
@@ -13,10 +13,6 @@ written_all old mid new before after bytes first then none =
 -- nothing is written
 pub only_gathered : (old : Option (List ℕ)) (before after bytes : List ℕ) → after ≡ before ++ bytes → Gathers old old before after bytes
 only_gathered old before after bytes added = ([], (Appends-nil old, sym added))
-
--- what was gathered is written
-pub written_before : (old new : Option (List ℕ)) (before none after bytes : List ℕ) → Appends old new before → none ≡ [] → after ≡ none ++ bytes → Gathers old new before after bytes
-written_before old new before none after bytes first is added = (before, (first, ap (λ (xs : List ℕ). before ++ xs) (sym (added ∙ ap (λ (xs : List ℕ). xs ++ bytes) is))))
 
 -- more bytes
 pub gathers_more : (first old new : Option (List ℕ)) (before mid after bytes more : List ℕ) → Gathers first old before mid bytes → Gathers old new mid after more

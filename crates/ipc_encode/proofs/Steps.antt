@@ -14,7 +14,7 @@ use Rattle.batch_build.specs.Batch.{PlainBatch, buffers_in, dictionary_of, node_
 use Rattle.ipc_canonical.specs.PieceStreams.{piece_stream, piece_streams, piece_counts}
 use Rattle.ipc_encode.specs.View.{with_schema}
 use Rattle.batch_build.specs.declared.batch.BuiltBatch.{BuiltBatch}
-use Rattle.ipc_encode.specs.inner.Messages.{built_messages, built_batch, entries_of_piece, batch_of_piece, IsFront, AreFew, HasFew}
+use Rattle.ipc_encode.specs.inner.Messages.{built_messages, built_batch, entries_of_piece, batch_of_piece, AreFew, HasFew}
 use Rattle.cells.specs.Cell.{Cell, PlainTable}
 use Rattle.cells.specs.Dictionary.{dictionaries_fit}
 use Rattle.cells.specs.Weight.{row_weight, table_weight}
@@ -27,7 +27,7 @@ use Rattle.columns.specs.Tests.{Typed}
 use Rattle.ipc_message.specs.Raw.{RawNode}
 use Rattle.table_cut.specs.Cut.{pieces, within_limits}
 use Rattle.ipc_write.specs.Trees.{raw_node as written_node}
-use Rattle.ipc_write.specs.Written.{body, schema_message, dictionary_message, batch_message, end_of_stream, HasRoom, IsWritableBatch}
+use Rattle.ipc_write.specs.Written.{schema_message, dictionary_message, batch_message, end_of_stream, HasRoom, IsWritableBatch}
 use Rattle.table_cut.specs.Piece.{within_piece}
 use Rattle.ipc_canonical.specs.WrittenBatch.{raw_node, raw_nodes, IsWritable}
 

@@ -169,6 +169,70 @@ fn rows_are_written_also_without_memory(rt: HostRuntime) {
     assert!(rt; is_one_well(first, second));
 }
 
+// The numbers of rows of the record batches of a stream, and of those that are written. A piece has values of long runs, of short ones, of empty ones
+// between, of runs that end within another piece, and more than are gathered before they are written.
+type Batches = (&'static [u32], &'static [u32]);
+
+const SHORT: &[Batches] = &[
+    (&[100, 0, 65], &[165]),
+    (&[64, 64], &[128]),
+    (&[3, 0, 2], &[5]),
+    (&[1023, 1024, 1025], &[3072]),
+    (&[5000, 1, 5000], &[4096, 4096, 1809]),
+    (&[1000; 20], &[4096, 4096, 4096, 4096, 3616]),
+];
+
+fn numbers(alloc: Global, from: u32, to: u32) -> Result<Vec<u32>, AllocError> {
+    let mut numbers = Vec::new(alloc);
+    for number in from..to {
+        numbers.push(number)?;
+    }
+    Ok(numbers)
+}
+
+// Returns the stream of the numbers from 0 on, in batches of so many rows.
+fn stream_of_batches(alloc: Global, batches: &[u32]) -> Result<Vec<u8>, AllocError> {
+    let mut stream = Vec::from_slice(alloc, &SCHEMA)?;
+    let mut from = 0u32;
+    for rows in batches {
+        let to = from.wrapping_add(*rows);
+        add_batch(alloc, &mut stream, &numbers(alloc, from, to)?)?;
+        from = to;
+    }
+    stream.extend_from_slice(&END)?;
+    Ok(stream)
+}
+
+fn table_of_stream(alloc: Global, stream: Vec<u8>) -> Result<Table, NotMade> {
+    decode(alloc, stream).map_err(|_| NotMade)
+}
+
+// Returns whether a table is written as these bytes, with its parts joined or one after another.
+fn is_written_as(alloc: Global, table: &Table, bytes: &[u8]) -> Result<bool, NotMade> {
+    let mut out = Vec::new(alloc);
+    let well = encode_to(alloc, table, &mut out).is_ok();
+    Ok(is_stream_of(alloc, table, bytes)? && well && out.as_slice() == bytes)
+}
+
+fn is_cut(alloc: Global, case: &Batches) -> Result<bool, NotMade> {
+    let table = table_of_stream(alloc, stream_of_batches(alloc, case.0)?)?;
+    is_written_as(alloc, &table, &stream_of_batches(alloc, case.1)?)
+}
+
+fn wrongly_cut(alloc: Global) -> Result<Option<usize>, NotMade> {
+    for (place, case) in SHORT.iter().enumerate() {
+        if !is_cut(alloc, case)? {
+            return Ok(Some(place));
+        }
+    }
+    Ok(None)
+}
+
+#[test]
+fn batches_are_written_in_pieces(rt: HostRuntime) {
+    assert_no_row(&rt, wrongly_cut(rt.alloc()));
+}
+
 fn are_numbers(alloc: Global, table: &Table) -> Result<bool, NotMade> {
     let schema = schema_of_columns(alloc, COLUMNS)?;
     Ok(has_rows(table, NUMBER_TEXTS) && same_shape(table.schema(), &schema))

@@ -1,4 +1,4 @@
-use Rattle.std.proofs.Common.{◌≡◌, List, ℕ, map, length, ap, sym, ◌∙◌}
+use Rattle.std.proofs.Common.{◌≡◌, List, ℕ, map, ap, sym, ◌∙◌}
 use Rattle.batch_build.specs.Batch.{buffers_in, node_in}
 use Rattle.ipc_encode.specs.inner.Messages.{built_batch}
 use Rattle.ipc_encode.proofs.front.BatchFront.new.Goals as goal
