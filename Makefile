@@ -8,7 +8,7 @@ TESTS := $(foreach crate,$(REFUSING),crates/$(crate)/out/$(crate)_tests)
 
 PREFIX ?= /usr/local
 
-.PHONY: all proved dist install uninstall test gate-cost gate wrong-bodies memory vectors bench bench-recode bench-shapes bench-texts bench-store bench-device bench-bitmap
+.PHONY: all proved dist install uninstall test gate-cost gate wrong-bodies memory vectors bench bench-recode bench-dictionaries bench-shapes bench-texts bench-store bench-device bench-bitmap
 .DELETE_ON_ERROR:
 
 # Puts the program into bin/ and runs it once, on the stream of examples/.
@@ -50,6 +50,7 @@ $(TESTS): crates/%_tests: $(SOURCES)
 
 # All that must pass, and then what it cost crate by crate (docs/gate.md).
 test gate-cost:
+	@tools/look_for "The gate proves and builds these sources" rt gcc python3
 	@echo "The gate proves every crate from nothing, twice where it has tests or edits: that takes about an hour on four processors."
 	tools/gate_cost $(MAKE) --no-print-directory gate
 
@@ -71,6 +72,7 @@ memory: $(TESTS)
 # The program as it is built, on whole streams, with failing input and output, with each read and each write failed and each allocation refused; then texts.
 vectors: bin/arrowstore
 	tests/readme bin/arrowstore
+	tests/recipes bin/arrowstore
 	tests/program bin/arrowstore
 	tests/stores bin/arrowstore
 	tests/images_open bin/arrowstore
@@ -78,6 +80,8 @@ vectors: bin/arrowstore
 	tests/sessions bin/arrowstore tests/vectors/sessions_digests tests/vectors/replays_digests
 	tests/replays bin/arrowstore
 	tests/killed bin/arrowstore
+	tests/power_cuts bin/arrowstore
+	tests/failing_disks bin/arrowstore
 	tests/types bin/arrowstore
 	tests/shapes bin/arrowstore
 	tests/metadata bin/arrowstore
@@ -88,10 +92,13 @@ vectors: bin/arrowstore
 	tests/texts bin/arrowstore tests/vectors/texts.jsonl tests/vectors/texts_worked.jsonl
 	tests/dist bin/arrowstore
 
-bench: bench-recode bench-shapes bench-texts bench-store bench-device bench-bitmap
+bench: bench-recode bench-dictionaries bench-shapes bench-texts bench-store bench-device bench-bitmap
 
 bench-recode: bin/arrowstore
 	bench/recode bin/arrowstore
+
+bench-dictionaries: bin/arrowstore
+	bench/dictionaries bin/arrowstore
 
 bench-shapes: bin/arrowstore
 	bench/shapes bin/arrowstore

@@ -1,7 +1,9 @@
 """Runs the built program as a user does, and compares its exit status, its lines and its bytes with what is wanted."""
 import re
+import resource
 import subprocess
 import sys
+from concurrent.futures import ProcessPoolExecutor
 
 # Runs a program, and says at the end of what it said how many kilobytes of it were resident at most. What the script that runs it holds does not count.
 MEASURED = """
@@ -51,3 +53,25 @@ class Answers:
             print(difference)
         print(f"{name}: {self.passed} passed, {len(self.wrong)} failed")
         return 1 if self.wrong else 0
+
+
+def print_some(name, wrong, most=4):
+    """The first differences of a case: one fault often shows in many places."""
+    for difference in wrong[:most]:
+        print(difference)
+    if len(wrong) > most:
+        print(f"{name}: {len(wrong) - most} more differences")
+
+
+def play_cases(name, played, cases, processes):
+    """Plays cases at once, each by `played`, which gives the numbers of comparisons and of images, and each difference. Prints differences, and last how many
+    comparisons passed. Gives the number of images and whether all is right."""
+    passed, failed, images = 0, 0, 0
+    with ProcessPoolExecutor(processes) as pool:
+        for case, (right, found, wrong) in zip(cases, pool.map(played, cases)):
+            print_some(case, wrong)
+            passed, failed, images = passed + right, failed + len(wrong), images + found
+    used = sum(sum(resource.getrusage(who)[:2]) for who in (resource.RUSAGE_SELF, resource.RUSAGE_CHILDREN))
+    print(f"{images:,} images of {len(cases)} cases, in {used:.0f} seconds of processor time")
+    print(f"{name}: {passed} passed, {failed} failed")
+    return images, failed == 0

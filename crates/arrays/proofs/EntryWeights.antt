@@ -25,7 +25,7 @@ one_case w cell size true own none = own
 one_case w cell size false own none = omega (arith, none)
 
 -- an entry of the one array
-only_entry : (f : ℕ → Cell) (n i : ℕ) → i < n → get_or (cells_from f 0 n ++ []) i null ≡ f i
+pub only_entry : (f : ℕ → Cell) (n i : ℕ) → i < n → get_or (cells_from f 0 n ++ []) i null ≡ f i
 only_entry f n i lt =
     let long : length (cells_from f 0 n) ≡ n = length-map-range_with_len f 0 n in
     let e : 0 + i ≡ i = omega arith in

@@ -22,6 +22,7 @@ pub mod RowWeights
 pub mod VisibleSpans
 pub mod SpanLists
 pub mod VisibleSlots
+pub mod EntryNulls
 pub mod VisibleTexts
 pub mod VisibleUtf8
 pub mod MayFind

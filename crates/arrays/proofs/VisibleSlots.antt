@@ -1,9 +1,9 @@
 -- What is asked of a visible slot itself.
-use Rattle.std.specs.Prelude.{◌||◌, ◌&&◌, not, ◌==◌, nat_lt, if◌then◌else◌}
+use Rattle.std.specs.Prelude.{◌||◌, ◌&&◌, not, ◌==◌, nat_le, nat_lt, ℤ, pos, negsuc, Option, IfSome, is_some, if◌then◌else◌}
 use Rattle.std.specs.List.{list_any, range_with_len}
 use Rattle.std.specs.Str.{is_utf8}
-use Rattle.std.proofs.Common.{◌≡◌, ℕ, zero, suc, Bool, true, false, List, length, Some, None, refl, arith, ap, ◌∙◌}
-use Rattle.std.proofs.lemmas.Bool.{and_parts, not-true}
+use Rattle.std.proofs.Common.{◌≡◌, ◌<◌, ◌≤◌, ℕ, zero, suc, Bool, true, false, List, [], ◌∷◌, length, Some, None, refl, arith, ap, ◌∙◌}
+use Rattle.std.proofs.lemmas.Bool.{and_parts, and_right, or_parts, not-true}
 use Rattle.std.proofs.lemmas.Bool.Decides.{nat_tests}
 use Rattle.std.proofs.lemmas.List.FromFn.{length-range_with_len}
 use Rattle.facts.specs.laws.Lists.{none_in_range}
@@ -19,7 +19,7 @@ use Rattle.columns.specs.declared.view.ArrayView.{ArrayView}
 use Rattle.columns.specs.Offsets.{width_of}
 use Rattle.columns.specs.View.{view_array}
 use Rattle.columns.specs.Array.{Array, validity_in, dictionary_in}
-use Rattle.columns.specs.CellAt.{is_valid, cell_at, contents_at, kind_cell, unless_null, indexed_cell, index_at, entries_of_kind}
+use Rattle.columns.specs.CellAt.{is_valid, cell_at, contents_at, kind_cell, unless_null, indexed_cell, index_at, entries_of_kind, named_number}
 use Rattle.columns.specs.Sound.{is_sound}
 use Rattle.columns.specs.Tests.{has_short_validity}
 use Rattle.columns.specs.Visible.{is_bad_text, is_null, is_past, names_no_entry, is_forbidden}
@@ -43,6 +43,28 @@ any_never p from n never = none_in_range p from n (λ i low high. never i)
 pub any_always : (p : ℕ → Bool) (from n : ℕ) → ((i : ℕ) → p i ≡ true) → list_any p (range_with_len from n) ≡ nat_lt 0 n
 any_always p from zero always = refl
 any_always p from (suc n) always = let some : nat_lt 0 (suc n) ≡ true = grind (arith, nat_tests) in rw (always from, some) refl
+
+-- ---- indices
+
+not_below : (entries n m : ℕ) → n ≡ m → m < entries → nat_le entries n ≡ false
+not_below entries n m same lt = grind (arith, nat_tests)
+
+-- a number below the entries is not past them
+pub not_past : (index : ℤ) (entries : List Cell) (n : ℕ) → named_number index ≡ Some n → n < length entries → is_past index entries ≡ false
+not_past (pos m) entries n is lt = let same : m ≡ n = cc in not_below (length entries) m n same lt
+not_past (negsuc m) entries n is lt = cc
+
+pub found_not_past : (index : ℤ) (entries : List Cell) (limit : ℕ) (found : Option ℕ) → limit ≤ length entries → is_some found ≡ true
+    → IfSome found (λ n. n < limit) → IfSome found (λ n. named_number index ≡ Some n) → is_past index entries ≡ false
+found_not_past index entries limit None few some below named = absurd cc
+found_not_past index entries limit (Some n) few some below named = not_past index entries n named (omega (arith, few, below))
+
+-- where no slot passes a test, none passes that and another
+pub any_less : (p q : ℕ → Bool) (xs : List ℕ) → list_any q xs ≡ false → list_any (λ i. p i && q i) xs ≡ false
+any_less p q [] none = refl
+any_less p q (x ∷ xs) none =
+    let parts = or_parts (q x) (list_any q xs) none in
+    (λ j. (and_right (p x) (q x) parts.0 j) || (any_less p q xs parts.1 j))
 
 -- ---- texts
 

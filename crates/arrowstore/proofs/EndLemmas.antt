@@ -6,11 +6,14 @@ use Rattle.std.proofs.lemmas.Result.{IfErr-weaker}
 use Rattle.cli_refusals.specs.declared.hint.Hint.{Hint}
 use Rattle.cli_refusals.specs.declared.refusal.Refusal.{Refusal}
 use Rattle.cli_refusals.specs.declared.refusal.Refusal.TheVariants.{Io, OutOfMemory}
+use Rattle.cli_refusals.specs.declared.refusal.Side.TheVariants.{Output}
+use Rattle.cli_refusals.specs.declared.known.Known.{Known}
+use Rattle.cli_refusals.specs.Known.{unchanging}
 use Rattle.cli_texts.specs.declared.status.Ended.{Ended}
 use Rattle.cli_texts.specs.declared.status.Status.{Status}
 use Rattle.cli_texts.specs.declared.status.Status.TheVariants.{Done, PartlyDone, Refused, WrongArguments}
 use Rattle.clap.specs.Words.{Text}
-use Rattle.cli_texts.specs.Ending.{IsIo, IsOfOutput, GivesText, TellsRefusal, HasReported, HasReportedHint, HintsText}
+use Rattle.cli_texts.specs.Ending.{IsOutput, IsOfOutput, GivesText, TellsRefusal, HasReported, HasReportedHint, HintsText}
 use Rattle.cli_texts.specs.Reported.{IfRefused}
 use Rattle.cli_texts.specs.Told.{told}
 use Rattle.cli_texts.specs.declared.telling.Audience.{Audience}
@@ -24,10 +27,15 @@ pub own_given : (done : Result (Unit {0}) Refusal) (status : Status) (given quie
 own_given (Ok x) status given quiet reported ok err written refused = subst (GivesText given) (sym (ok refl).0) written
 own_given (Err e) status given quiet reported ok err written refused = subst (GivesText given) (sym err) refused
 
+-- a text is given where it is reported as done
+pub text_given : (written : Result (Unit {0}) Refusal) (status : Status) (P : Type 0) → OnOk written P → IfErr written (λ r. status ≡ Refused r) → status ≡ Done → P
+text_given (Ok x) status P given refused done = given
+text_given (Err e) status P given refused done = absurd (cc (refused, done))
+
 -- what is done is reported so, and what is refused, with one of these hints
 pub own_reported : {W E : Type 0} (may_hint : Option Hint → Refusal → Type 0) (contents : E → Option (List ℕ)) (audience : Audience) (hint : Option Hint) (output output' : W) (errors errors' : E) (done : Result (Unit {0}) Refusal) (ended : Ended)
-    → (IsOk done → (ended.status ≡ Done) × (errors' ≡ errors) × IsTrue ended.is_reported) → IfErr done (λ r. ended.status ≡ Refused r) → IfErr done (λ r. r ≢ Io → output' ≡ output)
-    → IfErr done (may_hint hint) → TellsRefusal (told audience hint) ended (contents errors) (contents errors') → HasReportedHint may_hint contents audience output output' errors errors' ended
+    → (IsOk done → (ended.status ≡ Done) × (errors' ≡ errors) × IsTrue ended.is_reported) → IfErr done (λ r. ended.status ≡ Refused r) → IfErr done (λ r. r ≢ Io Output → output' ≡ output)
+    → IfErr done (may_hint hint) → TellsRefusal (told audience (unchanging hint)) ended (contents errors) (contents errors') → HasReportedHint may_hint contents audience output output' errors errors' ended
 own_reported may_hint contents audience hint output output' errors errors' (Ok x) ended ok err quiet hints line = let is = ok refl in (
   hint,
   subst (λ s. IfRefused s (may_hint hint)) (sym is.0) tt,
@@ -35,7 +43,7 @@ own_reported may_hint contents audience hint output output' errors errors' (Ok x
     silent = λ _. (refl, is.1, is.2);
     listed = λ partly. absurd (cc (is.0, partly));
     nothing_written = λ wrong. absurd (cc (is.0, wrong));
-    quiet = subst (λ s. IfRefused s (λ r. r ≢ Io → output' ≡ output)) (sym is.0) tt;
+    quiet = subst (λ s. IfRefused s (λ r. r ≢ Io Output → output' ≡ output)) (sym is.0) tt;
     line = line;
   },
 )
@@ -46,7 +54,7 @@ own_reported may_hint contents audience hint output output' errors errors' (Err 
     silent = λ done. absurd (cc (err, done));
     listed = λ partly. absurd (cc (err, partly));
     nothing_written = λ wrong. absurd (cc (err, wrong));
-    quiet = subst (λ s. IfRefused s (λ r. r ≢ Io → output' ≡ output)) (sym err) quiet;
+    quiet = subst (λ s. IfRefused s (λ r. r ≢ Io Output → output' ≡ output)) (sym err) quiet;
     line = line;
   },
 )
@@ -85,8 +93,8 @@ wrong_told contents audience output errors errors' ended wrong = (
     silent = λ done. absurd (cc (wrong, done));
     listed = λ partly. absurd (cc (wrong, partly));
     nothing_written = λ _. refl;
-    quiet = subst (λ s. IfRefused s (λ r. r ≢ Io → output ≡ output)) (sym wrong) tt;
-    line = subst (λ s. IfRefused s (λ r. IsTrue ended.is_reported → Appends (contents errors) (contents errors') (told audience None r))) (sym wrong) tt;
+    quiet = subst (λ s. IfRefused s (λ r. r ≢ Io Output → output ≡ output)) (sym wrong) tt;
+    line = subst (λ s. IfRefused s (λ r. IsTrue ended.is_reported → Appends (contents errors) (contents errors') (told audience (unchanging None) r))) (sym wrong) tt;
   },
 )
 
@@ -104,18 +112,18 @@ text_may_hint arguments contents audience output output' errors errors' ended ha
     (has.0, if_refused ended.status (HintsText has.0) (MayHint arguments has.0) (λ r hints. inr hints) has.1, has.2)
 
 -- a run that writes a part of its output for no other reason
-pub reported_of_word : {W E : Type 0} (contents : E → Option (List ℕ)) (audience : Audience) (hint : Option Hint) (left : List (ℕ × ℕ)) (word : List ℕ) (output output' : W) (errors errors' : E) (ended : Ended)
-    → HasReported contents audience hint left IsIo output output' errors errors' ended → HasReported contents audience hint left (WritesPart word) output output' errors errors' ended
-reported_of_word contents audience hint left word output output' errors errors' ended has = record {
+pub reported_of_word : {W E : Type 0} (contents : E → Option (List ℕ)) (audience : Audience) (known : Known) (left : List (ℕ × ℕ)) (word : List ℕ) (output output' : W) (errors errors' : E) (ended : Ended)
+    → HasReported contents audience known left IsOutput output output' errors errors' ended → HasReported contents audience known left (WritesPart word) output output' errors errors' ended
+reported_of_word contents audience known left word output output' errors errors' ended has = record {
   silent = has.silent;
   listed = has.listed;
   nothing_written = has.nothing_written;
-  quiet = if_refused ended.status (λ r. ¬ IsIo r → output' ≡ output) (λ r. ¬ WritesPart word r → output' ≡ output) (λ r quiet none. quiet (λ io. none (inl io))) has.quiet;
+  quiet = if_refused ended.status (λ r. ¬ IsOutput r → output' ≡ output) (λ r. ¬ WritesPart word r → output' ≡ output) (λ r quiet none. quiet (λ io. none (inl io))) has.quiet;
   line = has.line;
 }
 
 -- or whose command has another word, which is the same
-pub told_of_word : {W E : Type 0} (contents : E → Option (List ℕ)) (audience : Audience) (hint : Option Hint) (left : List (ℕ × ℕ)) (word other : List ℕ) (output output' : W) (errors errors' : E) (ended : Ended)
-    → word ≡ other → HasReported contents audience hint left (WritesPart word) output output' errors errors' ended → HasReported contents audience hint left (WritesPart other) output output' errors errors' ended
-told_of_word contents audience hint left word other output output' errors errors' ended same has =
-    subst (λ (w : List ℕ). HasReported contents audience hint left (WritesPart w) output output' errors errors' ended) same has
+pub told_of_word : {W E : Type 0} (contents : E → Option (List ℕ)) (audience : Audience) (known : Known) (left : List (ℕ × ℕ)) (word other : List ℕ) (output output' : W) (errors errors' : E) (ended : Ended)
+    → word ≡ other → HasReported contents audience known left (WritesPart word) output output' errors errors' ended → HasReported contents audience known left (WritesPart other) output output' errors errors' ended
+told_of_word contents audience known left word other output output' errors errors' ended same has =
+    subst (λ (w : List ℕ). HasReported contents audience known left (WritesPart w) output output' errors errors' ended) same has

@@ -7,9 +7,10 @@ use Rattle.sector_dev.specs.declared.device.SectorDevice.{Ghosts}
 use Rattle.std.specs.declared.io.traits.Read.{Ghosts as ReadGhosts}
 use Rattle.std.specs.declared.io.traits.Write.{Ghosts as WriteGhosts}
 use Rattle.std.specs.declared.io.traits.Seek.{Ghosts as SeekGhosts}
-use Rattle.sector_dev.specs.View.{failures_of, IsOver}
-use Rattle.sector_dev.specs.Written.{IsEmpty}
+use Rattle.sector_dev.specs.View.{failures_of, IsEmpty, IsOver}
 use Rattle.sector_dev.specs.declared.file.FileDevice.{FileDevice}
+use Rattle.sector_dev.specs.declared.sector_file.SectorFile.{Ghosts as FileGhosts}
+use Rattle.sector_dev.specs.declared.system_file.SystemFile.{SystemFile}
 use Rattle.sector_dev.specs.declared.file.FileError.{FileError}
 use Rattle.sector_dev.specs.declared.file.TheConstants.{LEAST_SECTORS, MOST_SECTORS}
 use Rattle.sector_dev.specs.declared.file.FileError.TheVariants as files
@@ -17,6 +18,7 @@ use Rattle.commit.specs.Standing.{is_size}
 use Rattle.commit.specs.declared.sector.FormatVersion.{FormatVersion}
 use Rattle.cli_refusals.specs.declared.refusal.Refusal.{Refusal}
 use Rattle.cli_refusals.specs.declared.refusal.Refusal.TheVariants.{Io, Opening}
+use Rattle.cli_refusals.specs.declared.refusal.Side.TheVariants.{Output}
 use Rattle.cli_refusals.specs.Refusals.{file_refusal}
 use Rattle.cli_texts.specs.declared.status.Status.TheVariants.{Done, PartlyDone}
 use Rattle.cli_texts.specs.declared.status.Ended.{Ended}
@@ -25,7 +27,7 @@ use Rattle.cli_texts.specs.LeftOut.{left_out_text}
 use Rattle.cli_texts.specs.Reported.{IfRefused}
 use Rattle.cli_texts.specs.Told.{told}
 use Rattle.cli_texts.specs.declared.telling.Audience.{Audience}
-use Rattle.cli_refusals.specs.declared.hint.Hint.{Hint}
+use Rattle.cli_refusals.specs.declared.known.Known.{Known}
 use Rattle.cli_commands.specs.Salvaging.{IsBrokenOff}
 use Rattle.clap.specs.Words.{Text, kind_of}
 use Rattle.clap.specs.declared.error.Error.{Error}
@@ -43,7 +45,7 @@ of_file files.Io = tt
 of_file files.BadSize = tt
 
 -- a device that was opened over a file, by what its opening says
-pub opened_file : {F : Type 0} {r : ReadGhosts F} {w : WriteGhosts F} {s : SeekGhosts F} (result : Result (FileDevice F r w s) FileError)
+pub opened_file : {F : Type 0} {r : ReadGhosts F} {w : WriteGhosts F} {s : SeekGhosts F} {f : FileGhosts (SystemFile F r w s)} (result : Result (FileDevice (SystemFile F r w s) f) FileError)
     → IfOk result (λ d. (file : F) × IsOver file d) → IfOk result (λ d. failures_of d ≡ 0) → IfOk result (λ d. IsEmpty d) → IfOk result (λ d. IsOpenedFile d)
 opened_file (Ok device) over none_failed none_buffered = record { over = over; none_failed = none_failed; none_buffered = none_buffered }
 opened_file (Err e) over none_failed none_buffered = tt
@@ -84,8 +86,8 @@ of_formatted g size sectors version (Err refusal) same limits why = of_formattin
 pub in_version : {D : Type 0} (g : Ghosts D) (sectors : ℕ) (v w : FormatVersion) (refusal : Refusal) → v ≡ w → RefusesFormat g sectors v refusal → RefusesFormat g sectors w refusal
 in_version g sectors v w refusal same why = subst (λ (version : FormatVersion). RefusesFormat g sectors version refusal) same why
 
--- where nothing is written but after a failed read or write
-pub silent_but_io : {W : Type 0} (word : List ℕ) (output output' : W) (done : Result (Unit {0}) Refusal) → IfErr done (λ refusal. refusal ≢ Io → output' ≡ output)
+-- where nothing is written but after a failed write
+pub silent_but_io : {W : Type 0} (word : List ℕ) (output output' : W) (done : Result (Unit {0}) Refusal) → IfErr done (λ refusal. refusal ≢ Io Output → output' ≡ output)
     → IfErr done (λ refusal. ¬ WritesPart word refusal → output' ≡ output)
 silent_but_io word output output' (Ok unit) silent = tt
 silent_but_io word output output' (Err e) silent = λ whole. silent (λ io. whole (inl io))
@@ -97,26 +99,26 @@ silent_but_broken_off word output output' (Ok unit) is silent = tt
 silent_but_broken_off word output output' (Err e) is silent = λ whole. silent (λ broken. whole (inr (is, broken)))
 
 -- what is reported of a request that was done, in part or whole, or refused
-pub has_reported : {W E : Type 0} (contents : E → Option (List ℕ)) (audience : Audience) (hint : Option Hint) (left : List (ℕ × ℕ)) (word : List ℕ) (output output' : W) (errors errors' : E)
+pub has_reported : {W E : Type 0} (contents : E → Option (List ℕ)) (audience : Audience) (known : Known) (left : List (ℕ × ℕ)) (word : List ℕ) (output output' : W) (errors errors' : E)
     (done : Result (Unit {0}) Refusal) (ended : Ended) → ended.status ≡ status_of done left → IfErr done (λ refusal. ¬ WritesPart word refusal → output' ≡ output)
     → (ended.status ≡ Done → (errors' ≡ errors) × IsTrue ended.is_reported)
     → (ended.status ≡ PartlyDone → IsTrue ended.is_reported → Appends (contents errors) (contents errors') (left_out_text audience left))
-    → TellsRefusal (told audience hint) ended (contents errors) (contents errors') → HasReported contents audience hint left (WritesPart word) output output' errors errors' ended
-has_reported contents audience hint [] word output output' errors errors' (Ok unit) ended ends quiet silent lines line = record {
+    → TellsRefusal (told audience known) ended (contents errors) (contents errors') → HasReported contents audience known left (WritesPart word) output output' errors errors' ended
+has_reported contents audience known [] word output output' errors errors' (Ok unit) ended ends quiet silent lines line = record {
   silent = λ done. (refl, (silent done).0, (silent done).1);
   listed = λ partly. absurd (cc (ends, partly));
   nothing_written = λ wrong. absurd (cc (ends, wrong));
   quiet = subst (λ s. IfRefused s (λ refusal. ¬ WritesPart word refusal → output' ≡ output)) (sym ends) tt;
   line = line;
 }
-has_reported contents audience hint (s ∷ ss) word output output' errors errors' (Ok unit) ended ends quiet silent lines line = record {
+has_reported contents audience known (s ∷ ss) word output output' errors errors' (Ok unit) ended ends quiet silent lines line = record {
   silent = λ done. absurd (cc (ends, done));
   listed = λ partly. (λ none. absurd (cc none), lines partly);
   nothing_written = λ wrong. absurd (cc (ends, wrong));
   quiet = subst (λ s. IfRefused s (λ refusal. ¬ WritesPart word refusal → output' ≡ output)) (sym ends) tt;
   line = line;
 }
-has_reported contents audience hint left word output output' errors errors' (Err e) ended ends quiet silent lines line = record {
+has_reported contents audience known left word output output' errors errors' (Err e) ended ends quiet silent lines line = record {
   silent = λ done. absurd (cc (ends, done));
   listed = λ partly. absurd (cc (ends, partly));
   nothing_written = λ wrong. absurd (cc (ends, wrong));

@@ -3,7 +3,7 @@ use Rattle.std.proofs.Common.{◌≡◌, ◌≤◌, ◌∙◌, ◌&&◌, ◌||�
 use Rattle.std.specs.Str.{bytes_eq}
 use Rattle.std.proofs.lemmas.Slice.Eq.{bytes_eq-Decides}
 use Rattle.clap.specs.Words.{Text}
-use Rattle.arrowstore.specs.Arguments.{have_extra_words, AreRecode, AskForHelp, command}
+use Rattle.arrowstore.specs.Arguments.{asks_topic, have_extra_words, AreRecode, AskForHelp, command}
 use Rattle.cli_texts.specs.OwnTexts.{is_own, asks_version, asks_refusals, asks_commands, is_version_word, is_refusals_topic, is_help_alone}
 use Rattle.cli_requests.specs.StoreWords.{is_of_store, is_store_word, changes_word, makes_word, reads_word, takes_input_word, reads_table_word, is_help_word, ask_help_of_command}
 
@@ -99,3 +99,25 @@ no_extra_words_of_recode name (other ∷ more ∷ rest) = refl
 
 pub recode_has_no_extra_words : (arguments : List Text) → AreRecode arguments → have_extra_words arguments ≡ false
 recode_has_no_extra_words arguments are = of_recode have_extra_words false arguments are no_extra_words_of_recode
+
+-- `help` and one more word ask for help, and not for `recode`
+topic_asks : (name word topic : Text) (help : Bool) → bytes_eq (codes "help") word ≡ help → help ≡ true → AskForHelp (name ∷ word ∷ topic ∷ [])
+topic_asks name word topic help e is =
+    subst (λ (w : Text). AskForHelp (name ∷ w ∷ topic ∷ [])) ((bytes_eq-Decides (codes "help") word).0 (e ∙ is)) (command name (topic ∷ []) (omega arith) refl)
+
+pub help_of_topic_asks : (arguments : List Text) → asks_topic arguments ≡ true → AskForHelp arguments
+unfolding asks_topic
+help_of_topic_asks [] asks = absurd (true≢false (sym asks))
+help_of_topic_asks (name ∷ []) asks = absurd (true≢false (sym asks))
+help_of_topic_asks (name ∷ word ∷ []) asks = absurd (true≢false (sym asks))
+help_of_topic_asks (name ∷ word ∷ topic ∷ []) asks = topic_asks name word topic (bytes_eq (codes "help") word) refl asks
+help_of_topic_asks (name ∷ word ∷ topic ∷ more ∷ rest) asks = absurd (true≢false (sym asks))
+
+recode_of_no_topic : (name : Text) (rest : List Text) → asks_topic (name ∷ codes "recode" ∷ rest) ≡ false
+unfolding asks_topic
+recode_of_no_topic name [] = refl
+recode_of_no_topic name (topic ∷ []) = refl
+recode_of_no_topic name (topic ∷ more ∷ rest) = refl
+
+pub recode_asks_no_topic : (arguments : List Text) → AreRecode arguments → asks_topic arguments ≡ false
+recode_asks_no_topic arguments are = of_recode asks_topic false arguments are recode_of_no_topic

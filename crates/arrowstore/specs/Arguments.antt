@@ -29,6 +29,14 @@ have_extra_words (name ∷ word ∷ []) = false
 have_extra_words (name ∷ word ∷ other ∷ []) = is_version_word word
 have_extra_words (name ∷ word ∷ other ∷ more ∷ rest) = is_version_word word || bytes_eq (codes "help") word
 
+-- the program's name, `help` and one more word
+unfoldable pub asks_topic : List Text → Bool
+asks_topic [] = false
+asks_topic (name ∷ []) = false
+asks_topic (name ∷ word ∷ []) = false
+asks_topic (name ∷ word ∷ topic ∷ []) = bytes_eq (codes "help") word
+asks_topic (name ∷ word ∷ topic ∷ more ∷ rest) = false
+
 -- the command `help` with one word at most, or a flag that asks for help, of the program or of `recode`
 pub data AskForHelp (arguments : List Text) : Type 0 where
   command : (name : Text) (topics : List Text) → length topics ≤ 1 → arguments ≡ name ∷ codes "help" ∷ topics → AskForHelp arguments

@@ -5,9 +5,10 @@ use Rattle.std.specs.declared.io.traits.Read.{Ghosts as ReadGhosts}
 use Rattle.std.specs.declared.io.traits.Write.{Ghosts as WriteGhosts}
 use Rattle.std.specs.declared.io.traits.Seek.{Ghosts as SeekGhosts}
 use Rattle.sector_dev.specs.declared.device.SectorDevice.{Ghosts}
-use Rattle.sector_dev.specs.View.{failures_of, IsOver}
-use Rattle.sector_dev.specs.Written.{IsEmpty}
+use Rattle.sector_dev.specs.View.{failures_of, IsEmpty, IsOver}
 use Rattle.sector_dev.specs.declared.file.FileDevice.{FileDevice}
+use Rattle.sector_dev.specs.declared.sector_file.SectorFile.{Ghosts as FileGhosts}
+use Rattle.sector_dev.specs.declared.system_file.SystemFile.{SystemFile}
 use Rattle.sector_dev.specs.declared.file.TheConstants.{LEAST_SECTORS, MOST_SECTORS}
 use Rattle.commit.specs.Standing.{is_size}
 use Rattle.store.specs.declared.store.Store.{Store}
@@ -20,6 +21,7 @@ use Rattle.store.specs.Salvaging.{SalvagesAt, RefusesSalvage}
 use Rattle.store.specs.Answering.{LeavesUnformatted}
 use Rattle.cli_refusals.specs.declared.refusal.Refusal.{Refusal}
 use Rattle.cli_refusals.specs.declared.refusal.Refusal.TheVariants as refusals
+use Rattle.cli_refusals.specs.declared.refusal.Side.TheVariants as sides
 use Rattle.tables.specs.declared.refusal.Refusal as tables
 use Rattle.cli_commands.specs.Copying.{Copies}
 use Rattle.cli_commands.specs.Reading.{OfStore, refusal_ended}
@@ -27,14 +29,15 @@ use Rattle.cli_commands.specs.Salvaging.{IsBrokenOff}
 use Rattle.cli_refusals.specs.declared.hint.Hint.{Hint}
 use Rattle.cli_refusals.specs.declared.hint.Hint.TheVariants as hints
 use Rattle.cli_refusals.specs.declared.hint.Hinted.{Hinted}
+use Rattle.cli_refusals.specs.declared.known.Known.{Known}
 use Rattle.cli_refusals.specs.declared.hint.Hinted.TheVariants.{Part, Table}
 use Rattle.cli_texts.specs.Reported.{IsWrong}
-use Rattle.cli_texts.specs.Ending.{GivesSome, HasReported, HasReportedHint, HintsText, IsIo}
+use Rattle.cli_texts.specs.Ending.{GivesSome, HasReported, HasReportedHint, HintsText, IsOutput}
 use Rattle.cli_texts.specs.declared.telling.Audience.{Audience}
 use Rattle.cli_texts.specs.declared.status.Ended.{Ended}
 use Rattle.cli_texts.specs.declared.status.Status.{Status}
 use Rattle.cli_texts.specs.declared.status.Status.TheVariants.{Done, PartlyDone, Refused}
-use Rattle.cli_requests.specs.Asked.{request_word}
+use Rattle.cli_requests.specs.Asked.{request_word, changes}
 use Rattle.cli_requests.specs.Operands.{Names}
 use Rattle.cli_requests.specs.Right.{AreRightWords, IsReadFrom}
 use Rattle.cli_requests.specs.StoreWords.{first_word, ask_for_help}
@@ -50,14 +53,15 @@ use Rattle.arrowstore.specs.OnDevice.{IsOpened, RefusesOpening, ServesDevice}
 use Rattle.arrowstore.specs.Serving.{Channels, channels, image_of}
 
 -- a device that was opened over a file: the whole file, with no write held back
-pub record IsOpenedFile {F : Type 0} {r : ReadGhosts F} {w : WriteGhosts F} {s : SeekGhosts F} (device : FileDevice F r w s) : Type 0 where
+pub record IsOpenedFile {F : Type 0} {r : ReadGhosts F} {w : WriteGhosts F} {s : SeekGhosts F} {f : FileGhosts (SystemFile F r w s)}
+    (device : FileDevice (SystemFile F r w s) f) : Type 0 where
   pub over : (file : F) × IsOver file device
   pub none_failed : failures_of device ≡ 0
   pub none_buffered : IsEmpty device
 
 -- the reasons why no file is opened: the system refuses it, or it does not have the size of a store
 unfoldable pub IsOfFile : Refusal → Type 0
-IsOfFile refusals.Io = Unit {0}
+IsOfFile (refusals.Io sides.File) = Unit {0}
 IsOfFile refusals.BadSize = Unit {0}
 IsOfFile _ = ⊥
 
@@ -90,7 +94,7 @@ FailsToFormat g sectors version _ = ⊥
 
 -- why none is made in a new file with this number of sectors: the system refuses the file, no store has that size, or some device was not formatted
 unfoldable pub RefusesFormat : {D : Type 0} → (g : Ghosts D) → (sectors : ℕ) → FormatVersion → Refusal → Type 0
-RefusesFormat g sectors version refusals.Io = Unit {0}
+RefusesFormat g sectors version (refusals.Io sides.File) = Unit {0}
 RefusesFormat g sectors version refusals.BadSize = ¬ ((LEAST_SECTORS ≤ sectors) × (sectors ≤ MOST_SECTORS))
 RefusesFormat g sectors version (refusals.Opening r) = (is_size sectors ≡ true) × FailsToFormat g sectors version (refusals.Opening r)
 RefusesFormat g sectors version _ = ⊥
@@ -102,7 +106,7 @@ pub record MakesStore {D : Type 0} (g : Ghosts D) {W : Type 0} (contents : W →
   pub made : IsNewStore sectors version store
   pub size : g.size (device_of store) ≡ sectors
   pub written : OnOk result (Appends (contents output) (contents output') (codes "ok\n"))
-  pub failed : IfErr result (λ refusal. refusal ≡ refusals.Io)
+  pub failed : IfErr result (λ refusal. refusal ≡ refusals.Io sides.Output)
 
 -- a store was made so, or it was refused and nothing was written
 abbrev pub Formats : {D : Type 0} → (g : Ghosts D) → {W : Type 0} → (contents : W → Option (List ℕ)) → (sectors : ℕ) → FormatVersion → (output output' : W)
@@ -148,7 +152,7 @@ pub record MakesCopy {D : Type 0} (g : Ghosts D) (is_opened : D → Type 0) {W :
   pub opens : OpensStore g is_opened from
   pub copies : CopiesInto g sectors from (Ok tt)
   pub written : OnOk result (Appends (contents output) (contents output') (codes "ok\n"))
-  pub failed : IfErr result (λ refusal. refusal ≡ refusals.Io)
+  pub failed : IfErr result (λ refusal. refusal ≡ refusals.Io sides.Output)
 
 -- a store was copied so, or it was refused and nothing was written
 abbrev pub CopiesStore : {D : Type 0} → (g : Ghosts D) → (is_opened : D → Type 0) → {W : Type 0} → (contents : W → Option (List ℕ)) → (sectors : ℕ)
@@ -212,9 +216,9 @@ ServesRequest g is_opened remaining contents replays (requests.Replay words) bef
 ServesRequest g is_opened remaining contents replays (requests.Command path command) before after left left' result =
     ServesCommand g is_opened remaining contents command before after result × (left' ≡ left)
 
--- the refusals after which some output may have been written: a read or a write failed, or a salvage was broken off
+-- the refusals after which some output may have been written: a write of it failed, or a salvage was broken off
 abbrev pub WritesPart : (word : List ℕ) → Refusal → Type 0
-WritesPart word refusal = IsIo refusal ⊎ ((word ≡ codes "salvage") × IsBrokenOff refusal)
+WritesPart word refusal = IsOutput refusal ⊎ ((word ≡ codes "salvage") × IsBrokenOff refusal)
 
 -- the status of a run that leaves this out
 abbrev pub status_of : Result (Unit {0}) Refusal → (left : List (ℕ × ℕ)) → Status
@@ -224,7 +228,7 @@ status_of (Err refusal) left = Refused refusal
 
 -- the part of the input or the table that a hint names, if it names one
 abbrev pub hinted_of : Option Hint → Option Hinted
-hinted_of (Some (hints.Part p about)) = Some (Part p.now)
+hinted_of (Some (hints.Part p sentence)) = Some (Part p.now)
 hinted_of (Some (hints.Table name others)) = Some (Table name.now)
 hinted_of _ = None
 
@@ -237,12 +241,12 @@ pub record Ends (R W E : Type 0) : Type 0 where
 abbrev pub ends_of : {R W E : Type 0} → R → W → E → Ends R W E
 ends_of input output errors = record { input = input; output = output; errors = errors }
 
--- how a run of the command of this word ended, and what it left out, was reported to an audience, with a hint
+-- how a run of the command of this word ended, and what it left out, was reported to an audience, with what is known
 abbrev pub HasTold : {W E : Type 0} → (reported : E → Option (List ℕ)) → Audience → (word : List ℕ) → (left : List (ℕ × ℕ)) → (output output' : W)
     → (errors errors' : E)
-    → Ended → Option Hint → Type 0
-HasTold reported audience word left output output' errors errors' ended hint =
-    HasReported reported audience hint left (WritesPart word) output output' errors errors' ended
+    → Ended → Known → Type 0
+HasTold reported audience word left output output' errors errors' ended known =
+    HasReported reported audience known left (WritesPart word) output output' errors errors' ended
 
 -- a request was served, and what was left out or hinted was reported
 pub record ServesTold {D : Type 0} (g : Ghosts D) (is_opened : D → Type 0) {R W E : Type 0} (remaining : R → Option (List ℕ)) (contents : W → Option (List ℕ))
@@ -254,10 +258,12 @@ pub record ServesTold {D : Type 0} (g : Ghosts D) (is_opened : D → Type 0) {R 
   pub serves : ServesRequest g is_opened remaining contents replays request (channels before.input before.output None)
       (channels after.input after.output hinted) [] left result
   pub ends : ended.status ≡ status_of result left
-  pub hint : Option Hint
+  pub known : Known
+  -- a script is told that the command was done, if its output failed, exactly for the commands that make or change a store
+  pub changing : known.changes ≡ changes request
   -- the hint names the part of the input or the table that the command hinted at, and none if it hinted at none
-  pub hints : hinted_of hint ≡ hinted
-  pub told : HasTold reported audience (request_word request) left before.output after.output before.errors after.errors ended hint
+  pub hints : hinted_of known.hint ≡ hinted
+  pub told : HasTold reported audience (request_word request) left before.output after.output before.errors after.errors ended known
 
 -- the request that the words state: the command of the first one, where only operands follow the file and the tables that they name, and all that
 -- `clap` finds, options too

@@ -9,10 +9,11 @@ use Rattle.cli_refusals.specs.declared.hint.Hint.{Hint}
 use Rattle.cli_refusals.specs.declared.hint.Hint.TheVariants as hints
 use Rattle.cli_refusals.specs.declared.refusal.Refusal.{Refusal}
 use Rattle.cli_refusals.specs.declared.refusal.Refusal.TheVariants as refusals
+use Rattle.cli_refusals.specs.declared.refusal.Side.TheVariants as sides
 use Rattle.cli_refusals.specs.declared.refusal.Refusal.TheVariants.{TooManyBytes}
 use Rattle.cli_texts.specs.declared.status.Status.{Status}
 use Rattle.cli_texts.specs.declared.status.Status.TheVariants.{Done, PartlyDone, Refused, WrongArguments}
-use Rattle.cli_texts.specs.Ending.{HintsText, IsIo}
+use Rattle.cli_texts.specs.Ending.{HintsText, IsOutput}
 use Rattle.cli_texts.specs.Reported.{IfRefused, IsRefused}
 use Rattle.cli_commands.specs.declared.input.TheConstants.{LARGEST_INPUT}
 use Rattle.cli_commands.specs.Recode.{AppendsCanonical, IsTrueFault}
@@ -40,12 +41,16 @@ pub record Recodes {W : Type 0} (contents : W → Option (List ℕ)) (input : Op
 abbrev pub IsOfFault : Refusal → Type 0
 IsOfFault refusal = (fault : Fault) × (refusal ≡ refusals.Fault fault)
 
+-- the input can't be read
+abbrev pub IsInput : Refusal → Type 0
+IsInput refusal = refusal ≡ refusals.Io sides.Input
+
 -- what may be hinted of a refused `recode`: why a read or a write failed, that the input, which has no schema, is empty, or the name of a field after a
 -- fault of the stream
 abbrev pub HintsRecode : Option Hint → Refusal → Type 0
 HintsRecode None refusal = Unit {0}
-HintsRecode (Some (hints.Input reason)) refusal = IsIo refusal
-HintsRecode (Some (hints.Output reason)) refusal = IsIo refusal
+HintsRecode (Some (hints.Input reason)) refusal = IsInput refusal
+HintsRecode (Some (hints.Output reason)) refusal = IsOutput refusal
 HintsRecode (Some hints.EmptyInput) refusal = refusal ≡ refusals.Fault faults.NoSchema
 HintsRecode (Some (hints.Field name)) refusal = IsOfFault refusal
 HintsRecode (Some hint) refusal = ⊥
@@ -56,7 +61,7 @@ MayHint arguments hint refusal = (AreRecode arguments × HintsRecode hint refusa
 
 -- the refusal after which this is found
 abbrev pub IsFoundFor : FoundOfStreams → Refusal → Type 0
-IsFoundFor (found.Unread reason) refusal = IsIo refusal
-IsFoundFor (found.Unwritten reason) refusal = IsIo refusal
+IsFoundFor (found.Unread reason) refusal = IsInput refusal
+IsFoundFor (found.Unwritten reason) refusal = IsOutput refusal
 IsFoundFor found.Empty refusal = refusal ≡ refusals.Fault faults.NoSchema
 IsFoundFor (found.Field name) refusal = IsOfFault refusal

@@ -31,6 +31,7 @@ use Rattle.store.specs.declared.summary.Summary.{Summary}
 use Rattle.cli_refusals.specs.declared.hint.Hinted.{Hinted}
 use Rattle.cli_refusals.specs.declared.refusal.Refusal.{Refusal}
 use Rattle.cli_refusals.specs.declared.refusal.Refusal.TheVariants.{Io}
+use Rattle.cli_refusals.specs.declared.refusal.Side.TheVariants.{Output}
 use Rattle.cli_commands.specs.Changing.{Answered, AnswersCommand, AnswersInput}
 use Rattle.cli_commands.specs.Compacting.{Compacts}
 use Rattle.cli_commands.specs.Upgrading.{AnsweredUpgrade, AnswersUpgrade}
@@ -75,7 +76,7 @@ pub record CarriesInput {D : Type 0} {g : Ghosts D} {R W : Type 0} (remaining : 
     (result : Result (Unit {0}) Refusal) : Type 0 where
   pub told : Answered (λ answer. AnswersInput g.size g.story g.failed g.tells remaining command passes why before.input after.input answer old new) result
   pub written : OnOk result (Appends (contents before.output) (contents after.output) (codes "ok\n"))
-  pub silent : IfErr result (λ refusal. refusal ≢ Io → after.output ≡ before.output)
+  pub silent : IfErr result (λ refusal. refusal ≢ Io Output → after.output ≡ before.output)
   pub unhinted : after.hint ≡ before.hint
 
 -- the rows that a whole input has as a text are appended so too (`append_text`)

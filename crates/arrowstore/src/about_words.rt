@@ -1,11 +1,16 @@
 // What is wrong with a refused word of the command line or with a field text in a script, in sentences for a terminal.
+use crate::nearest_type::nearest_type;
 use arrow_schema::Field;
 use cli_refusals::{MOST_SHOWN, Refusal, Role, Word, has_unshown};
 use field_texts::{ParseError, field_text, parse_fields};
 use query::{Condition, Test};
 use std::alloc::Global;
+use std::fmt::Write as _;
 use tables::QueryRefusal;
 use values::Table;
+
+// The maximum number of names in a list.
+const MOST_LISTED: usize = 20;
 
 /// Returns whether a terminal is shown a text beside a refusal. A long one could hide the rest of the line.
 pub(crate) fn is_shown(text: &str) -> bool {
@@ -18,6 +23,15 @@ fn is_plain(text: &str) -> bool {
         .all(|byte| byte.is_ascii_alphanumeric() || byte == b'_')
 }
 
+fn about_unknown_type(alloc: Global, name: &str) -> Option<String> {
+    match nearest_type(alloc, name) {
+        Some(near) => {
+            format!(in alloc; "The type `{name}` is unknown; did you mean `{near}`? ").ok()
+        }
+        None => format!(in alloc; "The type `{name}` is unknown. ").ok(),
+    }
+}
+
 fn about_type(alloc: Global, name: &str) -> Option<String> {
     if !is_plain(name) || !is_shown(name) {
         return String::from_str(alloc, "Its type is unknown or has a wrong form. ").ok();
@@ -26,7 +40,7 @@ fn about_type(alloc: Global, name: &str) -> Option<String> {
         "list" | "large_list" | "fixed_list" | "struct" | "dict" | "fixed_binary" => {
             format!(in alloc; "The type `{name}` lacks what it is made of. ").ok()
         }
-        _ => format!(in alloc; "The type `{name}` is unknown. ").ok(),
+        _ => about_unknown_type(alloc, name),
     }
 }
 
@@ -114,10 +128,54 @@ fn is_below(field: &Field, name: &str) -> bool {
     }
 }
 
-// Returns that a name is that of a part of a column.
+// Appends a name to a list, after a comma if it is not the first one.
+fn push_name(text: &mut String, number: usize, name: &str) -> Option<()> {
+    if number > 0 {
+        text.push_str(", ").ok()?;
+    }
+    text.push_str(name).ok()
+}
+
+// Ends a list of which some names were left out, and begins the next sentence.
+fn end_list(text: &mut String, left_out: usize) -> Option<()> {
+    if left_out > 0 {
+        write!(text, " and {left_out} more").ok()?;
+    }
+    text.push_str(". ").ok()
+}
+
+fn about_columns(alloc: Global, table: &Table) -> Option<String> {
+    let fields = &table.schema().fields;
+    let mut text = String::from_str(alloc, "Columns: ").ok()?;
+    for (number, field) in fields.iter().take(MOST_LISTED).enumerate() {
+        if !is_shown(&field.name) {
+            return None;
+        }
+        push_name(&mut text, number, &field.name)?;
+    }
+    end_list(&mut text, fields.len().saturating_sub(MOST_LISTED))?;
+    Some(text)
+}
+
+/// Returns the names of the tables of a store, in a sentence.
+pub(crate) fn about_tables(alloc: Global, tables: &[(String, u64)]) -> Option<String> {
+    if tables.is_empty() {
+        return String::from_str(alloc, "The store has no tables. ").ok();
+    }
+    let mut text = String::from_str(alloc, "Tables: ").ok()?;
+    for (number, table) in tables.iter().take(MOST_LISTED).enumerate() {
+        push_name(&mut text, number, &table.0)?;
+    }
+    end_list(&mut text, tables.len().saturating_sub(MOST_LISTED))?;
+    Some(text)
+}
+
+// Returns that a name is that of a part of a column, or which columns there are.
 fn about_name(alloc: Global, table: &Table, name: &str) -> Option<String> {
     let fields = &table.schema().fields;
-    let field = fields.iter().find(|field| is_below(field, name))?;
+    let Some(field) = fields.iter().find(|field| is_below(field, name)) else {
+        return about_columns(alloc, table);
+    };
     let column = field.name.as_str();
     if !is_shown(column) {
         return None;

@@ -1,18 +1,22 @@
 // What a terminal shows beside a refusal: the system call that failed, or what a second look at the store, its path, the script or the kept start
 // of the input finds.
-use crate::Failures;
+use crate::about_words::about_tables;
 use crate::copying_files::open_to_read;
-use crate::failing::{is_of_failure, report_of_failure};
-use crate::in_place_of_store::{file_in_place_of_store, file_of_bad_size, refused_sectors};
+use crate::failing::report_of_failure;
+use crate::in_place_of_store::{
+    file_in_place_of_store, file_of_bad_size, refused_sectors, store_of,
+};
 use crate::input_again::{FoundField, field_of_no_table};
+use crate::later_version::file_of_later_version;
+use crate::noted::Failure;
 use crate::script_again::line_of_script;
 use crate::streams_again::{FoundOfStreams, found_in_stream};
 use crate::unread_tables::unread_table;
-use cli_refusals::{FailedFile, Refusal};
+use cli_refusals::{FailedFile, Refusal, Side};
 use cli_requests::{StoreCommand, StoreRequest};
 use cli_texts::Audience;
 use commit::{Cause, OpeningRefusal};
-use sector_dev::LockFile;
+use sector_dev::{CachedFile, LockFile};
 use std::fs::OpenFile;
 use std::io::{self, Read, Seek, Write};
 use std::rt::Files;
@@ -28,6 +32,8 @@ pub(crate) enum AskedAgain {
     File(FailedFile),
     /// What is wrong with the input or the output.
     Streams(FoundOfStreams),
+    /// A sentence that lists the tables of the store, of which none has the refused name.
+    Listed(String),
     /// An empty table with the schema of the table that the refused query was for.
     Queried(Table),
     /// The name of a table that can't be read.
@@ -49,8 +55,6 @@ pub(crate) struct Served<'a> {
     pub(crate) input_failure: Option<io::Error>,
     /// How the last write of the output failed, if it did.
     pub(crate) output_failure: Option<io::Error>,
-    /// How the last system call on a file failed, if it did.
-    pub(crate) failures: &'a Failures,
 }
 
 // Returns the path of the store and the name of the table that a request queries.
@@ -66,7 +70,7 @@ fn query_of<'a>(request: &StoreRequest<'a>) -> Option<(&'a str, &'a str)> {
 
 // Returns `None` if the store can't be opened again: another program may have locked it by now.
 fn queried_table<
-    F: Read + Write + Seek + OpenFile + LockFile + Drop,
+    F: Read + Write + Seek + OpenFile + LockFile + CachedFile + Drop,
     H: Files<File = F> + AllocGlobal,
 >(rt: &H, request: &StoreRequest<'_>) -> Option<Table> {
     let (path, name) = query_of(request)?;
@@ -75,6 +79,15 @@ fn queried_table<
         Ok(schema) => Table::new(rt.alloc(), schema, Vec::new(rt.alloc())).ok(),
         Err(_) => None,
     }
+}
+
+// Returns the tables of the store that a request opens.
+fn tables_of<
+    F: Read + Write + Seek + OpenFile + LockFile + CachedFile + Drop,
+    H: Files<File = F> + AllocGlobal,
+>(rt: &H, request: &StoreRequest<'_>) -> Option<Vec<(String, u64)>> {
+    let store = open_to_read(rt, store_of(request)?).ok()?;
+    store.tables(rt.alloc()).ok()
 }
 
 // The file that is opened comes before the one that is made with a number of sectors.
@@ -88,24 +101,34 @@ fn found_of_size<F: Read + Seek + OpenFile + Drop, H: Files<File = F> + AllocGlo
     }
 }
 
-fn found_of<F: Read + Write + Seek + OpenFile + LockFile + Drop, H: Files<File = F> + AllocGlobal>(
+fn found_of<
+    F: Read + Write + Seek + OpenFile + LockFile + CachedFile + Drop,
+    H: Files<File = F> + AllocGlobal,
+>(
     rt: &H,
     request: &StoreRequest<'_>,
     served: Served<'_>,
+    failure: &Option<Failure>,
     refusal: &Refusal,
 ) -> Option<AskedAgain> {
-    if is_of_failure(refusal) {
-        if let Some(found) = report_of_failure(rt, request, served) {
-            return Some(found);
-        }
+    if let Some(found) = report_of_failure(rt, request, served, failure, refusal) {
+        return Some(found);
     }
     match refusal {
-        Refusal::Io => {
+        Refusal::Io(Side::File) => {
             let file = file_in_place_of_store(rt, request)?;
             Some(AskedAgain::File(file))
         }
         Refusal::BadSize | Refusal::Opening(OpeningRefusal::Damaged(Cause::DeviceSize)) => {
             found_of_size(rt, request)
+        }
+        Refusal::Opening(OpeningRefusal::NotAStore) => {
+            let file = file_of_later_version(rt, request)?;
+            Some(AskedAgain::File(file))
+        }
+        Refusal::Store(tables::Refusal::NoTable) => {
+            let tables = tables_of(rt, request)?;
+            Some(AskedAgain::Listed(about_tables(rt.alloc(), &tables)?))
         }
         Refusal::BadScript(number) => {
             let line = line_of_script(rt, request, *number)?;
@@ -134,20 +157,21 @@ fn found_of<F: Read + Write + Seek + OpenFile + LockFile + Drop, H: Files<File =
     }
 }
 
-/// Looks for what a hint can name, if a person reads why the request was refused.
+/// Looks for what a hint can name, if a person reads why the request was refused. `failure` is how the last system call on a file failed, if it did.
 pub(crate) fn ask_again<
-    F: Read + Write + Seek + OpenFile + LockFile + Drop,
+    F: Read + Write + Seek + OpenFile + LockFile + CachedFile + Drop,
     H: Files<File = F> + AllocGlobal,
 >(
     rt: &H,
     request: &StoreRequest<'_>,
     served: Served<'_>,
+    failure: &Option<Failure>,
     done: &Result<(), Refusal>,
     audience: Audience,
 ) -> AskedAgain {
     match (audience, done) {
-        (Audience::Terminal, Err(refusal)) => {
-            match found_of(rt, request, served, refusal) {
+        (Audience::Terminal | Audience::Script, Err(refusal)) => {
+            match found_of(rt, request, served, failure, refusal) {
                 Some(found) => found,
                 None => AskedAgain::Nothing,
             }

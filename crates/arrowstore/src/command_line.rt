@@ -1,22 +1,61 @@
 // Parses the command line of `recode` and requests for help.
-ghost use Rattle.std.specs.Prelude.{◌≡◌, false, map, codes, Some, IfOk, IfErr, OnOk, MatchResult};
+ghost use Rattle.std.specs.Prelude.{◌≡◌, ◌≢◌, true, false, map, codes, Some, IfOk, IfErr, OnOk, MatchResult};
 ghost use Rattle.clap.specs.Words.{app_of, kind_of, subcommand_name_of};
 ghost use Rattle.clap.specs.declared.error.kind.ErrorKind.TheVariants.{OutOfMemory, UnknownArgument};
-ghost use Rattle.arrowstore.specs.Arguments.{program_command, have_extra_words, AreRecode, AskForHelp};
+ghost use Rattle.arrowstore.specs.Arguments.{asks_topic, program_command, have_extra_words, AreRecode, AskForHelp};
+ghost use Rattle.cli_texts.specs.Ending.{GivesSome, IsOfOutput};
 ghost use Rattle.cli_texts.specs.Reported.{IsRequest};
 
 use clap::error::ErrorKind;
 use clap::{Arg, ArgMatches, Command, Error};
+use cli_refusals::{Refusal, Side, has_entry};
 use cli_requests::{ask_help_of_command, cli_commands, help_of_command};
-use cli_texts::{abouts, help_page, is_version_word};
+use cli_texts::{abouts, help_page, is_version_word, write_entry};
 use std::alloc::{AllocError, Global};
 use std::convert::AsStr;
+use std::io::Write;
 
 /// What a command line asks for.
 #[derive(Clone, Copy)]
 pub(crate) enum Action {
     /// Reads a stream from standard input and writes its canonical form to standard output.
     Recode,
+}
+
+#[tactic(auto, unfolding(crate::specs::Arguments::asks_topic))]
+fn asks_topic<S: AsStr>(arguments: &[S]) -> bool
+    ensures { result ≡ asks_topic (map S.text arguments.now) }
+{
+    match arguments {
+        [_, word, _] => word.as_str() == "help",
+        _ => false,
+    }
+}
+
+/// Returns whether the arguments ask by `help` what a refusal means.
+pub(crate) fn asks_code<S: AsStr>(arguments: &[S]) -> bool
+    ensures { result ≡ true → asks_topic (map S.text arguments.now) ≡ true }
+{
+    match arguments {
+        [_, _, code] => asks_topic(arguments) && has_entry(code.as_str()),
+        _ => false,
+    }
+}
+
+/// Writes what the refusal of the last argument means, and nothing else.
+pub(crate) fn write_entry_asked<S: AsStr, W: Write>(
+    alloc: Global,
+    arguments: &[S],
+    output: &mut W,
+) -> Result<(), Refusal>
+    ensures written { OnOk result (GivesSome (W.contents output.old) (W.contents output.new)) }
+    ensures refused { IfErr result IsOfOutput }
+    ensures silent { IfErr result (λ refusal. refusal ≢ Refusal.Io Side.Output → output.new ≡ output.old) }
+{
+    match arguments {
+        [_, _, code] => write_entry(alloc, code.as_str(), output),
+        _ => write_entry(alloc, "", output),
+    }
 }
 
 /// Parses a command line, whose first argument is the program's name. An `Err` is a usage error or a request for help.

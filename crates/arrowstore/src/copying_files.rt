@@ -5,8 +5,8 @@ ghost use Rattle.arrowstore.specs.OnFiles.{IsOpenedFile, OpensStore, FailsToOpen
 
 use crate::serving::{device_to_read, format_new, remove_on_error, reserve_standard_descriptors};
 use cli_commands::copy_tables;
-use cli_refusals::{Refusal, write_whole};
-use sector_dev::{FileDevice, LockFile, SectorDevice};
+use cli_refusals::{Refusal, Side, write_whole};
+use sector_dev::{CachedFile, FileDevice, LockFile, SectorDevice, SystemFile};
 use std::alloc::Global;
 use std::fs::{OpenFile, OpenOptions};
 use std::io::{Read, Seek, Write};
@@ -15,11 +15,11 @@ use store::Store;
 
 /// Opens the store in a file for reading.
 pub(crate) fn open_to_read<
-    F: Read + Write + Seek + OpenFile + LockFile + Drop,
+    F: Read + Write + Seek + OpenFile + LockFile + CachedFile + Drop,
     H: Files<File = F> + AllocGlobal,
->(rt: &H, path: &str) -> Result<Store<FileDevice<F>>, Refusal>
-    ensures opened { IfOk result (OpensStore ⟦<FileDevice<F> as SectorDevice>⟧ IsOpenedFile) }
-    ensures refused { IfErr result (FailsToOpen ⟦<FileDevice<F> as SectorDevice>⟧ IsOpenedFile) }
+>(rt: &H, path: &str) -> Result<Store<FileDevice<SystemFile<F>>>, Refusal>
+    ensures opened { IfOk result (OpensStore ⟦<FileDevice<SystemFile<F>> as SectorDevice>⟧ IsOpenedFile) }
+    ensures refused { IfErr result (FailsToOpen ⟦<FileDevice<SystemFile<F>> as SectorDevice>⟧ IsOpenedFile) }
 {
     let device = device_to_read(rt, path)?;
     match Store::open(rt.alloc(), device) {
@@ -30,10 +30,10 @@ pub(crate) fn open_to_read<
 
 // Sets the length of a file and syncs it.
 fn set_length<F: OpenFile>(file: &F, bytes: u64) -> Result<(), Refusal>
-    ensures { IfErr result (λ refusal. refusal ≡ Refusal.Io) }
+    ensures { IfErr result (λ refusal. refusal ≡ Refusal.Io Side.File) }
 {
-    file.set_len(bytes).map_err(|_| Refusal::Io)?;
-    file.sync_all().map_err(|_| Refusal::Io)
+    file.set_len(bytes).map_err(|_| Refusal::Io(Side::File))?;
+    file.sync_all().map_err(|_| Refusal::Io(Side::File))
 }
 
 // Makes a new file one byte longer than its sectors. A file of such a length is never opened as a store, whatever its contents.
@@ -43,30 +43,35 @@ fn mark_unfinished<F: OpenFile + Drop, H: Files<File = F>>(
     sectors: u64,
 ) -> Result<F, Refusal>
     requires { sectors ≤ MOST_SECTORS }
-    ensures { IfErr result (λ refusal. refusal ≡ Refusal.Io) }
+    ensures { IfErr result (λ refusal. refusal ≡ Refusal.Io Side.File) }
 {
     let file = OpenOptions::new()
         .write(true)
         .open(rt, path)
-        .map_err(|_| Refusal::Io)?;
+        .map_err(|_| Refusal::Io(Side::File))?;
     set_length(&file, sectors * 512 + 1)?;
     Ok(file)
 }
 
 fn mark_finished<F: OpenFile>(file: &F, sectors: u64) -> Result<(), Refusal>
     requires { sectors ≤ MOST_SECTORS }
-    ensures { IfErr result (λ refusal. refusal ≡ Refusal.Io) }
+    ensures { IfErr result (λ refusal. refusal ≡ Refusal.Io Side.File) }
 {
     set_length(file, sectors * 512)
 }
 
 // Copies all tables into a store of the same version in a new file. On an error the file is removed, unless the system refuses that too.
 fn copy_into_file<
-    F: Read + Write + Seek + OpenFile + LockFile + Drop,
+    F: Read + Write + Seek + OpenFile + LockFile + CachedFile + Drop,
     H: Files<File = F> + AllocGlobal,
->(rt: &H, from: &mut Store<FileDevice<F>>, path: &str, sectors: u64) -> Result<(), Refusal>
-    ensures copied { OnOk result (CopiesInto ⟦<FileDevice<F> as SectorDevice>⟧ sectors from.old (Ok tt)) }
-    ensures refused { IfErr result (FailsToCopy ⟦<FileDevice<F> as SectorDevice>⟧ sectors from.old) }
+>(
+    rt: &H,
+    from: &mut Store<FileDevice<SystemFile<F>>>,
+    path: &str,
+    sectors: u64,
+) -> Result<(), Refusal>
+    ensures copied { OnOk result (CopiesInto ⟦<FileDevice<SystemFile<F>> as SectorDevice>⟧ sectors from.old (Ok tt)) }
+    ensures refused { IfErr result (FailsToCopy ⟦<FileDevice<SystemFile<F>> as SectorDevice>⟧ sectors from.old) }
 {
     let device = FileDevice::create(rt, path, sectors)?;
     let file = remove_on_error(rt, path, mark_unfinished(rt, path, sectors))?;
@@ -81,12 +86,12 @@ fn copy_into_file<
 /// Copies all tables of a store into a new file with `sectors` sectors of 512 bytes, in a store of the same version, and writes `ok`. An unfinished
 /// copy is never opened as a store.
 pub(crate) fn serve_copy<
-    F: Read + Write + Seek + OpenFile + LockFile + Drop,
+    F: Read + Write + Seek + OpenFile + LockFile + CachedFile + Drop,
     H: Files<File = F> + AllocGlobal,
     W: Write,
 >(rt: &H, path: &str, new: &str, sectors: u64, output: &mut W) -> Result<(), Refusal>
-    ensures copies { CopiesStore ⟦<FileDevice<F> as SectorDevice>⟧ IsOpenedFile W.contents sectors output.old output.new result }
-    ensures silent { IfErr result (λ refusal. refusal ≢ Refusal.Io → output.new ≡ output.old) }
+    ensures copies { CopiesStore ⟦<FileDevice<SystemFile<F>> as SectorDevice>⟧ IsOpenedFile W.contents sectors output.old output.new result }
+    ensures silent { IfErr result (λ refusal. refusal ≢ Refusal.Io Side.Output → output.new ≡ output.old) }
 {
     let _places = reserve_standard_descriptors(rt)?;
     let mut from = open_to_read(rt, path)?;

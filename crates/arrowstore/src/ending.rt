@@ -7,7 +7,7 @@ ghost use Rattle.cli_texts.specs.Told.{told};
 ghost use Rattle.store.specs.Salvaging.{plain_left};
 ghost use Rattle.arrowstore.specs.OnFiles.{status_of};
 
-use cli_refusals::{Hint, Refusal};
+use cli_refusals::{Known, Refusal};
 use cli_texts::{Audience, Ended, Status, end, tell_lacking, tell_left_out};
 use std::io::{self, Write};
 use store::LeftOut;
@@ -38,11 +38,11 @@ fn end_partly<E: Write>(left_out: &[LeftOut], audience: Audience, errors: &mut E
     }
 }
 
-/// Reports how a request ended: what was left out if it succeeded, or else the refusal, with a hint at what was refused if there is one.
+/// Reports how a request ended: what was left out if it succeeded, or else the refusal, with what is known of it.
 pub(crate) fn end_whole_or_partly<E: Write>(
     done: Result<(), Refusal>,
     left_out: &[LeftOut],
-    hint: Option<Hint<'_>>,
+    known: Known<'_>,
     audience: Audience,
     errors: &mut E,
 ) -> Ended
@@ -50,16 +50,16 @@ pub(crate) fn end_whole_or_partly<E: Write>(
     ensures silent { result.status ≡ Status.Done → (errors.new ≡ errors.old) × IsTrue result.is_reported }
     ensures lines { result.status ≡ Status.PartlyDone → IsTrue result.is_reported
         → Appends (E.contents errors.old) (E.contents errors.new) (left_out_text audience (plain_left left_out.now)) }
-    ensures line { TellsRefusal (told audience hint.entry) result (E.contents errors.old) (E.contents errors.new) }
+    ensures line { TellsRefusal (told audience known.entry) result (E.contents errors.old) (E.contents errors.new) }
 {
     match done {
         Ok(()) => {
             if left_out.is_empty() {
-                end(done, hint, audience, errors)
+                end(done, known, audience, errors)
             } else {
                 end_partly(left_out, audience, errors)
             }
         }
-        Err(_) => end(done, hint, audience, errors),
+        Err(_) => end(done, known, audience, errors),
     }
 }

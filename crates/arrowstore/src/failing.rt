@@ -3,7 +3,7 @@ use crate::asking_again::{AskedAgain, Served};
 use crate::in_place_of_store::reason_in_place_of_store;
 use crate::noted::{Failure, FileCall};
 use crate::streams_again::FoundOfStreams;
-use cli_refusals::{FailedFile, FileReason, MOST_SHOWN, Refusal};
+use cli_refusals::{FailedFile, FileCause, FileReason, MOST_SHOWN, Refusal, Side};
 use cli_requests::StoreRequest;
 use cli_texts::system_text;
 use commit::OpeningRefusal;
@@ -12,16 +12,30 @@ use std::fs;
 use std::io::{self, ErrorKind};
 use std::rt::Files;
 
-/// Returns whether a failed system call can be the cause of this refusal.
-pub(crate) fn is_of_failure(refusal: &Refusal) -> bool {
-    matches!(
-        refusal,
-        Refusal::Io
-            | Refusal::Opening(OpeningRefusal::Device)
-            | Refusal::Store(
-                tables::Refusal::Device | tables::Refusal::Read | tables::Refusal::Write
-            )
-    )
+fn cause_of_opening(kind: ErrorKind) -> FileCause {
+    match kind {
+        ErrorKind::NotFound | ErrorKind::NotADirectory => FileCause::Missing,
+        ErrorKind::AlreadyExists => FileCause::Exists,
+        _ => FileCause::Other,
+    }
+}
+
+// A lock that another program holds is answered as a call that would block.
+fn cause_of_call(call: FileCall, kind: ErrorKind) -> FileCause {
+    match (call, kind) {
+        (_, ErrorKind::PermissionDenied | ErrorKind::ReadOnlyFilesystem) => FileCause::Denied,
+        (FileCall::Lock, ErrorKind::WouldBlock) => FileCause::Locked,
+        (FileCall::Open, kind) => cause_of_opening(kind),
+        _ => FileCause::Other,
+    }
+}
+
+/// Returns why a file could not be used, by the last failed call on one.
+pub(crate) fn cause_of(failure: &Option<Failure>) -> FileCause {
+    match failure {
+        Some(failure) => cause_of_call(failure.call, failure.error.kind()),
+        None => FileCause::Other,
+    }
 }
 
 // A long path that a script names is not shown: it could hide the rest of the line.
@@ -120,15 +134,6 @@ fn reason_of_input<H: Files + AllocGlobal>(rt: &H, error: &io::Error) -> Option<
     }
 }
 
-// Returns why a read of the input or a write of the output failed. Nothing is written after a failed read.
-fn failed_stream<H: Files + AllocGlobal>(rt: &H, served: Served<'_>) -> Option<FoundOfStreams> {
-    if let Some(error) = served.input_failure {
-        return Some(FoundOfStreams::Unread(reason_of_input(rt, &error)?));
-    }
-    let error = served.output_failure?;
-    Some(FoundOfStreams::Unwritten(system_text(rt.alloc(), &error)?))
-}
-
 fn failed_file<H: Files + AllocGlobal>(
     rt: &H,
     request: &StoreRequest<'_>,
@@ -142,16 +147,44 @@ fn failed_file<H: Files + AllocGlobal>(
     FailedFile::new(rt.alloc(), path, reason)
 }
 
-/// Returns what to report of a failed call, or `None` if none is known, its path can't be shown, or memory is refused. No file is used after a failed
-/// read or write of a stream.
+// Returns why the input can't be read.
+fn unread_input<H: Files + AllocGlobal>(rt: &H, failure: Option<io::Error>) -> Option<AskedAgain> {
+    let reason = reason_of_input(rt, &failure?)?;
+    Some(AskedAgain::Streams(FoundOfStreams::Unread(reason)))
+}
+
+fn unwritten_output(alloc: Global, failure: Option<io::Error>) -> Option<AskedAgain> {
+    let reason = system_text(alloc, &failure?)?;
+    Some(AskedAgain::Streams(FoundOfStreams::Unwritten(reason)))
+}
+
+fn unused_file<H: Files + AllocGlobal>(
+    rt: &H,
+    request: &StoreRequest<'_>,
+    failure: Option<&Failure>,
+) -> Option<AskedAgain> {
+    Some(AskedAgain::File(failed_file(rt, request, failure?)?))
+}
+
+/// Returns what to report of the call that failed, on the side of the refusal, or `None` if none is known, its path can't be shown, or memory is
+/// refused.
 pub(crate) fn report_of_failure<H: Files + AllocGlobal>(
     rt: &H,
     request: &StoreRequest<'_>,
     served: Served<'_>,
+    failure: &Option<Failure>,
+    refusal: &Refusal,
 ) -> Option<AskedAgain> {
-    if let Some(found) = failed_stream(rt, served) {
-        return Some(AskedAgain::Streams(found));
+    match refusal {
+        Refusal::Io(Side::Input) | Refusal::Store(tables::Refusal::Read) => {
+            unread_input(rt, served.input_failure)
+        }
+        Refusal::Io(Side::Output) | Refusal::Store(tables::Refusal::Write) => {
+            unwritten_output(rt.alloc(), served.output_failure)
+        }
+        Refusal::Io(Side::File)
+        | Refusal::Opening(OpeningRefusal::Device)
+        | Refusal::Store(tables::Refusal::Device) => unused_file(rt, request, failure.as_ref()),
+        _ => None,
     }
-    let failure = served.failures.take()?;
-    Some(AskedAgain::File(failed_file(rt, request, &failure)?))
 }

@@ -8,8 +8,8 @@ use std::fs::{self, OpenFile};
 use std::io::{Read, Seek};
 use std::rt::Files;
 
-// Returns the path of the existing store that a request opens.
-fn store_of<'a>(request: &StoreRequest<'a>) -> Option<&'a str> {
+/// Returns the path of the existing store that a request opens.
+pub(crate) fn store_of<'a>(request: &StoreRequest<'a>) -> Option<&'a str> {
     match request {
         StoreRequest::Copy { path, .. }
         | StoreRequest::Salvage { path, .. }

@@ -36,7 +36,7 @@ impl<R: Read> KeptStart<R> {
         ensures { result.input ≡ input }
     {
         let room = match audience {
-            Audience::Terminal => MOST_KEPT,
+            Audience::Terminal | Audience::Script => MOST_KEPT,
             Audience::Program | Audience::Departed => 0,
         };
         KeptStart {

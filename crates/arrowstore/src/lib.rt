@@ -11,7 +11,6 @@
 //! ```
 #![tactic(auto)]
 
-mod about_parts;
 mod about_words;
 mod asking_again;
 mod command_line;
@@ -21,9 +20,12 @@ mod failing;
 mod in_place_of_store;
 mod input_again;
 mod kept_start;
+mod later_version;
+mod nearest_type;
 mod noted;
 mod open_command;
 mod other_length;
+mod record_line;
 mod replaying;
 mod running;
 mod salvaging_files;
@@ -34,8 +36,11 @@ mod serving_open;
 mod streams_again;
 mod unread_tables;
 mod with_files;
+mod writing_streams;
 
-pub use cli_texts::{Audience, Ended, Output, WatchedOutput, report_unreadable_arguments};
+pub use cli_texts::{
+    Audience, Ended, Output, WatchedOutput, report_stream_to_terminal, report_unreadable_arguments,
+};
 pub use kept_start::{Input, KeptStart, MOST_KEPT};
 pub use noted::{Failures, NotedFile};
 pub use open_command::{OpenCommand, stated};
@@ -43,3 +48,4 @@ pub use running::run;
 pub use serving_device::serve_device;
 pub use serving_open::serve_open;
 pub use with_files::run_with_files;
+pub use writing_streams::writes_stream;

@@ -32,14 +32,23 @@ fn sectors_in(
     }
 }
 
+/// Opens the file at `path`, and returns it with its first two sectors, if it has them.
+pub(crate) fn first_sectors<F: Read + OpenFile + Drop, H: Files<File = F>>(
+    rt: &H,
+    path: &str,
+) -> Option<(F, [u8; SECTOR_BYTES], [u8; SECTOR_BYTES])> {
+    let mut file = fs::open(rt, path).ok()?;
+    let zeroth = next_sector(&mut file)?;
+    let first = next_sector(&mut file)?;
+    Some((file, zeroth, first))
+}
+
 /// Returns the length of the file at `path` and the number of sectors of the store that it begins with, if these disagree.
 pub(crate) fn reason_of_other_length<
     F: Read + Seek + OpenFile + Drop,
     H: Files<File = F> + AllocGlobal,
 >(rt: &H, path: &str) -> Option<FileReason> {
-    let mut file = fs::open(rt, path).ok()?;
-    let zeroth = next_sector(&mut file)?;
-    let first = next_sector(&mut file)?;
+    let (mut file, zeroth, first) = first_sectors(rt, path)?;
     let sectors = sectors_in(rt.alloc(), &zeroth, &first)?;
     let bytes = file.seek(SeekFrom::End(0)).ok()?;
     if bytes == u64::from(sectors) * SECTOR_BYTES as u64 {

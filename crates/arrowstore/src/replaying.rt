@@ -2,7 +2,7 @@
 ghost use Rattle.std.specs.Prelude.{◌≡◌, ◌≢◌, IfErr};
 ghost use Rattle.arrowstore.specs.OnFiles.{Replays};
 
-use cli_refusals::Refusal;
+use cli_refusals::{Refusal, Side};
 use cli_replay::{Faults, replay};
 use cli_requests::ReplayWords;
 use sector_dev::{ModelDevice, SectorDevice};
@@ -18,7 +18,7 @@ pub(crate) fn serve_replay<F: Read + OpenFile + Drop, H: Files<File = F> + Alloc
 ) -> Result<(), Refusal>
     ensures replays { Replays ⟦<ModelDevice as SectorDevice>⟧ F.remaining ⟦<Empty as Read>⟧.remaining W.contents words.now
         output.old output.new result }
-    ensures silent { IfErr result (λ refusal. refusal ≢ Refusal.Io → output.new ≡ output.old) }
+    ensures silent { IfErr result (λ refusal. refusal ≢ Refusal.Io Side.Output → output.new ≡ output.old) }
 {
     let faults = Faults {
         fail: words.fail,

@@ -10,7 +10,7 @@ ghost use Rattle.cli_texts.specs.Told.{audience_after_output};
 ghost use Rattle.cli_texts.specs.declared.status.Status.TheVariants.{Done};
 
 use crate::Input;
-use crate::command_line::{Action, action_of};
+use crate::command_line::{Action, action_of, asks_code, write_entry_asked};
 use crate::streams_again::end_recode;
 use cli_commands::recode;
 use cli_texts::{Audience, Ended, Output, end_text, is_own, report_arguments, write_own_text};
@@ -48,6 +48,10 @@ pub fn run<S: AsStr, R: Read + Input, W: Write + Output, E: Write>(
 {
     if is_own(arguments) {
         let written = write_own_text(alloc, arguments, output);
+        return end_text(alloc, written, audience, output, errors);
+    }
+    if asks_code(arguments) {
+        let written = write_entry_asked(alloc, arguments, output);
         return end_text(alloc, written, audience, output, errors);
     }
     match action_of(alloc, arguments) {

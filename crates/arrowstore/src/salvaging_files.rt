@@ -8,7 +8,7 @@ use crate::copying_files::open_to_read;
 use crate::serving::reserve_standard_descriptors;
 use cli_commands::salvage_table;
 use cli_refusals::Refusal;
-use sector_dev::{FileDevice, LockFile, SectorDevice};
+use sector_dev::{CachedFile, FileDevice, LockFile, SectorDevice, SystemFile};
 use std::fs::OpenFile;
 use std::io::{Read, Seek, Write};
 use std::rt::Files;
@@ -16,7 +16,7 @@ use store::LeftOut;
 
 /// Writes the stream of all rows of a table that can be read. On success `left_out` holds the segments that can't be read.
 pub(crate) fn serve_salvage<
-    F: Read + Write + Seek + OpenFile + LockFile + Drop,
+    F: Read + Write + Seek + OpenFile + LockFile + CachedFile + Drop,
     H: Files<File = F> + AllocGlobal,
     W: Write,
 >(
@@ -26,7 +26,7 @@ pub(crate) fn serve_salvage<
     output: &mut W,
     left_out: &mut Vec<LeftOut>,
 ) -> Result<(), Refusal>
-    ensures salvages { SalvagesFile ⟦<FileDevice<F> as SectorDevice>⟧ IsOpenedFile W.contents name.now output.old output.new
+    ensures salvages { SalvagesFile ⟦<FileDevice<SystemFile<F>> as SectorDevice>⟧ IsOpenedFile W.contents name.now output.old output.new
         (plain_left left_out.old.items) (plain_left left_out.new.items) result }
     ensures silent { IfErr result (λ refusal. ¬ IsBrokenOff refusal → output.new ≡ output.old) }
 {

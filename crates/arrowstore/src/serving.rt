@@ -13,10 +13,12 @@ use crate::open_command::stated;
 use crate::replaying::serve_replay;
 use crate::salvaging_files::serve_salvage;
 use crate::serving_device::serve_device;
-use cli_refusals::{Hinted, Refusal, write_whole};
+use cli_refusals::{Hinted, Refusal, Side, write_whole};
 use cli_requests::{StoreCommand, StoreRequest};
 use commit::FormatVersion;
-use sector_dev::{FileDevice, FileError, LockFile, ModelDevice, SectorDevice};
+use sector_dev::{
+    CachedFile, FileDevice, FileError, LockFile, ModelDevice, SectorDevice, SystemFile,
+};
 use std::alloc::Global;
 use std::fs::{self, FileType, OpenFile};
 use std::io::{self, Empty, ErrorKind, Read, Seek, Write};
@@ -51,7 +53,7 @@ fn open_placeholder<F: OpenFile, H: Files<File = F>>(rt: &H) -> io::Result<F> {
 // If a standard stream is closed, the next file opened takes its descriptor, and what is printed would go into the store. Placeholders that are opened
 // first take these descriptors.
 pub(crate) fn reserve_standard_descriptors<
-    F: Read + Write + Seek + OpenFile + LockFile + Drop,
+    F: Read + Write + Seek + OpenFile + LockFile + CachedFile + Drop,
     H: Files<File = F> + AllocGlobal,
 >(rt: &H) -> Result<(F, F, F), FileError>
     ensures { IfErr result (λ e. e ≡ FileError.Io) }
@@ -78,9 +80,9 @@ fn has_no_sectors_at<H: Files>(rt: &H, path: &str) -> bool {
 
 /// Opens the device in a file for reading. A named pipe is not opened, since that would block.
 pub(crate) fn device_to_read<
-    F: Read + Write + Seek + OpenFile + LockFile + Drop,
+    F: Read + Write + Seek + OpenFile + LockFile + CachedFile + Drop,
     H: Files<File = F> + AllocGlobal,
->(rt: &H, path: &str) -> Result<FileDevice<F>, FileError>
+>(rt: &H, path: &str) -> Result<FileDevice<SystemFile<F>>, FileError>
     ensures opened { IfOk result (λ device. IsOpenedFile device) }
 {
     if has_no_sectors_at(rt, path) {
@@ -91,11 +93,10 @@ pub(crate) fn device_to_read<
 }
 
 // Opens the device in a file. If the command only reads, the file is not opened for writing.
-fn device_of<F: Read + Write + Seek + OpenFile + LockFile + Drop, H: Files<File = F> + AllocGlobal>(
-    rt: &H,
-    path: &str,
-    only_reads: bool,
-) -> Result<FileDevice<F>, FileError>
+fn device_of<
+    F: Read + Write + Seek + OpenFile + LockFile + CachedFile + Drop,
+    H: Files<File = F> + AllocGlobal,
+>(rt: &H, path: &str, only_reads: bool) -> Result<FileDevice<SystemFile<F>>, FileError>
     ensures opened { IfOk result (λ device. IsOpenedFile device) }
 {
     if only_reads {
@@ -121,17 +122,17 @@ pub(crate) fn remove_on_error<T: Drop, H: Files>(
 
 /// Makes an empty store on the device of a new file. On an error the file is removed, unless the system refuses that too.
 pub(crate) fn format_new<
-    F: Read + Write + Seek + OpenFile + LockFile + Drop,
+    F: Read + Write + Seek + OpenFile + LockFile + CachedFile + Drop,
     H: Files<File = F> + AllocGlobal,
 >(
     rt: &H,
     path: &str,
-    device: FileDevice<F>,
+    device: FileDevice<SystemFile<F>>,
     version: FormatVersion,
-) -> Result<Store<FileDevice<F>>, Refusal>
+) -> Result<Store<FileDevice<SystemFile<F>>>, Refusal>
     ensures made { IfOk result (IsNewStore (sectors_of device) version) }
-    ensures size { IfOk result (λ store. ⟦<FileDevice<F> as SectorDevice>⟧.size (device_of store) ≡ sectors_of device) }
-    ensures refused { IfErr result (FailsToFormat ⟦<FileDevice<F> as SectorDevice>⟧ (sectors_of device) version) }
+    ensures size { IfOk result (λ store. ⟦<FileDevice<SystemFile<F>> as SectorDevice>⟧.size (device_of store) ≡ sectors_of device) }
+    ensures refused { IfErr result (FailsToFormat ⟦<FileDevice<SystemFile<F>> as SectorDevice>⟧ (sectors_of device) version) }
 {
     match format_on(rt.alloc(), device, version) {
         Ok(store) => Ok(store),
@@ -141,24 +142,29 @@ pub(crate) fn format_new<
 
 // Creates a file with an empty store. On an error no file is left, unless the system refuses to remove it.
 fn format_file<
-    F: Read + Write + Seek + OpenFile + LockFile + Drop,
+    F: Read + Write + Seek + OpenFile + LockFile + CachedFile + Drop,
     H: Files<File = F> + AllocGlobal,
->(rt: &H, path: &str, sectors: u64, version: FormatVersion) -> Result<Store<FileDevice<F>>, Refusal>
+>(
+    rt: &H,
+    path: &str,
+    sectors: u64,
+    version: FormatVersion,
+) -> Result<Store<FileDevice<SystemFile<F>>>, Refusal>
     ensures made { IfOk result (IsNewStore sectors version) }
-    ensures size { IfOk result (λ store. ⟦<FileDevice<F> as SectorDevice>⟧.size (device_of store) ≡ sectors) }
-    ensures refused { IfErr result (RefusesFormat ⟦<FileDevice<F> as SectorDevice>⟧ sectors version) }
+    ensures size { IfOk result (λ store. ⟦<FileDevice<SystemFile<F>> as SectorDevice>⟧.size (device_of store) ≡ sectors) }
+    ensures refused { IfErr result (RefusesFormat ⟦<FileDevice<SystemFile<F>> as SectorDevice>⟧ sectors version) }
 {
     let device = FileDevice::create(rt, path, sectors)?;
     format_new(rt, path, device, version)
 }
 
 fn serve_format<
-    F: Read + Write + Seek + OpenFile + LockFile + Drop,
+    F: Read + Write + Seek + OpenFile + LockFile + CachedFile + Drop,
     H: Files<File = F> + AllocGlobal,
     W: Write,
 >(rt: &H, path: &str, sectors: u64, version: FormatVersion, output: &mut W) -> Result<(), Refusal>
-    ensures formats { Formats ⟦<FileDevice<F> as SectorDevice>⟧ W.contents sectors version output.old output.new result }
-    ensures silent { IfErr result (λ refusal. refusal ≢ Refusal.Io → output.new ≡ output.old) }
+    ensures formats { Formats ⟦<FileDevice<SystemFile<F>> as SectorDevice>⟧ W.contents sectors version output.old output.new result }
+    ensures silent { IfErr result (λ refusal. refusal ≢ Refusal.Io Side.Output → output.new ≡ output.old) }
 {
     let _places = reserve_standard_descriptors(rt)?;
     let _store = format_file(rt, path, sectors, version)?;
@@ -167,7 +173,7 @@ fn serve_format<
 
 // Serves a command on the store in a file. Its texts are parsed before any system call.
 fn serve_command<
-    F: Read + Write + Seek + OpenFile + LockFile + Drop,
+    F: Read + Write + Seek + OpenFile + LockFile + CachedFile + Drop,
     H: Files<File = F> + AllocGlobal,
     R: Read,
     W: Write,
@@ -179,10 +185,10 @@ fn serve_command<
     output: &mut W,
     hint: &mut Option<Hinted>,
 ) -> Result<(), Refusal>
-    ensures serves { ServesCommand ⟦<FileDevice<F> as SectorDevice>⟧ IsOpenedFile R.remaining W.contents command.now
+    ensures serves { ServesCommand ⟦<FileDevice<SystemFile<F>> as SectorDevice>⟧ IsOpenedFile R.remaining W.contents command.now
         (channels input.old output.old hint.old) (channels input.new output.new hint.new) result }
     ensures unread { (takes_input_word (command_word command.now) ≡ true) ⊎ (input.new ≡ input.old) }
-    ensures silent { IfErr result (λ refusal. refusal ≢ Refusal.Io → output.new ≡ output.old) }
+    ensures silent { IfErr result (λ refusal. refusal ≢ Refusal.Io Side.Output → output.new ≡ output.old) }
 {
     let only_reads = command.only_reads();
     let command = stated(rt.alloc(), command)?;
@@ -195,7 +201,7 @@ fn serve_command<
 /// Serves a request of a store. If a text is refused, `hint` is set to the refused part of it, and if a check is refused, to the first table that
 /// can't be read; `left_out` is set to what a salvage leaves out.
 pub(crate) fn serve<
-    F: Read + Write + Seek + OpenFile + LockFile + Drop,
+    F: Read + Write + Seek + OpenFile + LockFile + CachedFile + Drop,
     H: Files<File = F> + AllocGlobal,
     R: Read,
     W: Write,
@@ -207,12 +213,12 @@ pub(crate) fn serve<
     hint: &mut Option<Hinted>,
     left_out: &mut Vec<LeftOut>,
 ) -> Result<(), Refusal>
-    ensures serves { ServesRequest ⟦<FileDevice<F> as SectorDevice>⟧ IsOpenedFile R.remaining W.contents
+    ensures serves { ServesRequest ⟦<FileDevice<SystemFile<F>> as SectorDevice>⟧ IsOpenedFile R.remaining W.contents
         (Replays ⟦<ModelDevice as SectorDevice>⟧ F.remaining ⟦<Empty as Read>⟧.remaining W.contents) request.now
         (channels input.old output.old hint.old) (channels input.new output.new hint.new)
         (plain_left left_out.old.items) (plain_left left_out.new.items) result }
     ensures unread { (takes_input_word (request_word request.now) ≡ true) ⊎ (input.new ≡ input.old) }
-    // A refusal writes nothing, unless a read or a write failed or a salvage was interrupted.
+    // A refusal writes nothing, unless a write failed or a salvage was interrupted.
     ensures silent { IfErr result (λ refusal. ¬ WritesPart (request_word request.now) refusal → output.new ≡ output.old) }
 {
     match request {

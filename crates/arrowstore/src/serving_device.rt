@@ -6,7 +6,7 @@ ghost use Rattle.arrowstore.specs.Serving.{channels};
 
 use crate::OpenCommand;
 use crate::serving_open::serve_open;
-use cli_refusals::{Hinted, Refusal};
+use cli_refusals::{Hinted, Refusal, Side};
 use sector_dev::SectorDevice;
 use std::alloc::Global;
 use std::io::{Read, Write};
@@ -29,8 +29,8 @@ pub fn serve_device<D: SectorDevice, R: Read, W: Write>(
     ensures serves { ServesDevice ⟦<D as SectorDevice>⟧ R.remaining W.contents command.entry device result.1
         (channels input.old output.old hint.old) (channels input.new output.new hint.new) result.0 }
     ensures unread { (reads_input command.entry ≡ true) ⊎ (input.new ≡ input.old) }
-    // A refusal writes nothing to the output, unless a read or a write failed.
-    ensures silent { IfErr result.0 (λ refusal. refusal ≢ Refusal.Io → output.new ≡ output.old) }
+    // A refusal writes nothing to the output, unless a write failed.
+    ensures silent { IfErr result.0 (λ refusal. refusal ≢ Refusal.Io Side.Output → output.new ≡ output.old) }
 {
     match Store::open(alloc, device) {
         Ok(opened) => {

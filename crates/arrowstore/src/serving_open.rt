@@ -8,7 +8,7 @@ use cli_commands::{
     append_input, append_text, apply_command, check_tables, compact_tables, export_table,
     import_input, print_schema, print_selection, print_summary, print_tables, upgrade_store,
 };
-use cli_refusals::{Hinted, Refusal};
+use cli_refusals::{Hinted, Refusal, Side};
 use sector_dev::SectorDevice;
 use std::alloc::Global;
 use std::io::{Read, Write};
@@ -32,8 +32,8 @@ pub fn serve_open<D: SectorDevice, R: Read, W: Write>(
     ensures serves { Serves R.remaining W.contents command.entry store.old store.new
         (channels input.old output.old hint.old) (channels input.new output.new hint.new) result }
     ensures unread { (reads_input command.entry ≡ true) ⊎ (input.new ≡ input.old) }
-    // A refusal writes nothing, unless a read or a write failed.
-    ensures silent { IfErr result (λ refusal. refusal ≢ Refusal.Io → output.new ≡ output.old) }
+    // A refusal writes nothing, unless a write failed.
+    ensures silent { IfErr result (λ refusal. refusal ≢ Refusal.Io Side.Output → output.new ≡ output.old) }
 {
     match command {
         OpenCommand::Change(command) => apply_command(alloc, store, command, output),

@@ -2,6 +2,7 @@
 ghost use Rattle.std.specs.Prelude.{◌≡◌, Option, None, Some, IfSome, IfErr, IsOk, IsTrue};
 ghost use Rattle.arrowstore.specs.OnFiles.{hinted_of};
 ghost use Rattle.arrowstore.specs.Running.{HintsRecode, IsFoundFor};
+ghost use Rattle.cli_refusals.specs.Known.{unchanging};
 ghost use Rattle.cli_refusals.specs.declared.hint.Hint.{Hint};
 ghost use Rattle.cli_refusals.specs.declared.refusal.Refusal.{Refusal};
 ghost use Rattle.cli_texts.specs.Ending.{TellsRefusal};
@@ -9,7 +10,7 @@ ghost use Rattle.cli_texts.specs.Told.{audience_after_output, told};
 
 use crate::Input;
 use crate::input_again::field_with_fault;
-use cli_refusals::{Hint, Refusal};
+use cli_refusals::{Hint, Refusal, Side};
 use cli_texts::{Audience, Ended, Output, Status, audience_after_output, end_output, system_text};
 use ipc_message::Fault;
 use std::alloc::Global;
@@ -59,19 +60,16 @@ pub(crate) fn found_in_stream(
     Some(FoundOfStreams::Field(name))
 }
 
-// Returns why a read or a write failed. Nothing is written after a failed read.
-fn failed_stream<R: Input, W: Output>(
-    alloc: Global,
-    input: &R,
-    output: &W,
-) -> Option<FoundOfStreams>
-    ensures { IfSome result (λ found. IsFoundFor found Refusal.Io) }
+fn unread_input<R: Input>(alloc: Global, input: &R) -> Option<FoundOfStreams>
+    ensures { IfSome result (λ found. IsFoundFor found (Refusal.Io Side.Input)) }
 {
-    if let Some(error) = input.failure() {
-        return Some(FoundOfStreams::Unread(system_text(alloc, &error)?));
-    }
-    let error = output.failure()?;
-    Some(FoundOfStreams::Unwritten(system_text(alloc, &error)?))
+    Some(FoundOfStreams::Unread(system_text(alloc, &input.failure()?)?))
+}
+
+fn unwritten_output<W: Output>(alloc: Global, output: &W) -> Option<FoundOfStreams>
+    ensures { IfSome result (λ found. IsFoundFor found (Refusal.Io Side.Output)) }
+{
+    Some(FoundOfStreams::Unwritten(system_text(alloc, &output.failure()?)?))
 }
 
 fn found_for<R: Input, W: Output>(
@@ -83,7 +81,8 @@ fn found_for<R: Input, W: Output>(
     ensures { IfSome result (λ found. IsFoundFor found refusal.now) }
 {
     match refusal {
-        Refusal::Io => failed_stream(alloc, input, output),
+        Refusal::Io(Side::Input) => unread_input(alloc, input),
+        Refusal::Io(Side::Output) => unwritten_output(alloc, output),
         Refusal::Fault(fault) => found_in_stream(alloc, input.start(), input.is_empty(), *fault),
         _ => None,
     }
@@ -100,7 +99,9 @@ fn found_of_recode<R: Input, W: Output>(
     ensures { IfErr done.now (λ refusal. IfSome result (λ found. IsFoundFor found refusal)) }
 {
     match (audience_after_output(audience, output), done) {
-        (Audience::Terminal, Err(refusal)) => found_for(alloc, refusal, input, output),
+        (Audience::Terminal | Audience::Script, Err(refusal)) => found_for(
+            alloc, refusal, input, output,
+        ),
         _ => None,
     }
 }
@@ -114,7 +115,7 @@ fn hint_of(found: &Option<FoundOfStreams>) -> Option<Hint<'_>>
     }
 }
 
-/// Reports how `recode` ended: a terminal is told why a read or a write failed, that the input is empty, or which of its fields is refused.
+/// Reports how `recode` ended: a terminal or a script is told why a read or a write failed, that the input is empty, or which of its fields is refused.
 pub(crate) fn end_recode<R: Input, W: Output, E: Write>(
     alloc: Global,
     done: Result<(), Refusal>,
@@ -126,7 +127,8 @@ pub(crate) fn end_recode<R: Input, W: Output, E: Write>(
     ensures done { IsOk done → (result.status ≡ Status.Done) × (errors.new ≡ errors.old) × IsTrue result.is_reported }
     ensures refused { IfErr done (λ refusal. result.status ≡ Status.Refused refusal) }
     ensures line { (hint : Option Hint) × IfErr done (HintsRecode hint)
-        × TellsRefusal (told (audience_after_output audience (W.unread output.now)) hint) result (E.contents errors.old) (E.contents errors.new) }
+        × TellsRefusal (told (audience_after_output audience (W.unread output.now)) (unchanging hint)) result (E.contents errors.old)
+        (E.contents errors.new) }
 {
     let found = found_of_recode(alloc, &done, audience, input, output);
     end_output(done, hint_of(&found), audience, output, errors)

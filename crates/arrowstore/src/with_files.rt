@@ -10,29 +10,32 @@ ghost use Rattle.cli_texts.specs.Ending.{GivesSome, GivesText, HasReportedHint, 
 ghost use Rattle.cli_texts.specs.LeftOut.{left_out_text};
 ghost use Rattle.cli_texts.specs.OwnTexts.{is_own, own_text};
 ghost use Rattle.cli_texts.specs.Told.{audience_after_output, told};
-ghost use Rattle.cli_requests.specs.Asked.{request_word};
+ghost use Rattle.cli_requests.specs.Asked.{changes, request_word};
 ghost use Rattle.cli_requests.specs.StoreWords.{first_word, is_of_store, takes_input, takes_input_word};
 ghost use Rattle.cli_texts.specs.Reported.{IfRefused, IsWrong};
 ghost use Rattle.cli_texts.specs.declared.status.Status.TheVariants.{Done, PartlyDone, Refused};
 ghost use Rattle.cli_refusals.specs.declared.refusal.Refusal.TheVariants as refusals;
-ghost use Rattle.cli_refusals.specs.declared.hint.Hint.{Hint};
+ghost use Rattle.cli_refusals.specs.declared.known.Known.{Known};
+ghost use Rattle.cli_refusals.specs.Known.{unchanging};
 ghost use Rattle.store.specs.Salvaging.{plain_left};
 
-use crate::about_parts::about_part;
 use crate::about_words::{about_line, about_word};
 use crate::asking_again::{AskedAgain, Served, ask_again};
 use crate::ending::end_whole_or_partly;
+use crate::failing::cause_of;
 use crate::kept_start::Input;
+use crate::noted::Failure;
+use crate::record_line::line_of_refused;
 use crate::serving::serve;
 use crate::unread_tables::report_of_others;
 use crate::{Failures, run};
-use cli_refusals::{Hint, Hinted, Refusal, Word};
+use cli_refusals::{Hint, Hinted, Known, Refusal, Word};
 use cli_requests::{Mistake, StoreRequest, ask_for_help, is_of_store, refused_word, request_of};
 use cli_texts::{
     Audience, Ended, Output, audience_after_output, report_arguments, report_signed_number,
     report_wrong_arguments,
 };
-use sector_dev::{FileDevice, LockFile, ModelDevice, SectorDevice};
+use sector_dev::{CachedFile, FileDevice, LockFile, ModelDevice, SectorDevice, SystemFile};
 use std::alloc::Global;
 use std::convert::AsStr;
 use std::fs::OpenFile;
@@ -40,12 +43,15 @@ use std::io::{Empty, Read, Seek, Write};
 use std::rt::Files;
 use store::LeftOut;
 
-// Returns the hint that the command itself gave, with sentences about the part of a text or about other tables.
+// Returns the hint that the command itself gave, with a sentence about the line of a record or about other tables.
 fn hint_of<'a>(hinted: &'a Option<Hinted>, about: &'a str) -> Option<Hint<'a>>
     ensures { hinted_of result ≡ hinted.now }
 {
     match hinted {
-        Some(Hinted::Part(part)) => Some(Hint::Part { part, about }),
+        Some(Hinted::Part(hinted)) => Some(Hint::Part {
+            hinted,
+            line: about,
+        }),
         Some(Hinted::Table(name)) => Some(Hint::Table {
             name,
             others: about,
@@ -65,7 +71,9 @@ fn word_of<'a>(
         (AskedAgain::Queried(table), Err(refusal)) => {
             refused_word(alloc, request, Some(table), refusal)
         }
-        (AskedAgain::Nothing, Err(refusal)) => refused_word(alloc, request, None, refusal),
+        (AskedAgain::Nothing | AskedAgain::Listed(_), Err(refusal)) => {
+            refused_word(alloc, request, None, refusal)
+        }
         _ => None,
     }
 }
@@ -82,6 +90,7 @@ fn about_found(
             about_word(alloc, word?, Some(table), refusal)
         }
         (AskedAgain::Nothing, Err(refusal)) => about_word(alloc, word?, None, refusal),
+        (AskedAgain::Listed(text), _) => text.clone().ok(),
         (AskedAgain::Line(text), _) => about_line(alloc, text.as_slice()),
         _ => None,
     }
@@ -101,35 +110,15 @@ fn found_hint<'a>(asked: &'a AskedAgain, word: Option<Word<'a>>, about: &'a str)
             about,
         }),
         AskedAgain::Field(field) => Some(field.hint()),
-        AskedAgain::Queried(_) | AskedAgain::Nothing => Some(Hint::Word { word: word?, about }),
+        AskedAgain::Listed(_) | AskedAgain::Queried(_) | AskedAgain::Nothing => {
+            Some(Hint::Word { word: word?, about })
+        }
     }
 }
 
-fn end_of_request<E: Write>(
-    alloc: Global,
-    request: &StoreRequest<'_>,
-    asked: &AskedAgain,
-    done: Result<(), Refusal>,
-    left_out: &[LeftOut],
-    audience: Audience,
-    errors: &mut E,
-) -> Ended
-    ensures ends { result.status ≡ status_of done (plain_left left_out.now) }
-    ensures silent { result.status ≡ Done → (errors.new ≡ errors.old) × IsTrue result.is_reported }
-    ensures lines { result.status ≡ PartlyDone → IsTrue result.is_reported
-        → Appends (E.contents errors.old) (E.contents errors.new) (left_out_text audience (plain_left left_out.now)) }
-    ensures line { (hint : Option Hint) × (hinted_of hint ≡ None)
-        × TellsRefusal (told audience hint) result (E.contents errors.old) (E.contents errors.new) }
-{
-    let word = word_of(alloc, request, asked, &done);
-    let about = about_found(alloc, asked, word, &done).unwrap_or(String::new(alloc));
-    let hint = found_hint(asked, word, about.as_str());
-    end_whole_or_partly(done, left_out, hint, audience, errors)
-}
-
-// Returns sentences about what a command itself hints at, if a person reads them: the part of a text, or other tables.
+// Returns sentences about what a command itself hints at, if a person reads them: the line of a record, or other tables.
 fn about_hinted<
-    F: Read + Write + Seek + OpenFile + LockFile + Drop,
+    F: Read + Write + Seek + OpenFile + LockFile + CachedFile + Drop,
     H: Files<File = F> + AllocGlobal,
 >(
     rt: &H,
@@ -140,17 +129,57 @@ fn about_hinted<
     audience: Audience,
 ) -> String {
     match (hinted, audience) {
-        (Some(Hinted::Part(part)), Audience::Terminal) => {
-            about_part(rt, request, part, start, done).unwrap_or(String::new(rt.alloc()))
+        (Some(Hinted::Part(_)), Audience::Terminal | Audience::Script) => {
+            line_of_refused(rt.alloc(), request, start, done).unwrap_or(String::new(rt.alloc()))
         }
         _ => report_of_others(rt, request, hinted, done, audience),
     }
 }
 
+// Returns what is known of a request besides its refusal.
+fn known_of<'a>(
+    request: &StoreRequest<'_>,
+    failure: &Option<Failure>,
+    hint: Option<Hint<'a>>,
+) -> Known<'a>
+    ensures hint { result.hint ≡ hint.entry }
+    ensures changes { result.changes ≡ changes request.now }
+{
+    Known {
+        changes: request.changes(),
+        cause: cause_of(failure),
+        hint,
+    }
+}
+
+// Reports how a request ended, with what was found by asking again, or a word of the command line.
+fn end_of_request<E: Write>(
+    alloc: Global,
+    request: &StoreRequest<'_>,
+    asked: &AskedAgain,
+    failure: &Option<Failure>,
+    done: Result<(), Refusal>,
+    left_out: &[LeftOut],
+    audience: Audience,
+    errors: &mut E,
+) -> Ended
+    ensures ends { result.status ≡ status_of done (plain_left left_out.now) }
+    ensures silent { result.status ≡ Done → (errors.new ≡ errors.old) × IsTrue result.is_reported }
+    ensures lines { result.status ≡ PartlyDone → IsTrue result.is_reported
+        → Appends (E.contents errors.old) (E.contents errors.new) (left_out_text audience (plain_left left_out.now)) }
+    ensures line { (known : Known) × (known.changes ≡ changes request.now) × (hinted_of known.hint ≡ None)
+        × TellsRefusal (told audience known) result (E.contents errors.old) (E.contents errors.new) }
+{
+    let word = word_of(alloc, request, asked, &done);
+    let about = about_found(alloc, asked, word, &done).unwrap_or(String::new(alloc));
+    let known = known_of(request, failure, found_hint(asked, word, about.as_str()));
+    end_whole_or_partly(done, left_out, known, audience, errors)
+}
+
 // Serves a request of a store and reports how it ended. The hint is the part of the input or the table that the command itself hinted at, or else
 // what is found by asking again, or a word of the command line.
 fn serve_and_report<
-    F: Read + Write + Seek + OpenFile + LockFile + Drop,
+    F: Read + Write + Seek + OpenFile + LockFile + CachedFile + Drop,
     H: Files<File = F> + AllocGlobal,
     R: Read + Input,
     W: Write + Output,
@@ -164,7 +193,7 @@ fn serve_and_report<
     failures: &Failures,
     audience: Audience,
 ) -> Ended
-    ensures serves { ServesTold ⟦<FileDevice<F> as SectorDevice>⟧ IsOpenedFile R.remaining W.contents
+    ensures serves { ServesTold ⟦<FileDevice<SystemFile<F>> as SectorDevice>⟧ IsOpenedFile R.remaining W.contents
         (Replays ⟦<ModelDevice as SectorDevice>⟧ F.remaining ⟦<Empty as Read>⟧.remaining W.contents) E.contents
         (audience_after_output audience (W.unread output.new)) request.now
         (ends_of input.old output.old errors.old) (ends_of input.new output.new errors.new) result }
@@ -173,23 +202,27 @@ fn serve_and_report<
     let mut hinted = None;
     let mut left_out = Vec::new(rt.alloc());
     let done = serve(rt, request, input, output, &mut hinted, &mut left_out);
+    let failure = failures.take();
     let audience = audience_after_output(audience, output);
     let about = about_hinted(rt, request, &hinted, input.start(), &done, audience);
     match hint_of(&hinted, about.as_str()) {
-        Some(hint) => end_whole_or_partly(done, &left_out, Some(hint), audience, errors),
+        Some(hint) => {
+            let known = known_of(request, &failure, Some(hint));
+            end_whole_or_partly(done, &left_out, known, audience, errors)
+        }
         None => {
             let served = Served {
                 start: input.start(),
                 is_input_empty: input.is_empty(),
                 input_failure: input.failure(),
                 output_failure: output.failure(),
-                failures,
             };
-            let asked = ask_again(rt, request, served, &done, audience);
+            let asked = ask_again(rt, request, served, &failure, &done, audience);
             end_of_request(
                 rt.alloc(),
                 request,
                 &asked,
+                &failure,
                 done,
                 &left_out,
                 audience,
@@ -222,7 +255,7 @@ fn report_mistake<W: Write + Output, E: Write>(
 
 // Executes a command line of a store.
 fn run_on_store<
-    F: Read + Write + Seek + OpenFile + LockFile + Drop,
+    F: Read + Write + Seek + OpenFile + LockFile + CachedFile + Drop,
     H: Files<File = F> + AllocGlobal,
     S: AsStr,
     R: Read + Input,
@@ -238,7 +271,7 @@ fn run_on_store<
     audience: Audience,
 ) -> Ended
     requires { is_of_store (map S.text arguments.now) ≡ true }
-    ensures serves { RunsOnStore ⟦<FileDevice<F> as SectorDevice>⟧ IsOpenedFile R.remaining W.contents
+    ensures serves { RunsOnStore ⟦<FileDevice<SystemFile<F>> as SectorDevice>⟧ IsOpenedFile R.remaining W.contents
         (Replays ⟦<ModelDevice as SectorDevice>⟧ F.remaining ⟦<Empty as Read>⟧.remaining W.contents) E.contents
         (audience_after_output audience (W.unread output.new)) (map S.text arguments.now)
         (ends_of input.old output.old errors.old) (ends_of input.new output.new errors.new) result }
@@ -263,7 +296,7 @@ fn run_on_store<
 /// Executes the arguments, the first of which is the program's name, also on the files of stores, and reports on `errors` if that fails. At a
 /// terminal the report names the system call noted in `failures` that failed.
 pub fn run_with_files<
-    F: Read + Write + Seek + OpenFile + LockFile + Drop,
+    F: Read + Write + Seek + OpenFile + LockFile + CachedFile + Drop,
     H: Files<File = F> + AllocGlobal,
     S: AsStr,
     R: Read + Input,
@@ -294,7 +327,7 @@ pub fn run_with_files<
     // store was open, or what the words state was executed on one. If a word asks for help, that may be given instead, and wrong words are
     // reported; right ones are not.
     ensures serves { is_of_store (map S.text arguments.now) ≡ true
-        → RunsOnStore ⟦<FileDevice<F> as SectorDevice>⟧ IsOpenedFile R.remaining W.contents
+        → RunsOnStore ⟦<FileDevice<SystemFile<F>> as SectorDevice>⟧ IsOpenedFile R.remaining W.contents
         (Replays ⟦<ModelDevice as SectorDevice>⟧ F.remaining ⟦<Empty as Read>⟧.remaining W.contents) E.contents
         (audience_after_output audience (W.unread output.new)) (map S.text arguments.now)
         (ends_of input.old output.old errors.old) (ends_of input.new output.new errors.new) result }
@@ -303,11 +336,11 @@ pub fn run_with_files<
         ⊎ (is_of_store (map S.text arguments.now) ≡ true) ⊎ GivesSome (W.contents output.old) (W.contents output.new) }
     // `errors` gets the report of a refusal for this audience, the segments that are left out, and nothing on success; nor the failure of an output
     // whose reader is gone. Only commands of a store leave something out or have hints other than those that `run` may give.
-    ensures reports { (hint : Option Hint) × (left : List (ℕ × ℕ))
+    ensures reports { (known : Known) × (left : List (ℕ × ℕ))
         × ((is_of_store (map S.text arguments.now) ≡ true)
-        ⊎ ((left ≡ []) × IfRefused result.status (MayHint (map S.text arguments.now) hint)))
+        ⊎ ((left ≡ []) × (known ≡ unchanging known.hint) × IfRefused result.status (MayHint (map S.text arguments.now) known.hint)))
         × HasTold E.contents (audience_after_output audience (W.unread output.new)) (first_word (map S.text arguments.now)) left output.old output.new
-        errors.old errors.new result hint }
+        errors.old errors.new result known }
 {
     if is_of_store(arguments) {
         return run_on_store(rt, arguments, input, output, errors, failures, audience);

@@ -1,6 +1,6 @@
 // Measures a device that is a file: written and read sector by sector, and written by rows of sectors.
 use anyhow::{Context, Result, bail};
-use sector_dev::{DevError, FileDevice, FileError, SectorDevice};
+use sector_dev::{DevError, FileDevice, FileError, SectorDevice, SystemFile};
 use std::fs::{self, File};
 use std::io;
 use std::time::Instant;
@@ -73,7 +73,7 @@ fn device_of(
     path: &str,
     sectors: u64,
     step: Step,
-) -> Result<FileDevice<File>, FileError> {
+) -> Result<FileDevice<SystemFile<File>>, FileError> {
     match step {
         Step::Read => FileDevice::open(rt, path),
         Step::Write | Step::Rows => FileDevice::create(rt, path, sectors),
@@ -93,7 +93,7 @@ fn report(rt: &HostRuntime, step: Step, start: Instant) -> Result<()> {
 
 fn measure_on(
     rt: &HostRuntime,
-    device: FileDevice<File>,
+    device: FileDevice<SystemFile<File>>,
     step: Step,
     start: Instant,
 ) -> Result<()> {

@@ -1,6 +1,6 @@
 // Exports a table piece by piece: one segment is in memory at a time.
 use anyhow::{Result, bail};
-use sector_dev::{FileDevice, SectorDevice};
+use sector_dev::{FileDevice, SectorDevice, SystemFile};
 use std::alloc::Global;
 use std::fs::File;
 use std::io::Write;
@@ -36,5 +36,9 @@ fn write_table<D: SectorDevice + Drop>(rt: &HostRuntime, device: D, table: &str)
 
 /// Writes the stream of a table of the store in a file to standard output, piece by piece.
 pub fn write(rt: &HostRuntime, path: &str, table: &str) -> Result<()> {
-    write_table(rt, FileDevice::<File>::open_to_read(rt, path)?, table)
+    write_table(
+        rt,
+        FileDevice::<SystemFile<File>>::open_to_read(rt, path)?,
+        table,
+    )
 }

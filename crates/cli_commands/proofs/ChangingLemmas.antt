@@ -4,9 +4,10 @@ use Rattle.std.proofs.Common.{ap, sym, subst}
 use Rattle.tables.specs.declared.refusal.Refusal as tables
 use Rattle.cli_refusals.specs.declared.refusal.Refusal.{Refusal}
 use Rattle.cli_refusals.specs.declared.refusal.Refusal.TheVariants.{Io, Store}
+use Rattle.cli_refusals.specs.declared.refusal.Side.TheVariants.{Output}
 use Rattle.cli_commands.specs.Changing.{Follows}
 
-pub follows_write : (done : Unit {0}) (result : Result (Unit {0}) Refusal) → IfErr result (λ e. e ≡ Io) → Follows (Ok done) result
+pub follows_write : (done : Unit {0}) (result : Result (Unit {0}) Refusal) → IfErr result (λ e. e ≡ Io Output) → Follows (Ok done) result
 follows_write done (Ok unit) io = tt
 follows_write done (Err e) io = io
 

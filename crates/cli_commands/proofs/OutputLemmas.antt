@@ -5,23 +5,24 @@ use Rattle.arrow_schema.specs.Column.{PlainSchema}
 use Rattle.catalogue.specs.Entries.{PlainEntry}
 use Rattle.query.specs.declared.errors.QueryError.{QueryError}
 use Rattle.query.specs.declared.errors.QueryError.TheVariants as queries
-use Rattle.cli_refusals.specs.Output.{AppendsFront, IfIo}
+use Rattle.cli_refusals.specs.Output.{AppendsFront, IfOutput}
 use Rattle.cli_refusals.specs.Refusals.{query_refusal}
 use Rattle.cli_refusals.specs.declared.refusal.Refusal.{Refusal}
 use Rattle.cli_refusals.specs.declared.refusal.Refusal.TheVariants.{Io}
+use Rattle.cli_refusals.specs.declared.refusal.Side.TheVariants.{Output}
 use Rattle.cli_commands.specs.Printed.{schema_text}
 
-if_io : (P : Type 0) (e : Refusal) → P → IfIo P e
-if_io P Io p = p
+if_io : (P : Type 0) (e : Refusal) → P → IfOutput P e
+if_io P (Io Output) p = p
 if_io P _ p = tt
 
 -- what follows of each failed output
-pub if_failed : (P Q : Type 0) (r : Result (Unit {0}) Refusal) → (P → Q) → OnErr r P → IfErr r (IfIo Q)
+pub if_failed : (P Q : Type 0) (r : Result (Unit {0}) Refusal) → (P → Q) → OnErr r P → IfErr r (IfOutput Q)
 if_failed P Q (Ok done) f p = tt
 if_failed P Q (Err e) f p = if_io Q e (f p)
 
 -- a refused query is no failed output
-pub not_io : (P : Type 0) (e : QueryError) → IfIo P (query_refusal e)
+pub not_io : (P : Type 0) (e : QueryError) → IfOutput P (query_refusal e)
 not_io P queries.UnknownColumn = tt
 not_io P queries.BadCondition = tt
 not_io P queries.NotComparable = tt

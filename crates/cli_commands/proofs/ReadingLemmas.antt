@@ -24,6 +24,7 @@ use Rattle.cli_refusals.specs.declared.hint.Hinted.{Hinted}
 use Rattle.cli_refusals.specs.declared.hint.Hinted.TheVariants.{Part, Table}
 use Rattle.cli_refusals.specs.declared.refusal.Refusal.{Refusal}
 use Rattle.cli_refusals.specs.declared.refusal.Refusal.TheVariants.{Io, Store as StoreRefused}
+use Rattle.cli_refusals.specs.declared.refusal.Side.TheVariants.{Output}
 use Rattle.cli_commands.specs.Reading.{OfStore, refusal_ended, store_ended, IsReadable, FirstUnread, IsHintOf, HintsUnread, IfChecked}
 
 -- ---- lists
@@ -75,7 +76,7 @@ module _ {D : Type 0} {g : Ghosts D} (story : D → Story) where
   }
 
   -- what was read is written, or the output failed
-  pub read_and_written : (size failed : D → ℕ) (tells : Bool) (old new : Store D g) (r : Result (Unit {0}) Refusal) → IfErr r (λ e. e ≡ Io) → OnlyReadsStore size story failed tells done old new
+  pub read_and_written : (size failed : D → ℕ) (tells : Bool) (old new : Store D g) (r : Result (Unit {0}) Refusal) → IfErr r (λ e. e ≡ Io Output) → OnlyReadsStore size story failed tells done old new
       → OnlyReadsStore size story failed tells (store_ended r) old new
   read_and_written size failed tells old new (Ok unit) io reads = reads
   read_and_written size failed tells old new (Err e) io reads = subst (λ (x : Refusal). OnlyReadsStore size story failed tells (refusal_ended x) old new) (sym io) reads
@@ -148,7 +149,7 @@ check_hints None tells halted image c listed refusal on is hints = tt
 check_hints (Some hinted) tells halted image c listed refusal on is hints = (on, subst (λ l. HintsUnread (Some hinted) tells halted image c l refusal) is hints)
 
 -- where the output failed there was something to write
-pub output_failed : (P : tables.Refusal → Type 0) (there : Type 0) (r : Result (Unit {0}) Refusal) → IfErr r (λ e. e ≡ Io) → there → IfErr r (OfStore P there)
+pub output_failed : (P : tables.Refusal → Type 0) (there : Type 0) (r : Result (Unit {0}) Refusal) → IfErr r (λ e. e ≡ Io Output) → there → IfErr r (OfStore P there)
 output_failed P there (Ok unit) io h = tt
 output_failed P there (Err e) io h = subst (OfStore P there) (sym io) h
 

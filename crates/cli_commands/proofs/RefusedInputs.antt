@@ -5,9 +5,11 @@ use Rattle.catalogue.specs.Entries.{PlainEntry}
 use Rattle.text_import.specs.declared.form.TextForm.{TextForm}
 use Rattle.cli_refusals.specs.declared.refusal.Refusal.{Refusal}
 use Rattle.cli_refusals.specs.declared.refusal.Refusal.TheVariants.{TooManyBytes, Io, OutOfMemory}
+use Rattle.cli_refusals.specs.declared.refusal.Side.TheVariants.{Input}
 use Rattle.cli_commands.specs.declared.input.TheConstants.{LARGEST_INPUT}
 use Rattle.store.specs.Input.{HasGiven, HasGivenAtMost}
 use Rattle.cli_commands.specs.Given.{UnlessTooManyBytes, IsOfInput}
+use Rattle.cli_commands.specs.Recode.{IsTrueFault}
 use Rattle.cli_commands.specs.TextRows.{RefusesText}
 
 -- an input is not read for one of three reasons, and then no rows of a text are appended
@@ -15,6 +17,13 @@ pub refuses_rows : {R : Type 0} (A : Type 0) (remaining : R → Option (List ℕ
     → (IsErrOf {T = A} (Err e) TooManyBytes → HasGiven (remaining old) (remaining new) (LARGEST_INPUT + 1)) → UnlessTooManyBytes {A = A} (Err e) (HasGivenAtMost (remaining old) (remaining new) LARGEST_INPUT)
     → RefusesText remaining form halted found old new e
 refuses_rows A remaining form halted found old new TooManyBytes on there of many few = (on, there, many refl)
-refuses_rows A remaining form halted found old new Io on there of many few = (on, there, few)
+refuses_rows A remaining form halted found old new (Io Input) on there of many few = (on, there, few)
 refuses_rows A remaining form halted found old new OutOfMemory on there of many few = (on, there, few)
 refuses_rows A remaining form halted found old new _ on there of many few = absurd of
+
+-- nor is it the fault of an input that it is not read
+pub true_of_input : (e : Refusal) (input : Option (List ℕ)) → IsOfInput e → IsTrueFault e input
+true_of_input TooManyBytes input of = tt
+true_of_input (Io Input) input of = tt
+true_of_input OutOfMemory input of = tt
+true_of_input _ input of = absurd of

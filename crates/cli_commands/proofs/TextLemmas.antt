@@ -1,6 +1,6 @@
 -- What a text and a query give of the table that is found.
 use Rattle.std.proofs.Common.{◌≡◌, ◌∙◌, ◌<◌, ℕ, Bool, List, refl, ap, sym, subst}
-use Rattle.std.specs.Prelude.{Option, Some, None, IsSome, false, option_map, unwrap_or, Result, Ok, Err, OnOk, IfErr}
+use Rattle.std.specs.Prelude.{Option, Some, None, IsSome, false, option_map, unwrap_or, Result, Ok, Err, OnOk, IfErr, string_bytes}
 use Rattle.std.specs.List.{AllPass}
 use Rattle.std.specs.Io.KnownBytes.{Appends, IsAtEnd}
 use Rattle.sector_dev.specs.Disk.{Image}
@@ -17,13 +17,17 @@ use Rattle.tables.specs.declared.refusal.Refusal as tables
 use Rattle.store_runs.specs.Reading.{ReadsTable}
 use Rattle.cli_refusals.specs.declared.refusal.Refusal.{Refusal}
 use Rattle.cli_refusals.specs.declared.refusal.Refusal.TheVariants.{Io}
+use Rattle.cli_refusals.specs.declared.refusal.Side.TheVariants.{Output}
 use Rattle.text_import.specs.declared.form.TextForm.{TextForm}
 use Rattle.store.specs.Applying.{AreTooHeavy}
 use Rattle.store.specs.Input.{HasGivenAtMost}
 use Rattle.cli_commands.specs.Given.{IsWholeInput}
 use Rattle.cli_commands.specs.declared.input.TheConstants.{LARGEST_INPUT}
 use Rattle.text_import.specs.Form.{rows_of_text}
-use Rattle.text_import.specs.Part.{part_of, refused_part}
+use Rattle.text_import.specs.Part.{PlainPart, part_of, refused_part}
+use Rattle.text_import.specs.Place.{IsAtItsPlace}
+use Rattle.cli_refusals.specs.AboutPart.{about_part}
+use Rattle.cli_refusals.specs.declared.hint.HintedPart.{HintedPart}
 use Rattle.text_import.specs.Refusals.{refused_by}
 use Rattle.text_import.specs.declared.part.RefusedPart.{RefusedPart}
 use Rattle.cli_refusals.specs.declared.hint.Hinted.{Hinted}
@@ -57,33 +61,40 @@ input_refused form found input s bytes (texts.Refused refused) is whole gives = 
 input_refused form found input s bytes texts.OutOfMemory is whole gives = tt
 
 -- a part that a call gave is the one that is refused, and where nothing is hinted there is nothing to show
-pub hints_at : (form : TextForm) (s : PlainSchema) (bytes : List ℕ) (refused : Refused) (found : Option RefusedPart) (part : RefusedPart) → found ≡ Some part
-    → option_map part_of found ≡ refused_part form s bytes refused.number → HintsAt (Some (Part part)) form s bytes (Some refused)
-hints_at form s bytes refused None part is e = absurd cc
-hints_at form s bytes refused (Some found) part is e = sym e ∙ ap (option_map part_of) is
+pub hints_at : (form : TextForm) (s : PlainSchema) (bytes : List ℕ) (refused : Refused) (found : Option RefusedPart) (hinted : HintedPart) → found ≡ Some hinted.part
+    → option_map part_of found ≡ refused_part form s bytes refused.number → string_bytes hinted.about ≡ about_part s.columns (part_of hinted.part) refused.refusal
+    → HintsAt (Some (Part hinted)) form s bytes (Some refused)
+hints_at form s bytes refused None hinted is e says = absurd cc
+hints_at form s bytes refused (Some found) hinted is e says = (sym e ∙ ap (option_map part_of) is, says)
 
 pub no_hint : (hint : Option Hinted) (form : TextForm) (found : Option PlainEntry) (input : Option (List ℕ)) (result : Result (Unit {0}) Refusal) → hint ≡ None → IfHinted hint form found input result
 no_hint None form found input result e = tt
 no_hint (Some hinted) form found input result e = absurd cc
 
--- what is hinted of a text for the schema of the entry that is found
-pub input_hints : (form : TextForm) (found : Option PlainEntry) (input : Option (List ℕ)) (s : PlainSchema) (bytes : List ℕ) (error : TextError) (hint : Option Hinted)
+-- what is hinted of a text for the schema of the entry that is found; `law` says that the place of a part is where it is refused
+pub input_hints : ((form : TextForm) (s : PlainSchema) (bytes : List ℕ) (r : Refused) (part : PlainPart) → rows_of_text form s bytes ≡ Err r → refused_part form s bytes r.number ≡ Some part
+    → IsAtItsPlace form s.columns part r.refusal)
+    → (form : TextForm) (found : Option PlainEntry) (input : Option (List ℕ)) (s : PlainSchema) (bytes : List ℕ) (error : TextError) (hint : Option Hinted)
     → option_map (λ e. e.schema) found ≡ Some s → IsWholeInput input bytes → Reports (refused_by error) (rows_of_text form s bytes) → HintsAt hint form s bytes (refused_by error)
     → IfHinted hint form found input (Err (text_refusal error))
-input_hints form found input s bytes error None is whole gives hints = tt
-input_hints form None input s bytes error (Some hinted) is whole gives hints = absurd cc
-input_hints form (Some e) input s bytes texts.OutOfMemory (Some (Part part)) is whole gives hints = absurd hints
-input_hints form (Some e) input s bytes texts.OutOfMemory (Some (Table name)) is whole gives hints = absurd hints
-input_hints form (Some e) input s bytes (texts.Refused refused) (Some (Table name)) is whole gives hints = absurd hints
-input_hints form (Some e) input s bytes (texts.Refused refused) (Some (Part part)) is whole gives hints =
+input_hints law form found input s bytes error None is whole gives hints = tt
+input_hints law form None input s bytes error (Some hinted) is whole gives hints = absurd cc
+input_hints law form (Some e) input s bytes texts.OutOfMemory (Some (Part hinted)) is whole gives hints = absurd hints
+input_hints law form (Some e) input s bytes texts.OutOfMemory (Some (Table name)) is whole gives hints = absurd hints
+input_hints law form (Some e) input s bytes (texts.Refused refused) (Some (Table name)) is whole gives hints = absurd hints
+input_hints law form (Some e) input s bytes (texts.Refused refused) (Some (Part hinted)) is whole gives hints =
     let schema : e.schema ≡ s = ap (λ o. unwrap_or o s) is in
+    let refuses : rows_of_text form e.schema bytes ≡ Err refused = ap (λ t. rows_of_text form t bytes) schema ∙ gives in
+    let names : refused_part form e.schema bytes refused.number ≡ Some (part_of hinted.part) = ap (λ t. refused_part form t bytes refused.number) schema ∙ hints.0 in
     record {
       entry = e;
       is_there = refl;
       bytes = bytes;
       whole = whole;
-      refuses = ap (λ t. rows_of_text form t bytes) schema ∙ gives;
-      names = ap (λ t. refused_part form t bytes refused.number) schema ∙ hints;
+      refuses = refuses;
+      names = names;
+      there = law form e.schema bytes refused (part_of hinted.part) refuses names;
+      says = hints.1 ∙ ap (λ (t : PlainSchema). about_part t.columns (part_of hinted.part) refused.refusal) (sym schema);
     }
 
 -- rows that are too heavy for its schema are so for the entry that is found
@@ -125,7 +136,7 @@ lines_written form halted tells image found q table selected text old new (Err e
 
 -- where the output failed there is a selection
 pub selection_told : (form : RowForm) (halted tells : Bool) (image : Image) (found : Option PlainEntry) (q : PlainQuery) (table selected : PlainTable) (r : Result (Unit {0}) Refusal)
-    → IfErr r (λ e. e ≡ Io) → ReadsTable halted tells image found table → printed_selection form table q ≡ Ok selected → IfErr r (RefusesQuery form halted tells image found q)
+    → IfErr r (λ e. e ≡ Io Output) → ReadsTable halted tells image found table → printed_selection form table q ≡ Ok selected → IfErr r (RefusesQuery form halted tells image found q)
 selection_told form halted tells image found q table selected (Ok done) io reads answers = tt
 selection_told form halted tells image found q table selected (Err e) io reads answers =
     subst (RefusesQuery form halted tells image found q) (sym io) (selected, record { table = table; reads = reads; answers = answers })
@@ -141,6 +152,6 @@ schema_written (Some e) s text old new (Ok done) is lines appends =
 schema_written (Some e) s text old new (Err refusal) is lines appends = tt
 
 -- where the output failed there was something to print
-pub printing_failed : (P : tables.Refusal → Type 0) (there : Type 0) (r : Result (Unit {0}) Refusal) → IfErr r (λ e. e ≡ Io) → there → IfErr r (RefusesPrinting P there)
+pub printing_failed : (P : tables.Refusal → Type 0) (there : Type 0) (r : Result (Unit {0}) Refusal) → IfErr r (λ e. e ≡ Io Output) → there → IfErr r (RefusesPrinting P there)
 printing_failed P there (Ok done) io h = tt
 printing_failed P there (Err e) io h = subst (RefusesPrinting P there) (sym io) h

@@ -20,12 +20,13 @@ use Rattle.store.specs.Input.{ReadsFrom}
 use Rattle.store.specs.Listing.{RefusesSchema}
 use Rattle.cli_refusals.specs.declared.refusal.Refusal.{Refusal}
 use Rattle.cli_refusals.specs.declared.refusal.Refusal.TheVariants.{Io, Fields, Store, OutOfMemory}
+use Rattle.cli_refusals.specs.declared.refusal.Side.TheVariants.{Output}
 use Rattle.cli_commands.specs.Given.{RefusesInput}
 
 -- the program's answer follows the store's: what is done is reported as done, unless the output fails, and a refusal is the store's
 abbrev pub Follows : Result (Unit {0}) tables.Refusal → Result (Unit {0}) Refusal → Type 0
 Follows (Ok done) (Ok unit) = Unit {0}
-Follows (Ok done) (Err refusal) = refusal ≡ Io
+Follows (Ok done) (Err refusal) = refusal ≡ Io Output
 Follows (Err e) (Ok unit) = ⊥
 Follows (Err e) (Err refusal) = refusal ≡ Store e
 

@@ -4,13 +4,14 @@ use Rattle.store.specs.Input.{HasGiven, HasGivenAtMost}
 use Rattle.cli_commands.specs.declared.input.TheConstants.{LARGEST_INPUT}
 use Rattle.cli_refusals.specs.declared.refusal.Refusal.{Refusal}
 use Rattle.cli_refusals.specs.declared.refusal.Refusal.TheVariants.{Fault, TooManyBytes, Io, BadSize, BadScript, Fields, Text, Query, Opening, Store, OutOfMemory}
+use Rattle.cli_refusals.specs.declared.refusal.Side.TheVariants.{Input}
 
 -- P holds, unless the answer is the refusal of too many bytes
 abbrev pub UnlessTooManyBytes : {A : Type 0} → Result A Refusal → Type 0 → Type 0
 UnlessTooManyBytes (Ok x) P = P
 UnlessTooManyBytes (Err (Fault fault)) P = P
 UnlessTooManyBytes (Err TooManyBytes) P = Unit {0}
-UnlessTooManyBytes (Err Io) P = P
+UnlessTooManyBytes (Err (Io side)) P = P
 UnlessTooManyBytes (Err BadSize) P = P
 UnlessTooManyBytes (Err (BadScript line)) P = P
 UnlessTooManyBytes (Err (Fields error)) P = P
@@ -23,7 +24,7 @@ UnlessTooManyBytes (Err OutOfMemory) P = P
 -- why an input is not read: it is too long, a read failed, or memory was refused
 abbrev pub IsOfInput : Refusal → Type 0
 IsOfInput TooManyBytes = Unit {0}
-IsOfInput Io = Unit {0}
+IsOfInput (Io Input) = Unit {0}
 IsOfInput OutOfMemory = Unit {0}
 IsOfInput _ = ⊥
 
@@ -35,6 +36,6 @@ IsWholeInput input bytes = IfSome input (λ all. bytes ≡ all) × (length bytes
 -- refused
 abbrev pub RefusesInput : (old new : Option (List ℕ)) → Refusal → Type 0
 RefusesInput old new TooManyBytes = HasGiven old new (LARGEST_INPUT + 1)
-RefusesInput old new Io = HasGivenAtMost old new LARGEST_INPUT
+RefusesInput old new (Io Input) = HasGivenAtMost old new LARGEST_INPUT
 RefusesInput old new OutOfMemory = HasGivenAtMost old new LARGEST_INPUT
 RefusesInput old new _ = ⊥

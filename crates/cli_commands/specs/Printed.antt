@@ -9,6 +9,7 @@ use Rattle.store.specs.declared.summary.Summary.{Summary}
 use Rattle.tables.specs.declared.refusal.Refusal as tables
 use Rattle.cli_refusals.specs.declared.refusal.Refusal.{Refusal}
 use Rattle.cli_refusals.specs.declared.refusal.Refusal.TheVariants.{Io, Store, OutOfMemory}
+use Rattle.cli_refusals.specs.declared.refusal.Side.TheVariants.{Output}
 
 -- a line for each table: its name and its number of rows
 abbrev pub tables_text : List (List ℕ × ℕ) → List ℕ
@@ -55,7 +56,7 @@ summary_text as_json s agree = if as_json then summary_object s agree else summa
 -- failed
 abbrev pub RefusesPrinting : (tables.Refusal → Type 0) → (there : Type 0) → Refusal → Type 0
 RefusesPrinting P there (Store r) = P r
-RefusesPrinting P there Io = there
+RefusesPrinting P there (Io Output) = there
 RefusesPrinting P there OutOfMemory = there
 RefusesPrinting P there _ = ⊥
 

@@ -13,11 +13,12 @@ use Rattle.cli_refusals.specs.declared.hint.Hinted.{Hinted}
 use Rattle.cli_refusals.specs.declared.hint.Hinted.TheVariants.{Table}
 use Rattle.cli_refusals.specs.declared.refusal.Refusal.{Refusal}
 use Rattle.cli_refusals.specs.declared.refusal.Refusal.TheVariants.{Io, Store}
+use Rattle.cli_refusals.specs.declared.refusal.Side.TheVariants.{Output}
 
 -- the store refuses, and P holds of its refusal; or the output failed, and `there` holds of what was to be written
 abbrev pub OfStore : (tables.Refusal → Type 0) → (there : Type 0) → Refusal → Type 0
 OfStore P there (Store r) = P r
-OfStore P there Io = there
+OfStore P there (Io Output) = there
 OfStore P there _ = ⊥
 
 -- how the store's own calls ended if the program answers so

@@ -7,13 +7,14 @@ use Rattle.ipc_stream.specs.Meaning.{meaning}
 use Rattle.ipc_canonical.specs.Canonical.{canonical}
 use Rattle.cli_refusals.specs.declared.refusal.Refusal.{Refusal}
 use Rattle.cli_refusals.specs.declared.refusal.Refusal.TheVariants.{Fault, TooManyBytes, Io, BadSize, BadScript, Fields, Text, Query, Opening, Store, OutOfMemory}
+use Rattle.cli_refusals.specs.declared.refusal.Side.TheVariants.{Input, Output}
 
 -- the answer is about the whole input: it has a meaning, or a fault
 abbrev pub IsVerdict : {A : Type 0} → Result A Refusal → Type 0
 IsVerdict (Ok x) = Unit {0}
 IsVerdict (Err (Fault fault)) = Unit {0}
 IsVerdict (Err TooManyBytes) = ⊥
-IsVerdict (Err Io) = ⊥
+IsVerdict (Err (Io side)) = ⊥
 IsVerdict (Err BadSize) = ⊥
 IsVerdict (Err (BadScript line)) = ⊥
 IsVerdict (Err (Fields error)) = ⊥
@@ -32,6 +33,7 @@ AppendsCanonical old new input = (table : PlainTable) × (meaning supported_code
 abbrev pub IsTrueFault : Refusal → Option (List ℕ) → Type 0
 IsTrueFault (Fault fault) input = IfSome input (λ bytes. meaning supported_codes bytes ≡ Err fault)
 IsTrueFault TooManyBytes input = Unit {0}
-IsTrueFault Io input = Unit {0}
+IsTrueFault (Io Input) input = Unit {0}
+IsTrueFault (Io Output) input = Unit {0}
 IsTrueFault OutOfMemory input = Unit {0}
 IsTrueFault _ input = ⊥

@@ -2,9 +2,10 @@
 use Rattle.store.specs.Salvaging.{BreaksOff}
 use Rattle.cli_refusals.specs.declared.refusal.Refusal.{Refusal}
 use Rattle.cli_refusals.specs.declared.refusal.Refusal.TheVariants.{Io, Store}
+use Rattle.cli_refusals.specs.declared.refusal.Side.TheVariants.{Output}
 
 -- a salvage was broken off: a write or the device failed, or memory was refused; part of its stream may be written
 abbrev pub IsBrokenOff : Refusal → Type 0
-IsBrokenOff Io = Unit {0}
+IsBrokenOff (Io Output) = Unit {0}
 IsBrokenOff (Store r) = BreaksOff r
 IsBrokenOff _ = ⊥

@@ -15,6 +15,7 @@ use Rattle.tables.specs.declared.refusal.QueryRefusal.TheVariants.{UnknownColumn
 use Rattle.store_runs.specs.Reading.{ReadsTable, RefusesRead}
 use Rattle.cli_refusals.specs.declared.refusal.Refusal.{Refusal}
 use Rattle.cli_refusals.specs.declared.refusal.Refusal.TheVariants.{Io, Query, Store, OutOfMemory}
+use Rattle.cli_refusals.specs.declared.refusal.Side.TheVariants.{Output}
 
 -- the names between the commas of a word: an empty word is one empty name; without the word all columns are asked for
 abbrev pub named_columns : Option (List ℕ) → List (List ℕ)
@@ -50,6 +51,6 @@ plain_reason NotComparable = query.not_comparable
 abbrev pub RefusesQuery : RowForm → (halted tells : Bool) → Image → Option PlainEntry → PlainQuery → Refusal → Type 0
 RefusesQuery form halted tells image found q (Store refusal) = RefusesRead halted tells image found refusal
 RefusesQuery form halted tells image found q (Query refusal) = QueryAnswers form halted tells image found q (Err (plain_reason refusal))
-RefusesQuery form halted tells image found q Io = (selected : PlainTable) × QueryAnswers form halted tells image found q (Ok selected)
+RefusesQuery form halted tells image found q (Io Output) = (selected : PlainTable) × QueryAnswers form halted tells image found q (Ok selected)
 RefusesQuery form halted tells image found q OutOfMemory = (table : PlainTable) × ReadsTable halted tells image found table
 RefusesQuery form halted tells image found q _ = ⊥

@@ -1,13 +1,15 @@
 -- Rows of an input that is a text, for a table of a store.
-use Rattle.std.specs.Prelude.{◌≡◌, ◌⊎◌, ℕ, Bool, false, List, Option, None, Some, Result, Ok, Err, IsErrAnd}
+use Rattle.std.specs.Prelude.{◌≡◌, ◌⊎◌, ℕ, Bool, false, List, Option, None, Some, Result, Ok, Err, IsErrAnd, string_bytes}
 use Rattle.std.specs.Io.KnownBytes.{IsAtEnd}
 use Rattle.cells.specs.Cell.{Cell}
 use Rattle.catalogue.specs.Entries.{PlainEntry}
 use Rattle.text_import.specs.declared.refusal.Refused.{Refused}
 use Rattle.text_import.specs.Form.{rows_of_text}
 use Rattle.text_import.specs.Part.{PlainPart, part_of, refused_part}
+use Rattle.text_import.specs.Place.{IsAtItsPlace}
 use Rattle.arrow_schema.specs.Column.{PlainSchema}
 use Rattle.tables.specs.declared.refusal.Refusal as tables
+use Rattle.cli_refusals.specs.AboutPart.{about_part}
 use Rattle.cli_refusals.specs.declared.hint.Hinted.{Hinted}
 use Rattle.cli_refusals.specs.declared.hint.Hinted.TheVariants.{Part}
 use Rattle.cli_refusals.specs.declared.refusal.Refusal.{Refusal}
@@ -43,23 +45,27 @@ abbrev pub IfOfText : TextForm → Option PlainEntry → Option (List ℕ) → R
 IfOfText form found input (Text refused) = InputGives form found input (Err refused)
 IfOfText form found input _ = Unit {0}
 
--- the hint at a refused text: the part of it that is refused, or none
+-- the hint at a refused text: the part of it that is refused, with what is said of the field at its place; or none
 abbrev pub HintsAt : Option Hinted → TextForm → PlainSchema → List ℕ → Option Refused → Type 0
 HintsAt None form schema bytes refused = Unit {0}
-HintsAt (Some (Part part)) form schema bytes (Some refused) = refused_part form schema bytes refused.number ≡ Some (part_of part)
+HintsAt (Some (Part hinted)) form schema bytes (Some refused) = (refused_part form schema bytes refused.number ≡ Some (part_of hinted.part))
+    × (string_bytes hinted.about ≡ about_part schema.columns (part_of hinted.part) refused.refusal)
 HintsAt (Some hinted) form schema bytes _ = ⊥
 
--- the whole input, as a text for the schema of the table that was found, is refused, and this is the refused part
-pub record HintsPart (part : PlainPart) (form : TextForm) (found : Option PlainEntry) (input : Option (List ℕ)) (refused : Refused) : Type 0 where
+-- the whole input, as a text for the schema of the table that was found, is refused; this is the refused part, and the place that it names is the place
+-- where it is; and this is said of the field at that place
+pub record HintsPart (part : PlainPart) (about : List ℕ) (form : TextForm) (found : Option PlainEntry) (input : Option (List ℕ)) (refused : Refused) : Type 0 where
   pub entry : PlainEntry
   pub is_there : found ≡ Some entry
   pub bytes : List ℕ
   pub whole : IsWholeInput input bytes
   pub refuses : rows_of_text form entry.schema bytes ≡ Err refused
   pub names : refused_part form entry.schema bytes refused.number ≡ Some part
+  pub there : IsAtItsPlace form entry.schema.columns part refused.refusal
+  pub says : about ≡ about_part entry.schema.columns part refused.refusal
 
 -- only a refused text has a hint
 abbrev pub IfHinted : Option Hinted → TextForm → Option PlainEntry → Option (List ℕ) → Result (Unit {0}) Refusal → Type 0
 IfHinted None form found input result = Unit {0}
-IfHinted (Some (Part part)) form found input (Err (Text refused)) = HintsPart (part_of part) form found input refused
+IfHinted (Some (Part hinted)) form found input (Err (Text refused)) = HintsPart (part_of hinted.part) (string_bytes hinted.about) form found input refused
 IfHinted (Some hinted) form found input _ = ⊥

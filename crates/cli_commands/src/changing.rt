@@ -14,7 +14,7 @@ ghost use Rattle.store_runs.specs.Machine.{Machine};
 ghost use Rattle.store_runs.specs.Reading.{ended};
 ghost use Rattle.cli_commands.specs.Changing.{Answered, AnswersCommand, AnswersInput};
 
-use cli_refusals::{Refusal, write_whole};
+use cli_refusals::{Refusal, Side, write_whole};
 use sector_dev::SectorDevice;
 use std::alloc::Global;
 use std::io::{Read, Write};
@@ -38,7 +38,7 @@ pub fn apply_command<D: SectorDevice, W: Write>(
     // On every store and every device: the store was given the command, and its answer is reported.
     ensures told { Answered (λ answer. AnswersCommand D.size D.story D.failed D.tells (command_of command) answer store.old store.new) result }
     ensures written { OnOk result (Appends (W.contents output.old) (W.contents output.new) (codes "ok\n")) }
-    ensures silent { IfErr result (λ refusal. refusal ≢ Refusal.Io → output.new ≡ output.old) }
+    ensures silent { IfErr result (λ refusal. refusal ≢ Refusal.Io Side.Output → output.new ≡ output.old) }
 {
     store.apply(alloc, command)?;
     write_whole(output, b"ok\n")
@@ -62,7 +62,7 @@ pub fn import_input<D: SectorDevice, R: Read, W: Write>(
     ensures told { Answered (λ answer. AnswersInput D.size D.story D.failed D.tells R.remaining (import_stream name.now) (is_name name.now) BadName
         input.old input.new answer store.old store.new) result }
     ensures written { OnOk result (Appends (W.contents output.old) (W.contents output.new) (codes "ok\n")) }
-    ensures silent { IfErr result (λ refusal. refusal ≢ Refusal.Io → output.new ≡ output.old) }
+    ensures silent { IfErr result (λ refusal. refusal ≢ Refusal.Io Side.Output → output.new ≡ output.old) }
 {
     store.import_from(alloc, name, input)?;
     write_whole(output, b"ok\n")
@@ -85,7 +85,7 @@ pub fn append_input<D: SectorDevice, R: Read, W: Write>(
     ensures told { Answered (λ answer. AnswersInput D.size D.story D.failed D.tells R.remaining (append_stream name.now)
         (has_entry (listed_in store.old) name.now) NoTable input.old input.new answer store.old store.new) result }
     ensures written { OnOk result (Appends (W.contents output.old) (W.contents output.new) (codes "ok\n")) }
-    ensures silent { IfErr result (λ refusal. refusal ≢ Refusal.Io → output.new ≡ output.old) }
+    ensures silent { IfErr result (λ refusal. refusal ≢ Refusal.Io Side.Output → output.new ≡ output.old) }
 {
     store.append_from(alloc, name, input)?;
     write_whole(output, b"ok\n")

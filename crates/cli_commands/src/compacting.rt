@@ -4,7 +4,7 @@ ghost use Rattle.std.specs.Io.KnownBytes.{Appends};
 ghost use Rattle.store_runs.specs.declared.compacting.Compaction as steps;
 ghost use Rattle.cli_commands.specs.Compacting.{Compacted, Compacts, steps_text};
 
-use cli_refusals::Refusal;
+use cli_refusals::{Refusal, Side};
 use sector_dev::SectorDevice;
 use std::alloc::Global;
 use std::io::Write;
@@ -30,10 +30,10 @@ fn take_steps<D: SectorDevice>(alloc: Global, store: &mut Store<D>) -> Result<u6
 // Takes no memory, so that the work is reported even when memory is out.
 fn write_steps<W: Write>(output: &mut W, count: u64) -> Result<(), Refusal>
     ensures written { OnOk result (Appends (W.contents output.old) (W.contents output.new) (steps_text count)) }
-    ensures io { IfErr result (λ e. e ≡ Refusal.Io) }
+    ensures io { IfErr result (λ e. e ≡ Refusal.Io Side.Output) }
 {
-    write!(output, "steps {count}\n").map_err(|_| Refusal::Io)?;
-    output.flush().map_err(|_| Refusal::Io)
+    write!(output, "steps {count}\n").map_err(|_| Refusal::Io(Side::Output))?;
+    output.flush().map_err(|_| Refusal::Io(Side::Output))
 }
 
 /// Joins neighbouring segments that can be one and moves the last ones forward, step by step until there is nothing left to do, and writes `steps`
@@ -50,7 +50,7 @@ pub fn compact_tables<D: SectorDevice, W: Write>(
 ) -> Result<(), Refusal>
     // Each step did something and shrank the catalogue, up to one with nothing to do or one that the store refused. No table changes.
     ensures compacts { Compacts W.contents store.old store.new output.old output.new result }
-    ensures silent { IfErr result (λ refusal. refusal ≢ Refusal.Io → output.new ≡ output.old) }
+    ensures silent { IfErr result (λ refusal. refusal ≢ Refusal.Io Side.Output → output.new ≡ output.old) }
 {
     let count = take_steps(alloc, store)?;
     write_steps(output, count)

@@ -4,7 +4,7 @@ ghost use Rattle.std.specs.Io.KnownBytes.{IsAtEnd};
 ghost use Rattle.store.specs.Input.{HasGiven, HasGivenAtMost};
 ghost use Rattle.cli_commands.specs.Given.{UnlessTooManyBytes, IsOfInput};
 
-use cli_refusals::Refusal;
+use cli_refusals::{Refusal, Side};
 use std::alloc::Global;
 use std::io::Read;
 use store::read_at_most;
@@ -28,6 +28,6 @@ pub(crate) fn read_input<R: Read>(alloc: Global, reader: &mut R) -> Result<Vec<u
         Ok(bytes) => Ok(bytes),
         Err(tables::Refusal::TooMany(Limit::Bytes)) => Err(Refusal::TooManyBytes),
         Err(tables::Refusal::OutOfMemory) => Err(Refusal::OutOfMemory),
-        Err(_) => Err(Refusal::Io),
+        Err(_) => Err(Refusal::Io(Side::Input)),
     }
 }

@@ -4,13 +4,13 @@ ghost use Rattle.std.specs.Io.KnownBytes.{Appends};
 ghost use Rattle.arrow_schema.specs.Column.{Column};
 ghost use Rattle.arrow_schema.specs.View.{column_of, schema_of};
 ghost use Rattle.catalogue.specs.Edits.{entry_of, tables_of};
-ghost use Rattle.cli_refusals.specs.Output.{AppendsFront, IfIo};
+ghost use Rattle.cli_refusals.specs.Output.{AppendsFront, IfOutput};
 ghost use Rattle.store.specs.Fits.{listed_in, is_halted};
 ghost use Rattle.store.specs.Listing.{RefusesTables, RefusesSchema};
 ghost use Rattle.cli_commands.specs.Printed.{numbered, tables_text, schema_text, RefusesPrinting};
 
 use arrow_schema::Field;
-use cli_refusals::{Refusal, write_whole};
+use cli_refusals::{Refusal, Side, write_whole};
 use field_texts::field_text;
 use sector_dev::SectorDevice;
 use std::alloc::{AllocError, Global};
@@ -65,8 +65,8 @@ pub fn print_tables<D: SectorDevice, W: Write>(
     ensures written { OnOk result (Appends (W.contents output.old) (W.contents output.new) (tables_text (tables_of (listed_in store.now)))) }
     ensures told { IfErr result (RefusesPrinting (RefusesTables (is_halted store.now)) (is_halted store.now ≡ false)) }
     // A refusal prints nothing, unless a write failed; then what is printed is a front of these lines.
-    ensures silent { IfErr result (λ refusal. refusal ≢ Refusal.Io → output.new ≡ output.old) }
-    ensures front { IfErr result (IfIo (AppendsFront (W.contents output.old) (W.contents output.new) (tables_text (tables_of (listed_in store.now))))) }
+    ensures silent { IfErr result (λ refusal. refusal ≢ Refusal.Io Side.Output → output.new ≡ output.old) }
+    ensures front { IfErr result (IfOutput (AppendsFront (W.contents output.old) (W.contents output.new) (tables_text (tables_of (listed_in store.now))))) }
 {
     let tables = store.tables(alloc)?;
     let text = lines_of_tables(alloc, &tables)?;
@@ -88,8 +88,8 @@ pub fn print_schema<D: SectorDevice, W: Write>(
         × Appends (W.contents output.old) (W.contents output.new) (schema_text e.schema.columns)) }
     ensures told { IfErr result (RefusesPrinting (RefusesSchema (is_halted store.now) (entry_of (listed_in store.now) name.now))
         ((is_halted store.now ≡ false) × IsSome (entry_of (listed_in store.now) name.now))) }
-    ensures silent { IfErr result (λ refusal. refusal ≢ Refusal.Io → output.new ≡ output.old) }
-    ensures front { IfErr result (IfIo ((e : _) × (entry_of (listed_in store.now) name.now ≡ Some e)
+    ensures silent { IfErr result (λ refusal. refusal ≢ Refusal.Io Side.Output → output.new ≡ output.old) }
+    ensures front { IfErr result (IfOutput ((e : _) × (entry_of (listed_in store.now) name.now ≡ Some e)
         × AppendsFront (W.contents output.old) (W.contents output.new) (schema_text e.schema.columns))) }
 {
     let schema = store.schema(alloc, name)?;

@@ -11,7 +11,7 @@ ghost use Rattle.store_runs.specs.Reading.{ReadsTable, RefusesRead, ended};
 ghost use Rattle.store.specs.Reading.{OnlyReadsStore};
 ghost use Rattle.cli_commands.specs.Reading.{OfStore, store_ended, IsReadable, FirstUnread, RefusesCheck, IsHintOf, HintsUnread, IfChecked};
 
-use cli_refusals::{Hinted, Refusal, write_whole};
+use cli_refusals::{Hinted, Refusal, Side, write_whole};
 use sector_dev::SectorDevice;
 use std::alloc::Global;
 use std::io::Write;
@@ -36,11 +36,11 @@ pub fn export_table<D: SectorDevice, W: Write>(
     // The store is only read.
     ensures reads { OnlyReadsStore D.size D.story D.failed D.tells (store_ended result) store.old store.new }
     // A refusal writes nothing, unless a write failed.
-    ensures silent { IfErr result (λ refusal. refusal ≢ Refusal.Io → output.new ≡ output.old) }
+    ensures silent { IfErr result (λ refusal. refusal ≢ Refusal.Io Side.Output → output.new ≡ output.old) }
 {
     match store.export(alloc, name, output) {
         Ok(()) => Ok(()),
-        Err(tables::Refusal::Write) => Err(Refusal::Io),
+        Err(tables::Refusal::Write) => Err(Refusal::Io(Side::Output)),
         Err(refusal) => Err(Refusal::Store(refusal)),
     }
 }
@@ -111,7 +111,7 @@ pub fn check_tables<D: SectorDevice, W: Write>(
     ensures hint { IfChecked hint.new D.tells (is_halted store.old) (shown_image (now (D.story (device_of store.old)))) (listed_in store.old) result }
     // The store is only read.
     ensures reads { OnlyReadsStore D.size D.story D.failed D.tells (store_ended result) store.old store.new }
-    ensures silent { IfErr result (λ refusal. refusal ≢ Refusal.Io → output.new ≡ output.old) }
+    ensures silent { IfErr result (λ refusal. refusal ≢ Refusal.Io Side.Output → output.new ≡ output.old) }
 {
     *hint = None;
     let tables = store.tables(alloc)?;

@@ -8,7 +8,7 @@ ghost use Rattle.store.specs.Salvaging.{SalvagesAt, RefusesSalvage, plain_left};
 ghost use Rattle.cli_commands.specs.Reading.{OfStore, store_ended};
 ghost use Rattle.cli_commands.specs.Salvaging.{IsBrokenOff};
 
-use cli_refusals::Refusal;
+use cli_refusals::{Refusal, Side};
 use sector_dev::SectorDevice;
 use std::alloc::Global;
 use std::io::Write;
@@ -38,7 +38,7 @@ pub fn salvage_table<D: SectorDevice, W: Write>(
 {
     match store.salvage(alloc, name, output) {
         Ok(left_out) => Ok(left_out),
-        Err(tables::Refusal::Write) => Err(Refusal::Io),
+        Err(tables::Refusal::Write) => Err(Refusal::Io(Side::Output)),
         Err(refusal) => Err(Refusal::Store(refusal)),
     }
 }

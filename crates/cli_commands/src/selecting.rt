@@ -7,13 +7,13 @@ ghost use Rattle.catalogue.specs.Edits.{entry_of};
 ghost use Rattle.cells.specs.Cell.{PlainTable};
 ghost use Rattle.query.specs.Printed.{rows_text};
 ghost use Rattle.query.specs.View.{query_in, condition_in};
-ghost use Rattle.cli_refusals.specs.Output.{AppendsFront, IfIo};
+ghost use Rattle.cli_refusals.specs.Output.{AppendsFront, IfOutput};
 ghost use Rattle.store.specs.Fits.{device_of, is_halted, listed_in};
 ghost use Rattle.store.specs.Reading.{OnlyReadsStore};
 ghost use Rattle.cli_commands.specs.Reading.{store_ended};
 ghost use Rattle.cli_commands.specs.Selecting.{named_columns, conditions_of, stated_query, RefusesWords, QueryAnswers, RefusesQuery};
 
-use cli_refusals::{Refusal, write_whole};
+use cli_refusals::{Refusal, Side, write_whole};
 use query::{Condition, Query, RowForm};
 use sector_dev::SectorDevice;
 use std::alloc::{AllocError, Global};
@@ -102,8 +102,8 @@ pub fn print_selection<D: SectorDevice, W: Write>(
     // The store is only read.
     ensures reads { OnlyReadsStore D.size D.story D.failed D.tells (store_ended result) store.old store.new }
     // A refusal writes nothing, unless a write failed; then what is written is a front of these lines.
-    ensures silent { IfErr result (λ refusal. refusal ≢ Refusal.Io → output.new ≡ output.old) }
-    ensures front { IfErr result (IfIo ((selected : PlainTable) × QueryAnswers form (is_halted store.old) D.tells
+    ensures silent { IfErr result (λ refusal. refusal ≢ Refusal.Io Side.Output → output.new ≡ output.old) }
+    ensures front { IfErr result (IfOutput ((selected : PlainTable) × QueryAnswers form (is_halted store.old) D.tells
         (shown_image (now (D.story (device_of store.old)))) (entry_of (listed_in store.old) name.now) (query_in query.now) (Ok selected)
         × AppendsFront (W.contents output.old) (W.contents output.new) (rows_text form selected))) }
 {

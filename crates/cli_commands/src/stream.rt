@@ -10,7 +10,7 @@ ghost use Rattle.cli_commands.specs.Recode.{IsVerdict, AppendsCanonical, IsTrueF
 
 use crate::LARGEST_INPUT;
 use crate::input::read_input;
-use cli_refusals::Refusal;
+use cli_refusals::{Refusal, Side};
 use ipc_encode::{WriteError, encode_to};
 use ipc_stream::decode;
 use std::alloc::Global;
@@ -21,8 +21,8 @@ use values::Table;
 ///
 /// # Errors
 /// `TooManyBytes` if the input has more than `LARGEST_INPUT` bytes, and `Fault` if the stream has no meaning: nothing is written. `OutOfMemory`
-/// only if memory was refused, before anything is written and before the first byte too many is read. `Io` if a read or a write fails: some bytes
-/// may be written, but none for an input without a meaning.
+/// only if memory was refused, before anything is written and before the first byte too many is read. `Io` of the input or of the output if that fails:
+/// some bytes may be written, but none for an input without a meaning.
 pub fn recode<R: Read, W: Write>(
     alloc: Global,
     reader: &mut R,
@@ -43,13 +43,13 @@ pub fn recode<R: Read, W: Write>(
     // For an input that has no meaning or too many bytes nothing is written, whatever fails.
     ensures meaningless { IfSome (R.remaining reader.old) (λ input. IsErr (meaning supported_codes input) → writer.new ≡ writer.old) }
     ensures too_long { IfSome (R.remaining reader.old) (λ input. LARGEST_INPUT < length input → writer.new ≡ writer.old) }
-    // A refusal writes nothing, unless a read or a write failed.
-    ensures silent { IfErr result (λ refusal. refusal ≢ Refusal.Io → writer.new ≡ writer.old) }
+    // A refusal writes nothing, unless a write failed.
+    ensures silent { IfErr result (λ refusal. refusal ≢ Refusal.Io Side.Output → writer.new ≡ writer.old) }
 {
     let table = read_table(alloc, reader)?;
     match encode_to(alloc, &table, writer) {
         Ok(()) => Ok(()),
-        Err(WriteError::Io) => Err(Refusal::Io),
+        Err(WriteError::Io) => Err(Refusal::Io(Side::Output)),
         Err(WriteError::OutOfMemory) => Err(Refusal::OutOfMemory),
     }
 }

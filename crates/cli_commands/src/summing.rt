@@ -2,7 +2,7 @@
 ghost use Rattle.std.specs.Prelude.{◌≡◌, ◌≢◌, map, string_bytes, false, IfOk, IfErr, OnOk};
 ghost use Rattle.std.specs.Io.KnownBytes.{Appends};
 ghost use Rattle.sector_dev.specs.Disk.{now, shown_image};
-ghost use Rattle.cli_refusals.specs.Output.{AppendsFront, IfIo};
+ghost use Rattle.cli_refusals.specs.Output.{AppendsFront, IfOutput};
 ghost use Rattle.store.specs.Fits.{device_of, is_halted};
 ghost use Rattle.store.specs.Agreeing.{SaysAgreement};
 ghost use Rattle.store.specs.Reading.{OnlyReadsStore};
@@ -10,7 +10,7 @@ ghost use Rattle.store.specs.Summary.{IsSummary};
 ghost use Rattle.cli_commands.specs.Printed.{summary_numbers, summary_lines, summary_object, summary_text, RefusesPrinting, RefusesSummary};
 ghost use Rattle.cli_commands.specs.Reading.{store_ended};
 
-use cli_refusals::{Refusal, write_whole};
+use cli_refusals::{Refusal, Side, write_whole};
 use sector_dev::SectorDevice;
 use std::alloc::{AllocError, Global};
 use std::fmt::Write as _;
@@ -87,8 +87,8 @@ pub fn print_summary<D: SectorDevice, W: Write>(
     // The store is only read.
     ensures reads { OnlyReadsStore D.size D.story D.failed D.tells (store_ended result) store.old store.new }
     // A refusal prints nothing, unless a write failed; then what is printed is a front of such a summary.
-    ensures silent { IfErr result (λ refusal. refusal ≢ Refusal.Io → output.new ≡ output.old) }
-    ensures front { IfErr result (IfIo ((s : _) × (agree : _) × IsSummary (D.size (device_of store.old)) store.old s
+    ensures silent { IfErr result (λ refusal. refusal ≢ Refusal.Io Side.Output → output.new ≡ output.old) }
+    ensures front { IfErr result (IfOutput ((s : _) × (agree : _) × IsSummary (D.size (device_of store.old)) store.old s
         × SaysAgreement (is_halted store.old) D.tells (shown_image (now (D.story (device_of store.old)))) agree
         × AppendsFront (W.contents output.old) (W.contents output.new) (summary_text as_json s agree))) }
 {

@@ -24,20 +24,40 @@ ghost use Rattle.cli_commands.specs.inner.TextRows.{AppendsRows};
 use crate::apply_command;
 use crate::input::read_input;
 use arrow_schema::Schema;
-use cli_refusals::{Hinted, Refusal};
+use cli_refusals::{Hinted, HintedPart, Refusal, Side, about_part};
 use sector_dev::SectorDevice;
-use std::alloc::Global;
+use std::alloc::{AllocError, Global};
 use std::io::{Read, Write};
 use store::Store;
 use tables::Command;
 use text_columns::{csv_table, jsonl_table};
 use text_import::{
-    TextError, TextForm, are_too_heavy, refused_part, rows_of_text, rows_of_texts_are_rows,
+    Refused, TextError, TextForm, are_too_heavy, refused_part, refused_parts_are_causes,
+    rows_of_text, rows_of_texts_are_rows,
 };
 use values::WeighedTable;
 
-// Returns the part of a refused text that is refused, or `None` if memory for it is refused.
+// Returns the part of a text with this refusal that is refused, and what is said of its field, or `None` if there is none.
 #[tactic(auto, using(crate::proofs::TextLemmas::hints_at))]
+fn hinted_part(
+    alloc: Global,
+    form: &TextForm<'_>,
+    schema: &Schema,
+    text: &[u8],
+    refused: &Refused,
+) -> Result<Option<Hinted>, AllocError>
+    ensures { IfOk result (λ hint. HintsAt hint form.now (schema_of schema.now) text.now (Some refused.now)) }
+{
+    match refused_part(alloc, form, schema, text, refused.number)? {
+        Some(part) => {
+            let about = about_part(alloc, schema, &part, refused.refusal)?;
+            Ok(Some(Hinted::Part(HintedPart { part, about })))
+        }
+        None => Ok(None),
+    }
+}
+
+// Returns the part of a refused text that is refused, or `None` if memory for it is refused.
 fn refused_in(
     alloc: Global,
     form: &TextForm<'_>,
@@ -48,15 +68,9 @@ fn refused_in(
     ensures { HintsAt result form.now (schema_of schema.now) text.now (refused_by error.now) }
 {
     match error {
-        TextError::Refused(refused) => match refused_part(
-            alloc,
-            form,
-            schema,
-            text,
-            refused.number,
-        ) {
-            Ok(Some(part)) => Some(Hinted::Part(part)),
-            Ok(None) | Err(_) => None,
+        TextError::Refused(refused) => match hinted_part(alloc, form, schema, text, refused) {
+            Ok(hint) => hint,
+            Err(_) => None,
         },
         TextError::OutOfMemory => None,
     }
@@ -143,7 +157,7 @@ fn append_or_refuse<D: SectorDevice, W: Write>(
     ensures told { (s : PlainSchema) (rows : List (List Cell)) → option_map (λ e. e.schema) (entry_of (listed_in store.old) name.now) ≡ Some s → AppendsRows name.now s rows command
         → Answered (λ answer. AnswersCommand D.size D.story D.failed D.tells (append_rows name.now rows) answer store.old store.new) result }
     ensures written { OnOk result (Appends (W.contents output.old) (W.contents output.new) (codes "ok\n")) }
-    ensures silent { IfErr result (λ refusal. refusal ≢ Refusal.Io → output.new ≡ output.old) }
+    ensures silent { IfErr result (λ refusal. refusal ≢ Refusal.Io Side.Output → output.new ≡ output.old) }
 {
     match command {
         Some(command) => apply_command(alloc, store, command, output),
@@ -159,7 +173,7 @@ fn append_or_refuse<D: SectorDevice, W: Write>(
 /// # Errors
 /// `Text` if the text is refused, after all of it was read; `TooManyBytes` if it is longer than `LARGEST_INPUT`; `OutOfMemory`; `Store` if the
 /// store refuses: the tables are unchanged, and nothing is written; after `Store(Device)` the store is halted, and the rows may or may not be
-/// appended. `Io` if the input can't be read, and then nothing is changed, or if the output fails, and then the rows are appended.
+/// appended. `Io` of the input if that can't be read, and then nothing is changed, or of the output if that fails, and then the rows are appended.
 #[tactic(auto, using(crate::proofs::TextLemmas::no_hint))]
 pub fn append_text<D: SectorDevice, R: Read, W: Write>(
     alloc: Global,
@@ -182,15 +196,17 @@ pub fn append_text<D: SectorDevice, R: Read, W: Write>(
         × (store.new ≡ store.old) × (output.new ≡ output.old)) result }
     // A refusal of the text is the one that is defined for the whole input.
     ensures refused { IfErr result (IfOfText form.now (entry_of (listed_in store.old) name.now) (R.remaining input.old)) }
-    // A hint is the refused part of the text, as it is defined; any other answer has no hint.
+    // A hint is the refused part of the text, as it is defined, and says of the field of the table at its place what is defined; the place is where the
+    // text is refused. Any other answer has no hint.
     ensures hint { IfHinted hint.new form.now (entry_of (listed_in store.old) name.now) (R.remaining input.old) result }
     ensures written { OnOk result (Appends (W.contents output.old) (W.contents output.new) (codes "ok\n")) }
-    ensures silent { IfErr result (λ refusal. refusal ≢ Refusal.Io → output.new ≡ output.old) }
+    ensures silent { IfErr result (λ refusal. refusal ≢ Refusal.Io Side.Output → output.new ≡ output.old) }
 {
     *hint = None;
     let schema = store.schema(alloc, name)?;
     let text = read_input(alloc, input)?;
     let own_name = String::from_str(alloc, name)?;
+    refused_parts_are_causes();
     let command = take_command(alloc, form, &schema, text, own_name, hint)?;
     append_or_refuse(alloc, store, name, command, output)
 }

@@ -9,7 +9,7 @@ ghost use Rattle.store_runs.specs.Machine.{Machine};
 ghost use Rattle.store.specs.Upgrading.{upgrade_ended};
 ghost use Rattle.cli_commands.specs.Upgrading.{AnsweredUpgrade, AnswersUpgrade};
 
-use cli_refusals::{Refusal, write_whole};
+use cli_refusals::{Refusal, Side, write_whole};
 use sector_dev::SectorDevice;
 use std::alloc::Global;
 use std::io::Write;
@@ -33,7 +33,7 @@ pub fn upgrade_store<D: SectorDevice, W: Write>(
     // On every store and every device: the store was asked to upgrade, and its answer is reported.
     ensures told { AnsweredUpgrade (λ answer. AnswersUpgrade D.size D.story D.failed D.tells answer store.old store.new) result }
     ensures written { OnOk result (Appends (W.contents output.old) (W.contents output.new) (codes "ok\n")) }
-    ensures silent { IfErr result (λ refusal. refusal ≢ Refusal.Io → output.new ≡ output.old) }
+    ensures silent { IfErr result (λ refusal. refusal ≢ Refusal.Io Side.Output → output.new ≡ output.old) }
 {
     store.upgrade(alloc)?;
     write_whole(output, b"ok\n")

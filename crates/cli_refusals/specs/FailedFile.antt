@@ -28,6 +28,7 @@ reason_text reasons.Folder = codes "is a folder"
 reason_text reasons.NotRegular = codes "is not a regular file"
 reason_text (reasons.Length bytes) = codes "has " ++ decimal bytes ++ codes " bytes"
 reason_text (reasons.OtherLength other) = other_length_text other
+reason_text (reasons.LaterVersion version) = codes "is a store of version " ++ decimal version ++ codes ", which this program does not know"
 reason_text (reasons.Unopened text) = codes "cannot be opened: " ++ string_bytes text
 reason_text (reasons.Unmade text) = codes "cannot be made: " ++ string_bytes text
 reason_text (reasons.Unread text) = codes "cannot be read: " ++ string_bytes text
@@ -42,12 +43,12 @@ length_remedy other = if other.bytes == other.sectors * 512 + 1 then remedies.UN
 
 -- what to do about a file that can't be read
 abbrev pub unread_remedy : Refusal → List ℕ
-unread_remedy Io = remedies.READABLE_FILE.now
+unread_remedy (Io side) = remedies.READABLE_FILE.now
 unread_remedy refusal = remedy refusal
 
 -- what to do about a file that can't be written or synced
 abbrev pub unwritten_remedy : Refusal → List ℕ
-unwritten_remedy Io = remedies.ROOM_ON_THE_DISK.now
+unwritten_remedy (Io side) = remedies.ROOM_ON_THE_DISK.now
 unwritten_remedy refusal = remedy refusal
 
 -- what to do about a refusal for this reason
@@ -58,6 +59,7 @@ reason_remedy reasons.Folder refusal = remedies.NO_FOLDER.now
 reason_remedy reasons.NotRegular refusal = remedies.NO_FOLDER.now
 reason_remedy (reasons.Length bytes) refusal = remedies.FILE_OF_A_STORE.now
 reason_remedy (reasons.OtherLength other) refusal = length_remedy other
+reason_remedy (reasons.LaterVersion version) refusal = remedies.LATER_PROGRAM.now
 reason_remedy (reasons.Unopened text) refusal = remedies.PATH_AND_RIGHTS.now
 reason_remedy (reasons.Unmade text) refusal = remedies.FOLDER_OF_A_NEW_FILE.now
 reason_remedy (reasons.Unread text) refusal = unread_remedy refusal

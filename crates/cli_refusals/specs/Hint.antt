@@ -14,7 +14,7 @@ use Rattle.cli_refusals.specs.Remedies.{remedy}
 use Rattle.cli_refusals.specs.PartRemedy.{part_remedy}
 use Rattle.cli_refusals.specs.declared.refusal.Refusal.{Refusal}
 use Rattle.cli_refusals.specs.declared.refusal.Refusal.TheVariants.{Text}
-use Rattle.cli_refusals.specs.declared.remedies.TheConstants.{NUMBER_OF_SECTORS, READ_INPUT, LOOK_FIRST}
+use Rattle.cli_refusals.specs.declared.remedies.TheConstants.{NUMBER_OF_SECTORS}
 
 -- the name of a field, and its text, which is not empty
 abbrev pub filled_field_text : (name text : List ℕ) → List ℕ
@@ -107,7 +107,7 @@ part_text (nested_column name) = nested_text (shown name)
 part_text (header_name found wanted) = header_text (shown found) (shown wanted) ++ name_form found
 part_text (header_count names columns) = header_count_text names columns
 part_text (record_count fields columns) = counts_text (codes "record") (codes "field") fields columns
-part_text (field name text) = field_text (shown name) (shown text)
+part_text (field name place text) = field_text (shown name) (shown text)
 part_text (line part text) = line_text (shown text) ++ line_form text ++ line_part_text part
 
 unfoldable pub hint_text : Hint → List ℕ
@@ -117,7 +117,7 @@ hint_text (File file) = codes "The file `" ++ path_of file.now ++ codes "` " ++ 
 hint_text (Input reason) = codes "The input cannot be read: " ++ reason.now ++ codes ". "
 hint_text EmptyInput = codes "The input is empty. "
 hint_text (Output reason) = codes "The output cannot be written: " ++ reason.now ++ codes ". "
-hint_text (Part part about) = part_text (part_of part.now) ++ about.now
+hint_text (Part hinted sentence) = part_text (part_of hinted.now.part) ++ sentence.now ++ string_bytes hinted.now.about
 hint_text (Table name others) = table_text (shown (string_bytes name.now)) ++ others.now
 hint_text (UnreadTable name) = table_text (shown name.now)
 hint_text (ScriptLine text about) = line_text (shown text.now) ++ script_line_form text.now ++ about.now
@@ -130,11 +130,9 @@ abbrev pub remedy_of_part : PlainPart → Refusal → List ℕ
 remedy_of_part part (Text refused) = part_remedy part refused.refusal
 remedy_of_part part refusal = remedy refusal
 
--- what to do about a refusal of which this is known: a number of sectors, a file, the input, its parts and the output have sentences of their own
+-- what to do about a refusal of which this is known: a number of sectors, a file and the parts of an input have sentences of their own
 abbrev pub remedy_of : Hint → Refusal → List ℕ
 remedy_of (Sectors number) refusal = NUMBER_OF_SECTORS.now
 remedy_of (File file) refusal = reason_remedy (reason_of file.now) refusal
-remedy_of (Input reason) refusal = READ_INPUT.now
-remedy_of (Output reason) refusal = LOOK_FIRST.now
-remedy_of (Part part about) refusal = remedy_of_part (part_of part.now) refusal
+remedy_of (Part hinted sentence) refusal = remedy_of_part (part_of hinted.now.part) refusal
 remedy_of hint refusal = remedy refusal

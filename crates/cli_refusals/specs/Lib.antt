@@ -1,10 +1,13 @@
 pub mod Refusals
 pub mod Remedies
 pub mod PartRemedy
+pub mod AboutPart
 pub mod Page
 pub mod RefusedWord
 pub mod Shown
 pub mod Form
 pub mod Hint
+pub mod Known
+pub mod Words
 pub mod FailedFile
 pub mod Output

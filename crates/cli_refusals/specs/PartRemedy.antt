@@ -24,6 +24,6 @@ line_remedy text Json = if has_control text then remedies.ESCAPE_CONTROLS.now el
 line_remedy text refusal = text_remedy refusal
 
 abbrev pub part_remedy : PlainPart → Refusal → List ℕ
-part_remedy (field name text) refusal = field_remedy text refusal
+part_remedy (field name place text) refusal = field_remedy text refusal
 part_remedy (line part text) refusal = line_remedy text refusal
 part_remedy part refusal = text_remedy refusal

@@ -16,6 +16,7 @@ use Rattle.tables.specs.declared.refusal.QueryRefusal.TheVariants as reasons
 use Rattle.tables.specs.Refusals as tables
 use Rattle.commit.specs.Told.{opening_text}
 use Rattle.cli_refusals.specs.declared.refusal.Refusal.{Refusal}
+use Rattle.cli_refusals.specs.declared.refusal.Side.TheVariants as sides
 use Rattle.cli_refusals.specs.declared.refusal.Refusal.TheVariants.{Fault, TooManyBytes, Io, BadSize, BadScript, Fields, Text, Query, Opening, Store, OutOfMemory}
 
 -- how a failed import is reported
@@ -25,7 +26,7 @@ refusal_of errors.OutOfMemory = OutOfMemory
 
 -- how a file that was not opened or made is reported
 abbrev pub file_refusal : FileError → Refusal
-file_refusal files.Io = Io
+file_refusal files.Io = Io sides.File
 file_refusal files.BadSize = BadSize
 
 -- how a text that was not read is reported
@@ -44,7 +45,7 @@ query_refusal queries.OutOfMemory = OutOfMemory
 unfoldable pub refusal_text : Refusal → List ℕ
 refusal_text (Fault fault) = fault_text fault
 refusal_text TooManyBytes = codes "S7 TooMany Bytes"
-refusal_text Io = codes "G1 Io"
+refusal_text (Io side) = codes "G1 Io"
 refusal_text BadSize = codes "G2 BadSize"
 refusal_text (BadScript line) = codes "G3 BadScript " ++ decimal line
 refusal_text (Fields error) = error_text error

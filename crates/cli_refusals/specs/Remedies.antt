@@ -107,7 +107,7 @@ store_remedy stores.OutOfMemory = remedies.MORE_MEMORY.now
 unfoldable pub remedy : Refusal → List ℕ
 remedy (Fault fault) = fault_remedy fault
 remedy TooManyBytes = remedies.GIVE_LESS.now
-remedy Io = remedies.CHECK_FILES.now
+remedy (Io side) = remedies.CHECK_FILES.now
 remedy BadSize = remedies.WHOLE_FILE.now
 remedy (BadScript line) = remedies.LINES_OF_A_SCRIPT.now
 remedy (Fields error) = fields_remedy error

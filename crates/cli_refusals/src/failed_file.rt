@@ -7,7 +7,7 @@ ghost use Rattle.cli_refusals.specs.Shown.{is_unshown};
 
 use crate::Refusal;
 use crate::remedies::{
-    FILE_OF_A_STORE, FOLDER_OF_A_NEW_FILE, LENGTH_OF_THE_STORE, NEW_PATH, NO_FOLDER,
+    FILE_OF_A_STORE, FOLDER_OF_A_NEW_FILE, LATER_PROGRAM, LENGTH_OF_THE_STORE, NEW_PATH, NO_FOLDER,
     PATH_AND_RIGHTS, READABLE_FILE, ROOM_FOR_THE_NEW_FILE, ROOM_ON_THE_DISK, UNFINISHED_COPY, WAIT,
 };
 use crate::shown::has_unshown;
@@ -66,6 +66,8 @@ pub enum FileReason {
     Length(u64),
     /// It has another length than its store.
     OtherLength(OtherLength),
+    /// It has a store of this version, which is a later one than the program knows.
+    LaterVersion(u32),
     /// It could not be opened, with the system's reason.
     Unopened(String),
     /// It could not be made, with the system's reason.
@@ -87,7 +89,7 @@ fn unread_remedy(refusal: Refusal) -> &'static str
     ensures { result.now ≡ unread_remedy refusal }
 {
     match refusal {
-        Refusal::Io => READABLE_FILE,
+        Refusal::Io(_) => READABLE_FILE,
         _ => refusal.remedy(),
     }
 }
@@ -96,7 +98,7 @@ fn unwritten_remedy(refusal: Refusal) -> &'static str
     ensures { result.now ≡ unwritten_remedy refusal }
 {
     match refusal {
-        Refusal::Io => ROOM_ON_THE_DISK,
+        Refusal::Io(_) => ROOM_ON_THE_DISK,
         _ => refusal.remedy(),
     }
 }
@@ -112,6 +114,7 @@ impl FileReason {
             FileReason::Folder | FileReason::NotRegular => NO_FOLDER,
             FileReason::Length(_) => FILE_OF_A_STORE,
             FileReason::OtherLength(other) => other.remedy(),
+            FileReason::LaterVersion(_) => LATER_PROGRAM,
             FileReason::Unopened(_) => PATH_AND_RIGHTS,
             FileReason::Unmade(_) => FOLDER_OF_A_NEW_FILE,
             FileReason::Unread(_) => unread_remedy(refusal),
@@ -135,6 +138,10 @@ impl fmt::Display for FileReason {
             FileReason::NotRegular => f.write_str("is not a regular file"),
             FileReason::Length(bytes) => write!(f, "has {bytes} bytes"),
             FileReason::OtherLength(other) => write!(f, "{other}"),
+            FileReason::LaterVersion(version) => write!(
+                f,
+                "is a store of version {version}, which this program does not know"
+            ),
             FileReason::Unopened(text) => write!(f, "cannot be opened: {text}"),
             FileReason::Unmade(text) => write!(f, "cannot be made: {text}"),
             FileReason::Unread(text) => write!(f, "cannot be read: {text}"),

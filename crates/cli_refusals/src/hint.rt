@@ -7,18 +7,25 @@ ghost use Rattle.cli_refusals.specs.Shown.{shown};
 use crate::form::script_line_form;
 use crate::part_remedy::part_remedy;
 use crate::part_shown::{Counts, FieldShown, LineShown, OtherFieldShown, PartShown};
-use crate::remedies::{LOOK_FIRST, NUMBER_OF_SECTORS, READ_INPUT};
+use crate::remedies::NUMBER_OF_SECTORS;
 use crate::shown::shown;
 use crate::{FailedFile, Refusal, Word};
 use std::alloc::AllocError;
 use std::fmt::{self, Write as _};
 use text_import::RefusedPart;
 
+/// The refused part of the input, and what is said of the field of the table that it is for, as [`crate::about_part`] returns it.
+#[derive(Drop)]
+pub struct HintedPart {
+    pub part: RefusedPart,
+    pub about: String,
+}
+
 /// What a command itself hints at, if it finds more than its refusal carries.
 #[derive(Drop)]
 pub enum Hinted {
     /// The refused part of the input.
-    Part(RefusedPart),
+    Part(HintedPart),
     /// The name of a table that can't be read.
     Table(String),
 }
@@ -42,10 +49,10 @@ pub enum Hint<'a> {
     /// The system's reason for a failed write of the output.
     Output(&'a str),
     /// A part of the input. Each of its strings is printed if a terminal may be shown it, and what the bytes of a line or a name say about its form;
-    /// and sentences about it, printed as they are.
+    /// a sentence about the line of its record, printed as it is; and what is said of its field.
     Part {
-        part: &'a RefusedPart,
-        about: &'a str,
+        hinted: &'a HintedPart,
+        line: &'a str,
     },
     /// The name of a table that a command hints at, printed if a terminal may be shown it; and sentences about other tables, as [`report_table`]
     /// writes them, printed as they are.
@@ -135,9 +142,7 @@ impl Hint<'_> {
         match self {
             Hint::Sectors(_) => NUMBER_OF_SECTORS,
             Hint::File(file) => file.reason.remedy(refusal),
-            Hint::Input(_) => READ_INPUT,
-            Hint::Output(_) => LOOK_FIRST,
-            Hint::Part { part, .. } => remedy_of_part(part, refusal),
+            Hint::Part { hinted, .. } => remedy_of_part(&hinted.part, refusal),
             _ => refusal.remedy(),
         }
     }
@@ -162,7 +167,10 @@ impl fmt::Display for Hint<'_> {
             Hint::Input(reason) => write!(f, "The input cannot be read: {reason}. "),
             Hint::EmptyInput => f.write_str("The input is empty. "),
             Hint::Output(reason) => write!(f, "The output cannot be written: {reason}. "),
-            Hint::Part { part, about } => write!(f, "{}{about}", PartShown { part }),
+            Hint::Part { hinted, line } => {
+                let part = PartShown { part: &hinted.part };
+                write!(f, "{part}{line}{}", hinted.about)
+            }
             Hint::Table { name, others } => {
                 write!(f, "{}{others}", TableShown::new(name.as_str()))
             }

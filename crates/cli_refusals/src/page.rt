@@ -4,30 +4,30 @@ ghost use Rattle.cli_refusals.specs.Page.{file_refusals, table_refusals, refusal
 
 use crate::remedies::{
     BYTES_OF_THE_TYPE, CHECK_FILES, CLOSE_AN_EXPORT, CLOSE_QUOTATION_MARKS, CONVERT_COLUMN,
-    EARLIER_COPY, ESCAPE_CONTROLS, FEWER_FIELDS, FEWER_ROWS, FEWER_SEGMENTS, FEWER_TABLES,
-    FEWER_VALUES, FIELDS_OF_THE_TABLE, FILE_OF_A_STORE, FIX_ROW, FOLDER_OF_A_NEW_FILE,
-    FORM_OF_A_CONDITION, FORM_OF_A_FIELD, FORM_OF_A_NAME, GIVE_A_NUMBER, GIVE_A_STREAM,
-    GIVE_A_VALUE, GIVE_ALL, GIVE_ARRAYS, GIVE_JSON_LINES, GIVE_LESS, GIVE_THE_NAME, IMPORT_AGAIN,
-    ITEMS_OF_A_LINE, KIND_OF_THE_TYPE, LEAVE_OUT_MESSAGES, LENGTH_OF_THE_STORE, LINES_OF_A_SCRIPT,
-    LITTLE_ENDIAN, LOOK_AGAIN, LOOK_FIRST, MORE_MEMORY, MORE_ROOM, NAME_OF_A_TABLE, NAMES_FIRST,
-    NAMES_OF_COLUMNS, NAMES_OF_THE_SCHEMA, NEW_PATH, NEW_STORE, NO_COMPRESSION, NO_FOLDER,
-    NUMBER_OF_SECTORS, ONE_STREAM, OTHER_NAME, OTHER_TABLE, PATH_AND_RIGHTS, READ_INPUT,
-    READABLE_FILE, ROOM_FOR_THE_NEW_FILE, ROOM_ON_THE_DISK, ROW_ON_A_LINE, SCHEMA_FIRST,
-    SHORTER_BATCHES, SHORTER_VALUES, SMALLER_FIELDS, TEST_FOR_NULL, TRY_AGAIN, UNFINISHED_COPY,
-    WAIT, WHOLE_FILE, WITHIN_THE_RANGE, WRITE_A_BOOLEAN, WRITE_AGAIN, WRITE_DIGITS,
-    WRITE_HEXADECIMAL, WRITE_UTF_8, WRITE_V5,
+    DONE_ALREADY, EARLIER_COPY, ESCAPE_CONTROLS, FEWER_FIELDS, FEWER_ROWS, FEWER_SEGMENTS,
+    FEWER_TABLES, FEWER_VALUES, FIELDS_OF_THE_TABLE, FILE_OF_A_STORE, FIX_ROW,
+    FOLDER_OF_A_NEW_FILE, FORM_OF_A_CONDITION, FORM_OF_A_FIELD, FORM_OF_A_NAME, GIVE_A_NUMBER,
+    GIVE_A_STREAM, GIVE_A_VALUE, GIVE_ALL, GIVE_ARRAYS, GIVE_JSON_LINES, GIVE_LESS, GIVE_THE_NAME,
+    IMPORT_AGAIN, ITEMS_OF_A_LINE, KIND_OF_THE_TYPE, LATER_PROGRAM, LEAVE_OUT_MESSAGES,
+    LENGTH_OF_THE_STORE, LINES_OF_A_SCRIPT, LITTLE_ENDIAN, LOOK_AGAIN, MORE_MEMORY, MORE_ROOM,
+    NAME_OF_A_TABLE, NAMES_FIRST, NAMES_OF_COLUMNS, NAMES_OF_THE_SCHEMA, NEW_OUTPUT, NEW_PATH,
+    NEW_STORE, NO_COMPRESSION, NO_FOLDER, NUMBER_OF_SECTORS, ONE_STREAM, OTHER_NAME, OTHER_TABLE,
+    PATH_AND_RIGHTS, READ_INPUT, READABLE_FILE, ROOM_FOR_THE_NEW_FILE, ROOM_ON_THE_DISK,
+    ROW_ON_A_LINE, SCHEMA_FIRST, SHORTER_BATCHES, SHORTER_VALUES, SMALLER_FIELDS, TEST_FOR_NULL,
+    TRY_AGAIN, UNFINISHED_COPY, WAIT, WHOLE_FILE, WITHIN_THE_RANGE, WRITE_A_BOOLEAN, WRITE_AGAIN,
+    WRITE_DIGITS, WRITE_HEXADECIMAL, WRITE_UTF_8, WRITE_V5,
 };
 use std::alloc::{AllocError, Global};
 
 /// The pieces of the page of which its first sections are made: what each refusal of a stream, a file, a store or a field text means and what to do
 /// about it, among them the sentences of `remedies`. The file `docs/refusals.md` has the same bytes as the page.
-pub const FILE_REFUSALS: [&str; 81] = [
+pub const FILE_REFUSALS: [&str; 85] = [
     "# What each refusal means
 
 A refusal is one line on standard error: `refused`, a code, a name, and for some of them a detail, as in
 `refused S8 NoRoom 13`. The exit status is then 1. It is 0 if everything is done, and 2 if the command
 line is wrong. `replay` prints the refusals of the lines of its script on standard output, and ends with
-status 0.
+status 0. `arrowstore help S8` prints what this page says of S8, and so for each code.
 
 On a terminal a second line gives the advice of this page. It first says what is refused, if that is known
 and can be shown: a word or a number of the command line; the file, the input or the output, with the
@@ -122,7 +122,9 @@ or appended. If no advice follows a fault, the cause is the program that wrote t
 
 - G1 Io: a read or a write failed; or the file of the store does not exist, may not be opened, or is
   locked by another program; or a file to be made exists already. If the output failed, a part of it may
-  have been written, and a command that changes a table may be done.
+  have been written, and a command that makes or changes a store is done. If only the reader of the output
+  is gone, as `head` once it has its lines, nothing is reported, unless the command makes or changes a
+  store.
   ",
     CHECK_FILES,
     "
@@ -130,8 +132,12 @@ or appended. If no advice follows a fault, the cause is the program that wrote t
   For the input: ",
     READ_INPUT,
     "
-  For the output: ",
-    LOOK_FIRST,
+  For the output of a command that makes or changes a store: ",
+    DONE_ALREADY,
+    "
+  For the output of another command:
+  ",
+    NEW_OUTPUT,
     "
   For a file that is locked: ",
     WAIT,
@@ -194,9 +200,14 @@ or appended. If no advice follows a fault, the cause is the program that wrote t
 
 ## C: the store cannot be opened
 
-- C1 NotAStore: the file does not contain a store.
+- C1 NotAStore: the file does not contain a store, or contains one of a version that the program does not
+  know. If it held a store before, its first block was lost, where both commits are: keep the file, and use
+  an earlier copy.
   ",
     FILE_OF_A_STORE,
+    "
+  For a store of a later version: ",
+    LATER_PROGRAM,
     "
 - C3 Damaged CAUSE: the file contains a store that cannot be used: the file was cut short or made longer,
   some of its bytes were changed, or it was copied while a command changed it. The causes are:
@@ -220,9 +231,10 @@ or appended. If no advice follows a fault, the cause is the program that wrote t
     NUMBER_OF_SECTORS,
     "
 - C4 Device: the file could not be read or synced while it was opened; or `format` or `copy` could not
-  read, write or sync the file that it made, and has removed it. A store is not changed. If the disk can't
-  read a sector of the file, `dd bs=512 iflag=direct conv=noerror,sync` makes a copy with zeros in its
-  place.
+  read, write or sync the file that it made, and has removed it. A store is not changed. If it could not be
+  synced, a program was killed before, and the next command shows whether its last change is on the disk.
+  If the disk can't read a sector of the file, `dd bs=512 iflag=direct conv=noerror,sync` makes a copy with
+  zeros in its place.
   ",
     TRY_AGAIN,
     "
@@ -403,7 +415,8 @@ appended.
     MORE_ROOM,
     "
 - S9 Device: the file could not be read, written or synced. The command is done as a whole or not at all,
-  and so is each step of a `compact`. For a sector that the disk can't read, see C4.
+  and so is each step of a `compact`: the next command shows what the disk has. For a sector that the disk
+  can't read, see C4.
   ",
     LOOK_AGAIN,
     "
@@ -436,7 +449,7 @@ named `copy`, and run `check` on that after it:
 - DeviceSize: give the copy its length again, 512 bytes for each sector that `format` was given, with
   `truncate -s`. A terminal shows this length, also after G2 if the file begins as a store does. But if the
   file is one byte longer than that, it is the new file of a `copy` that was interrupted, and lacks tables:
-  never cut it off, but delete it and copy again.
+  never cut it off, but copy again, to another path.
 - Another cause: write zeros over the commit with the greater epoch. The store may then open as it was
   before its last command. `od -An -tu8 -j8 -N8 copy` prints the epoch in sector 0, and `-j520` in place of
   `-j8` the one in sector 1. `dd if=/dev/zero of=copy bs=512 count=1 conv=notrunc` writes zeros over sector
@@ -448,6 +461,56 @@ named `copy`, and run `check` on that after it:
   ",
     MORE_MEMORY,
     "
+
+## Words for scripts
+
+With `ARROWSTORE_ADVICE=1` in the environment a refused command writes both lines to standard error, also
+if it is no terminal. The second line then begins with one of these words and a colon. A word never changes
+its meaning, and is never used again for another one; words may be added. The sentences behind it may
+change.
+
+    word=$(ARROWSTORE_ADVICE=1 arrowstore drop s t 2>&1 >/dev/null | sed -n '2s/:.*//p')
+
+G1 has eight words, which say whether the command was done:
+
+- `locked`: another program holds the file. The command was not done; it can be run again later.
+- `missing`: the file, or the folder of a file to be made, does not exist. The command was not done.
+- `denied`: the system does not permit it, for lack of rights or since the file system is only read. The
+  command was not done.
+- `exists`: something is at the path of a file to be made. The command was not done.
+- `input`: the input can't be read, or is closed. The command was not done.
+- `output-before`: the output of a command that changes nothing failed: `query` without `--save`, `export`,
+  `salvage`, `tables`, `schema`, `check`, `info`, `recode`, `replay`, or help. A part of the output may be
+  written.
+- `output-after`: the output failed after `format`, `copy`, `create`, `import`, `append`, `query --save`,
+  `rename`, `drop`, `compact` or `upgrade` was done. Do not run the command again.
+- `other`: another call on a file failed. The command was not done, and a file that was to be made is
+  removed.
+
+Each other code has one word. After S5 it is the word of the fault (F), and after S12 that of the query (Q).
+
+- F1 `truncated`, F2 `no-stream`, F3 `metadata-size`, F4 `metadata-bounds`, F5 `metadata-budget`,
+  F6 `metadata-version`, F7 `header-kind`, F8 `body-length`, F9 `no-schema`, F10 `second-schema`,
+  F11 `big-endian`, F12 `type-not-held`, F13 `bad-parameter`, F14 `schema-limit`,
+  F15 `stream-not-utf8`, F16 `compressed`, F17 `layout-count`, F18 `buffer-range`, F19 `buffer-short`,
+  F20 `row-count`, F21 `null-count`, F22 `offsets`, F23 `null-forbidden`, F24 `dictionary-id`,
+  F25 `delta-without-base`, F26 `dictionary-index`, F27 `dictionary-of-nested`, F28 `stream-too-heavy`,
+  F29 `after-end`.
+- G2 `bad-size`, G3 `bad-script`.
+- C1 `not-a-store`, C3 `damaged`, C4 `device-at-opening`.
+- P1 `bad-field`, P2 `field-limit`.
+- X1 `header`, X2 `width`, X3 `text-not-utf8`, X4 `not-a-number`, X5 `out-of-range`, X6 `not-a-bool`,
+  X7 `not-hex`, X8 `null-mismatch`, X9 `nested-columns`, X10 `not-json`, X11 `unknown-name`,
+  X12 `missing-name`, X13 `ambiguous-names`, X14 `fixed-width`, X15 `row-too-heavy`,
+  X16 `dictionary-full`, X17 `wrong-kind`.
+- Q1 `unknown-column`, Q2 `bad-condition`, Q3 `not-comparable`.
+- S1 `no-table`, S2 `name-taken`, S3 `bad-name`, S4 `schema-mismatch`, S6 `row-unfit`, S7 `too-many`,
+  S8 `no-room`, S9 `device`, S10 `halted`, S13 `segment-unread`, S15 `segment-damaged`,
+  and `out-of-memory`.
+
+After `device` the command is done as a whole or not at all. After every other word but `output-after` no
+table is changed, except that the steps of a `compact` before the refused one are done. Wrong arguments,
+with status 2, have no word, and neither has a `salvage` that leaves segments out.
 ",
 ];
 

@@ -486,7 +486,7 @@ impl fmt::Display for PartShown<'_> {
                 };
                 write!(f, "{counts}")
             }
-            RefusedPart::Field { name, text } => {
+            RefusedPart::Field { name, text, .. } => {
                 let field = FieldShown {
                     name: shown(name.as_bytes()),
                     text: shown(text),

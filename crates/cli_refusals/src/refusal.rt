@@ -13,6 +13,17 @@ use std::fmt;
 use tables::QueryRefusal;
 use text_import::{Refused, TextError};
 
+/// On which side of a run a read or a write failed.
+#[derive(Clone, Copy, Debug)]
+pub enum Side {
+    /// On a file that the command line or a script names. The command was not done.
+    File,
+    /// On the input. The command was not done.
+    Input,
+    /// On the output, which is written once the command is done.
+    Output,
+}
+
 /// Why a command was refused.
 #[derive(Clone, Copy, Debug)]
 pub enum Refusal {
@@ -20,8 +31,8 @@ pub enum Refusal {
     Fault(Fault),
     /// S7: the input has too many bytes.
     TooManyBytes,
-    /// G1: a read or a write failed.
-    Io,
+    /// G1: a read or a write on this side failed.
+    Io(Side),
     /// G2: a store's file is not a whole number of sectors, or no store has this number of sectors.
     BadSize,
     /// G3: this line of a script, counted from 1, can't be played.
@@ -64,7 +75,7 @@ impl From<FileError> for Refusal {
 
     fn from(error: FileError) -> Refusal {
         match error {
-            FileError::Io => Refusal::Io,
+            FileError::Io => Refusal::Io(Side::File),
             FileError::BadSize => Refusal::BadSize,
         }
     }
@@ -122,7 +133,7 @@ impl fmt::Display for Refusal {
         match self {
             Refusal::Fault(fault) => write!(f, "{fault}"),
             Refusal::TooManyBytes => f.write_str("S7 TooMany Bytes"),
-            Refusal::Io => f.write_str("G1 Io"),
+            Refusal::Io(_) => f.write_str("G1 Io"),
             Refusal::BadSize => f.write_str("G2 BadSize"),
             Refusal::BadScript(line) => write!(f, "G3 BadScript {line}"),
             Refusal::Fields(error) => write!(f, "{error}"),

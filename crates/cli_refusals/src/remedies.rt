@@ -44,13 +44,14 @@ pub const FEWER_ROWS: &str =
 // ---- G and C: files
 
 pub const CHECK_FILES: &str =
-    "Check the path, the input and the output. If the output failed, the command may be done already: look with `tables` before you try again.";
+    "Check the path, your rights to the file and to its folder, and the disk.";
 
 pub const READ_INPUT: &str =
     "Check the input: give a file or a pipe that can be read, and run the command again.";
 
-pub const LOOK_FIRST: &str =
-    "Check the output. A command that changes a table may be done already: look with `tables` before you try again.";
+pub const DONE_ALREADY: &str = "The command is done: do not run it again.";
+
+pub const NEW_OUTPUT: &str = "Check the output, and run the command again: it changes nothing.";
 
 pub const WAIT: &str = "Wait until the other program is done with it, and try again.";
 
@@ -72,10 +73,10 @@ pub const ROOM_FOR_THE_NEW_FILE: &str =
 pub const NUMBER_OF_SECTORS: &str = "Give 16 to 4194304 sectors.";
 
 pub const WHOLE_FILE: &str =
-    "Give the whole file of a store. If it is the new file of a `copy` that was interrupted, delete it and copy again.";
+    "Give the whole file of a store. If it is the new file of a `copy` that was interrupted, copy again, to another path.";
 
 pub const UNFINISHED_COPY: &str =
-    "If this is the new file of a `copy` that was interrupted, it lacks tables: do not cut it off, but delete it, and copy the old store again.";
+    "If this is the new file of a `copy` that was interrupted, it lacks tables: do not cut it off, but copy the old store again, to another path.";
 
 pub const LENGTH_OF_THE_STORE: &str =
     "Use an earlier copy of the file. Or give a copy of it the length of its store, as by `truncate -s`, and run `check` on that.";
@@ -86,7 +87,9 @@ pub const LINES_OF_A_SCRIPT: &str =
     "Write each line as `create NAME FIELD ..`, `import NAME FILE`, `append NAME FILE`, `rename FROM TO`, `drop NAME`, `compact`, `upgrade` or `reopen`.";
 
 pub const FILE_OF_A_STORE: &str =
-    "Give the file of a store. If a `format` or `copy` was interrupted, delete its new file and run the command again.";
+    "Give the file of a store. If this is the new file of a `format` or `copy` that was interrupted, run the command again, with another path.";
+
+pub const LATER_PROGRAM: &str = "Use a later version of the program, and keep the file as it is.";
 
 pub const EARLIER_COPY: &str =
     "Use an earlier copy of the file. If there is none, see \"A store that does not open\" in `arrowstore help refusals`.";
@@ -347,7 +350,7 @@ impl Refusal {
         match self {
             Refusal::Fault(fault) => fault_remedy(fault),
             Refusal::TooManyBytes => GIVE_LESS,
-            Refusal::Io => CHECK_FILES,
+            Refusal::Io(_) => CHECK_FILES,
             Refusal::BadSize => WHOLE_FILE,
             Refusal::BadScript(_) => LINES_OF_A_SCRIPT,
             Refusal::Fields(error) => fields_remedy(error),

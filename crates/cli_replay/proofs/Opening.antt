@@ -1,9 +1,10 @@
 -- Why the store of a device is not opened on which an empty one stands.
-use Rattle.std.proofs.Common.{◌≡◌, Bool, true, false, refl, subst}
+use Rattle.std.proofs.Common.{◌≡◌, Bool, true, false, inl, inr, refl, subst, sym}
 use Rattle.commit.specs.declared.opening_refusal.OpeningRefusal.{OpeningRefusal}
 use Rattle.commit.specs.declared.opening_refusal.OpeningRefusal.TheVariants as openings
 use Rattle.cli_refusals.specs.declared.refusal.Refusal.{Refusal}
-use Rattle.cli_refusals.specs.declared.refusal.Refusal.TheVariants.{Opening, OutOfMemory}
+use Rattle.cli_refusals.specs.declared.refusal.Refusal.TheVariants.{TooManyBytes, Io, Opening, OutOfMemory}
+use Rattle.cli_refusals.specs.declared.refusal.Side.TheVariants.{File}
 use Rattle.sector_dev.specs.declared.device.SectorDevice.{Ghosts}
 use Rattle.tables.specs.Tables.{no_tables}
 use Rattle.store.specs.declared.call.Call.TheVariants as calls_in
@@ -18,8 +19,8 @@ use Rattle.store.specs.declared.call.Reply.{Reply}
 use Rattle.store.specs.declared.call.Reply.TheVariants as replies_in
 use Rattle.commit.specs.Standing.{is_size}
 use Rattle.store_runs.specs.Steps.{Step, StepOpen}
-use Rattle.std.specs.Prelude.{ℕ, List, Option}
-use Rattle.cli_replay.specs.Replay.{IsOfPlaying, RefusesReplay}
+use Rattle.std.specs.Prelude.{◌⊎◌, ℕ, List, Option}
+use Rattle.cli_replay.specs.Replay.{IsOfPlaying, IsOfReading, RefusesReplay}
 use Rattle.cli_replay.specs.Playing.{AreOfListing, IsOfListing, IsOfOpening}
 use Rattle.sector_dev.specs.Disk.{Story}
 use Rattle.sector_dev.specs.declared.model.ModelDevice.{ModelDevice}
@@ -63,6 +64,17 @@ playing_refused remaining sectors (Opening openings.Device) within why = tt
 playing_refused remaining sectors (Opening openings.OutOfMemory) within why = tt
 playing_refused remaining sectors OutOfMemory within why = tt
 playing_refused remaining sectors _ within why = absurd why
+
+-- a file can't be read, or memory is refused
+pub reading_refused : {F : Type 0} (remaining : F → Option (List ℕ)) (sectors : ℕ) (r : Refusal) → is_size sectors ≡ true → IsOfReading r → RefusesReplay remaining sectors r
+reading_refused remaining sectors (Io File) within why = within
+reading_refused remaining sectors OutOfMemory within why = tt
+reading_refused remaining sectors _ within why = absurd why
+
+-- a script is too long, or can't be read
+pub script_unread : {F : Type 0} (remaining : F → Option (List ℕ)) (sectors : ℕ) (r : Refusal) → is_size sectors ≡ true → (r ≡ TooManyBytes) ⊎ IsOfReading r → RefusesReplay remaining sectors r
+script_unread remaining sectors r within (inl many) = subst (RefusesReplay remaining sectors) (sym many) within
+script_unread remaining sectors r within (inr why) = reading_refused remaining sectors r within why
 
 -- ---- which replies there are
 

@@ -31,6 +31,7 @@ use Rattle.commit.specs.declared.sector.FormatVersion.{FormatVersion}
 use Rattle.commit.specs.declared.opening_refusal.OpeningRefusal.TheVariants as openings
 use Rattle.cli_refusals.specs.declared.refusal.Refusal.{Refusal}
 use Rattle.cli_refusals.specs.declared.refusal.Refusal.TheVariants.{TooManyBytes, Io, BadScript, Opening, OutOfMemory}
+use Rattle.cli_refusals.specs.declared.refusal.Side.TheVariants.{File, Output}
 use Rattle.cli_commands.specs.declared.input.TheConstants.{LARGEST_INPUT}
 use Rattle.cli_commands.specs.Changing.{StateSchema}
 use Rattle.cli_replay.specs.declared.script.ScriptError.TheVariants.{BadLine}
@@ -147,7 +148,7 @@ pub record IsReplayOfFile (g : Ghosts ModelDevice) {F R : Type 0} (remaining : F
 
 -- a file can't be read, or memory is refused
 abbrev pub IsOfReading : Refusal → Type 0
-IsOfReading Io = Unit {0}
+IsOfReading (Io File) = Unit {0}
 IsOfReading OutOfMemory = Unit {0}
 IsOfReading _ = ⊥
 
@@ -182,7 +183,8 @@ abbrev pub RefusesReplay : {F : Type 0} → (remaining : F → Option (List ℕ)
 RefusesReplay remaining sectors (Opening refusal) = IsOfNewDevice sectors refusal
 RefusesReplay remaining sectors (BadScript number) = (is_size sectors ≡ true)
     × ((script : List ℕ) × IsOfFile remaining script × IsScript script (Err (BadLine number)))
-RefusesReplay remaining sectors Io = is_size sectors ≡ true
+RefusesReplay remaining sectors (Io File) = is_size sectors ≡ true
+RefusesReplay remaining sectors (Io Output) = is_size sectors ≡ true
 RefusesReplay remaining sectors TooManyBytes = is_size sectors ≡ true
 RefusesReplay remaining sectors OutOfMemory = Unit {0}
 RefusesReplay remaining sectors _ = ⊥

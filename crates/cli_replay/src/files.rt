@@ -3,7 +3,7 @@ ghost use Rattle.std.specs.Prelude.{◌≡◌, ◌≢◌, ◌⊎◌, string_byte
 ghost use Rattle.cli_replay.specs.Replay.{IsOfFile, IsFrontOfFile, IsOfReading};
 
 use cli_commands::LARGEST_INPUT;
-use cli_refusals::Refusal;
+use cli_refusals::{Refusal, Side};
 use std::fs::{self, OpenFile};
 use std::io::{self, ErrorKind, Read};
 use std::rt::Files;
@@ -13,7 +13,7 @@ fn reading_refusal(error: &io::Error) -> Refusal
 {
     match error.kind() {
         ErrorKind::OutOfMemory => Refusal::OutOfMemory,
-        _ => Refusal::Io,
+        _ => Refusal::Io(Side::File),
     }
 }
 
@@ -26,7 +26,7 @@ fn front_of_file<F: Read + OpenFile + Drop, H: Files<File = F> + AllocGlobal>(
     ensures told { IfErr result IsOfReading }
 {
     let Ok(file) = fs::open(rt, path) else {
-        return Err(Refusal::Io);
+        return Err(Refusal::Io(Side::File));
     };
     let mut front = file.take(LARGEST_INPUT as u64 + 1);
     let mut bytes = Vec::new(rt.alloc());

@@ -12,7 +12,7 @@ use crate::device::{empty_store, found_on, left_by_crash, open, with_faults};
 use crate::files::read_script;
 use crate::playing::{lines_of_replies, play};
 use crate::{ScriptError, ScriptLine, parse_script};
-use cli_refusals::{Refusal, write_whole};
+use cli_refusals::{Refusal, Side, write_whole};
 use commit::FormatVersion;
 use sector_dev::{CrashChoice, ModelDevice, SectorDevice};
 use std::alloc::{AllocError, Global};
@@ -88,7 +88,7 @@ fn lines_of(alloc: Global, script: &[u8]) -> Result<Vec<ScriptLine<'_>>, Refusal
 /// whether the device stopped, and which tables a crash leaves.
 ///
 /// # Errors
-/// `Opening` if no store has this number of sectors; `Io` if a file can't be read; `BadScript` with the number of the first invalid line;
+/// `Opening` if no store has this number of sectors; `Io` of a file if that can't be read; `BadScript` with the number of the first invalid line;
 /// `TooManyBytes` if a file is too long; `OutOfMemory`. Nothing is printed, unless a write fails.
 pub fn replay<F: Read + OpenFile + Drop, H: Files<File = F> + AllocGlobal, W: Write>(
     rt: &H,
@@ -102,7 +102,7 @@ pub fn replay<F: Read + OpenFile + Drop, H: Files<File = F> + AllocGlobal, W: Wr
         faults.fail faults.stop faults.choice (W.contents output.old) (W.contents output.new)) }
     ensures told { IfErr result (RefusesReplay F.remaining sectors) }
     // A refusal prints nothing, unless a write failed.
-    ensures silent { IfErr result (λ refusal. refusal ≢ Refusal.Io → output.new ≡ output.old) }
+    ensures silent { IfErr result (λ refusal. refusal ≢ Refusal.Io Side.Output → output.new ≡ output.old) }
 {
     let alloc = rt.alloc();
     let device = empty_store(alloc, sectors, version)?;

@@ -39,3 +39,11 @@ is_saving _ = false
 -- the word is one of a command that reads, and nothing is saved
 unfoldable pub only_reads : StoreCommand → Bool
 only_reads command = reads_word (command_word command) && not (is_saving command)
+
+-- a request that makes a store or changes one
+abbrev pub changes : StoreRequest → Bool
+changes (requests.Format path sectors version) = true
+changes (requests.Copy path new sectors) = true
+changes (requests.Salvage path name) = false
+changes (requests.Replay words) = false
+changes (requests.Command path command) = not (only_reads command)

@@ -1,6 +1,6 @@
 // What a command line asks of a store.
 ghost use Rattle.std.specs.Prelude.{◌≡◌, true, map};
-ghost use Rattle.cli_requests.specs.Asked.{only_reads};
+ghost use Rattle.cli_requests.specs.Asked.{changes, only_reads};
 ghost use Rattle.cli_requests.specs.StoreWords.{takes_input_word, changes_word, makes_word, reads_table_word, reads_word, is_store_word, is_of_store, takes_input, is_help_word, ask_for_help, ask_help_of_command};
 
 use crate::ReplayWords;
@@ -125,6 +125,19 @@ impl StoreCommand<'_> {
                 | StoreCommand::Check
                 | StoreCommand::Info { .. }
         )
+    }
+}
+
+impl StoreRequest<'_> {
+    /// Returns whether the request makes a store or changes one: it is done before `ok` or its steps are written.
+    pub fn changes(&self) -> bool
+        ensures { result ≡ changes self.now }
+    {
+        match self {
+            StoreRequest::Format { .. } | StoreRequest::Copy { .. } => true,
+            StoreRequest::Salvage { .. } | StoreRequest::Replay(_) => false,
+            StoreRequest::Command { command, .. } => !command.only_reads(),
+        }
     }
 }
 

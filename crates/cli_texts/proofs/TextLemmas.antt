@@ -5,11 +5,13 @@ use Rattle.clap.specs.Words.{Text}
 use Rattle.cli_refusals.specs.declared.hint.Hint.{Hint}
 use Rattle.cli_refusals.specs.declared.refusal.Refusal.{Refusal}
 use Rattle.cli_refusals.specs.declared.refusal.Refusal.TheVariants.{Io}
+use Rattle.cli_refusals.specs.declared.refusal.Side.TheVariants.{Output}
+use Rattle.cli_refusals.specs.Known.{unchanging}
 use Rattle.cli_texts.specs.declared.own_texts.TheConstants.{VERSION}
 use Rattle.cli_texts.specs.declared.status.Ended.{Ended}
 use Rattle.cli_texts.specs.declared.status.Status.{Status}
 use Rattle.cli_texts.specs.declared.status.Status.TheVariants.{Done, Refused}
-use Rattle.cli_texts.specs.Ending.{HasReported, HasReportedHint, HintsText, IsIo, TellsRefusal}
+use Rattle.cli_texts.specs.Ending.{HasReported, HasReportedHint, HintsText, IsOutput, TellsRefusal}
 use Rattle.cli_texts.specs.OwnTexts.{asks_version, own_text}
 use Rattle.cli_texts.specs.declared.telling.Audience.{Audience}
 use Rattle.cli_texts.specs.Reported.{IfRefused, IsWrong}
@@ -26,7 +28,7 @@ own_version arguments asks = rw asks refl
 
 -- arguments that are reported to be wrong leave the output
 pub wrong_reported : {W E : Type 0} (contents : E → Option (List ℕ)) (audience : Audience) (output : W) (errors errors' : E) (ended : Ended) → IsWrong ended.status
-    → TellsRefusal (told audience None) ended (contents errors) (contents errors') → HasReportedHint HintsText contents audience output output errors errors' ended
+    → TellsRefusal (told audience (unchanging None)) ended (contents errors) (contents errors') → HasReportedHint HintsText contents audience output output errors errors' ended
 wrong_reported contents audience output errors errors' ended (inl wrong) line = (
   None,
   subst (λ s. IfRefused s (HintsText None)) (sym wrong) tt,
@@ -34,7 +36,7 @@ wrong_reported contents audience output errors errors' ended (inl wrong) line = 
     silent = λ done. absurd (cc (wrong, done));
     listed = λ partly. absurd (cc (wrong, partly));
     nothing_written = λ _. refl;
-    quiet = subst (λ s. IfRefused s (λ refusal. refusal ≢ Io → output ≡ output)) (sym wrong) tt;
+    quiet = subst (λ s. IfRefused s (λ refusal. refusal ≢ Io Output → output ≡ output)) (sym wrong) tt;
     line = line;
   },
 )
@@ -45,7 +47,7 @@ wrong_reported contents audience output errors errors' ended (inr memory) line =
     silent = λ done. absurd (cc (memory, done));
     listed = λ partly. absurd (cc (memory, partly));
     nothing_written = λ _. refl;
-    quiet = subst (λ s. IfRefused s (λ refusal. refusal ≢ Io → output ≡ output)) (sym memory) (λ _. refl);
+    quiet = subst (λ s. IfRefused s (λ refusal. refusal ≢ Io Output → output ≡ output)) (sym memory) (λ _. refl);
     line = line;
   },
 )
@@ -61,7 +63,7 @@ help_given (Err e) status P given refused done = absurd (cc (refused, done))
 
 pub help_reported : {W E : Type 0} (contents : E → Option (List ℕ)) (audience : Audience) (hint : Option Hint) (output output' : W) (errors errors' : E) (written : Result (Unit {0}) Refusal) (ended : Ended)
     → (IsOk written → (ended.status ≡ Done) × (errors' ≡ errors) × IsTrue ended.is_reported) → IfErr written (λ refusal. ended.status ≡ Refused refusal)
-    → IfErr written (λ refusal. refusal ≢ Io → output' ≡ output) → IfErr written (HintsText hint) → TellsRefusal (told audience hint) ended (contents errors) (contents errors')
+    → IfErr written (λ refusal. refusal ≢ Io Output → output' ≡ output) → IfErr written (HintsText hint) → TellsRefusal (told audience (unchanging hint)) ended (contents errors) (contents errors')
     → HasReportedHint HintsText contents audience output output' errors errors' ended
 help_reported contents audience hint output output' errors errors' (Ok unit) ended ok err quiet hints line = let is = ok refl in (
   hint,
@@ -70,7 +72,7 @@ help_reported contents audience hint output output' errors errors' (Ok unit) end
     silent = λ _. (refl, is.1, is.2);
     listed = λ partly. absurd (cc (is.0, partly));
     nothing_written = λ wrong. absurd (cc (is.0, wrong));
-    quiet = subst (λ s. IfRefused s (λ refusal. refusal ≢ Io → output' ≡ output)) (sym is.0) tt;
+    quiet = subst (λ s. IfRefused s (λ refusal. refusal ≢ Io Output → output' ≡ output)) (sym is.0) tt;
     line = line;
   },
 )
@@ -81,7 +83,7 @@ help_reported contents audience hint output output' errors errors' (Err e) ended
     silent = λ done. absurd (cc (err, done));
     listed = λ partly. absurd (cc (err, partly));
     nothing_written = λ wrong. absurd (cc (err, wrong));
-    quiet = subst (λ s. IfRefused s (λ refusal. refusal ≢ Io → output' ≡ output)) (sym err) quiet;
+    quiet = subst (λ s. IfRefused s (λ refusal. refusal ≢ Io Output → output' ≡ output)) (sym err) quiet;
     line = line;
   },
 )

@@ -5,6 +5,9 @@ use Rattle.cli_refusals.specs.declared.hint.Hint.{Hint}
 use Rattle.cli_refusals.specs.declared.hint.Hint.TheVariants as hints
 use Rattle.cli_refusals.specs.declared.refusal.Refusal.{Refusal}
 use Rattle.cli_refusals.specs.declared.refusal.Refusal.TheVariants.{Io, OutOfMemory}
+use Rattle.cli_refusals.specs.declared.refusal.Side.TheVariants.{Output}
+use Rattle.cli_refusals.specs.declared.known.Known.{Known}
+use Rattle.cli_refusals.specs.Known.{unchanging}
 use Rattle.cli_texts.specs.declared.status.Ended.{Ended}
 use Rattle.cli_texts.specs.declared.status.Status.{Status}
 use Rattle.cli_texts.specs.declared.status.Status.TheVariants.{Done, PartlyDone, Refused, WrongArguments}
@@ -15,7 +18,7 @@ use Rattle.cli_texts.specs.Told.{told}
 
 -- why one of the program's own texts is not written: the output failed, or memory was refused
 abbrev pub IsOfOutput : Refusal → Type 0
-IsOfOutput Io = Unit {0}
+IsOfOutput (Io Output) = Unit {0}
 IsOfOutput OutOfMemory = Unit {0}
 IsOfOutput _ = ⊥
 
@@ -34,13 +37,13 @@ GivesSome contents contents' = (text : List ℕ) × (0 < length text) × Appends
 abbrev pub TellsRefusal : (tells : Refusal → List ℕ) → Ended → Option (List ℕ) → Option (List ℕ) → Type 0
 TellsRefusal tells ended errors errors' = IfRefused ended.status (λ refusal. IsTrue ended.is_reported → Appends errors errors' (tells refusal))
 
--- a read or a write failed
-abbrev pub IsIo : Refusal → Type 0
-IsIo refusal = refusal ≡ Io
+-- the output failed
+abbrev pub IsOutput : Refusal → Type 0
+IsOutput refusal = refusal ≡ Io Output
 
--- a run that has ended, whatever it was asked for: what was reported to an audience, with a hint; which segments were left out; and after which
+-- a run that has ended, whatever it was asked for: what was reported to an audience, with what is known; which segments were left out; and after which
 -- refusals some output may be written
-pub record HasReported {W E : Type 0} (contents : E → Option (List ℕ)) (audience : Audience) (hint : Option Hint) (left : List (ℕ × ℕ))
+pub record HasReported {W E : Type 0} (contents : E → Option (List ℕ)) (audience : Audience) (known : Known) (left : List (ℕ × ℕ))
     (writes_part : Refusal → Type 0) (output output' : W) (errors errors' : E) (ended : Ended) : Type 0 where
   -- a run that is done leaves nothing out and reports nothing, which counts as reported
   pub silent : ended.status ≡ Done → (left ≡ []) × (errors' ≡ errors) × IsTrue ended.is_reported
@@ -49,16 +52,17 @@ pub record HasReported {W E : Type 0} (contents : E → Option (List ℕ)) (audi
   pub nothing_written : ended.status ≡ WrongArguments → output' ≡ output
   -- a refused run has written nothing, except after these refusals
   pub quiet : IfRefused ended.status (λ refusal. ¬ writes_part refusal → output' ≡ output)
-  pub line : TellsRefusal (told audience hint) ended (contents errors) (contents errors')
+  pub line : TellsRefusal (told audience known) ended (contents errors) (contents errors')
 
 -- what may be hinted of one of the program's own texts or of help: why the output failed
 abbrev pub HintsText : Option Hint → Refusal → Type 0
 HintsText None refusal = Unit {0}
-HintsText (Some (hints.Output reason)) refusal = IsIo refusal
+HintsText (Some (hints.Output reason)) refusal = IsOutput refusal
 HintsText (Some hint) refusal = ⊥
 
--- a run that leaves nothing out, and writes a part of its output only if a read or a write failed; a refusal is reported with one of these hints or none
+-- a run that changes nothing and leaves nothing out, and writes a part of its output only if that failed; a refusal is reported with one of these hints or
+-- none
 abbrev pub HasReportedHint : {W E : Type 0} → (may_hint : Option Hint → Refusal → Type 0) → (contents : E → Option (List ℕ)) → Audience → (output output' : W)
     → (errors errors' : E) → Ended → Type 0
 HasReportedHint may_hint contents audience output output' errors errors' ended =
-    (hint : Option Hint) × IfRefused ended.status (may_hint hint) × HasReported contents audience hint [] IsIo output output' errors errors' ended
+    (hint : Option Hint) × IfRefused ended.status (may_hint hint) × HasReported contents audience (unchanging hint) [] IsOutput output output' errors errors' ended

@@ -72,7 +72,7 @@ Options:
   -h, --help  Print help
 
 Each command has its own help, with an example: 'arrowstore COMMAND --help'
-What each refusal means, and what to do: arrowstore help refusals
+What each refusal means, and what to do: arrowstore help refusals, or help S8 for one
 The version: arrowstore --version
 ",
 ];

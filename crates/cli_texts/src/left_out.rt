@@ -20,7 +20,7 @@ pub fn tell_left_out<E: Write>(place: u64, rows: u64, errors: &mut E) -> io::Res
     writeln!(errors, "left out segment {place} with {rows} rows")
 }
 
-/// Reports to a person, after the segments that are left out, what the stream lacks.
+/// Reports to a person or a script, after the segments that are left out, what the stream lacks.
 ///
 /// # Errors
 /// Those of the writer.
@@ -29,6 +29,6 @@ pub fn tell_lacking<E: Write>(audience: Audience, errors: &mut E) -> io::Result<
 {
     match audience {
         Audience::Program | Audience::Departed => Ok(()),
-        Audience::Terminal => writeln!(errors, "{STREAM_LACKS_THEM}"),
+        Audience::Terminal | Audience::Script => writeln!(errors, "{STREAM_LACKS_THEM}"),
     }
 }

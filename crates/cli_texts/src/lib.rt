@@ -4,10 +4,10 @@
 //! on a terminal also what to do. [`end_output`] does the same for a run with an output, whose reader may be gone ([`Output`], [`WatchedOutput`]), and
 //! [`end_text`] for one that only writes a text: a terminal is told why the output failed.
 //! [`tell_left_out`] and [`tell_lacking`] report what a salvage leaves out.
-//! [`write_own_text`] writes the version, the meaning of each refusal, or the help that lists all commands.
+//! [`write_own_text`] writes the version, the meaning of each refusal, or the help that lists all commands, and [`write_entry`] the meaning of one.
 //!
 //! ```
-//! let ended = end(Err(Refusal::Io), None, Audience::Program, &mut errors); // `errors` has the line `refused G1 Io`
+//! let ended = end(Err(Refusal::BadSize), Known::unchanging(None), Audience::Program, &mut errors); // `errors` has the line `refused G2 BadSize`
 //! assert_eq!(ended.status.code(), 1);
 //! ```
 #![tactic(auto)]
@@ -28,7 +28,8 @@ pub use left_out::{tell_lacking, tell_left_out};
 pub use own_texts::{VERSION, is_own, is_version_word, write_own_text};
 pub use reasons::{failure_of, system_text};
 pub use reports::{
-    end, end_output, end_text, report_arguments, report_signed_number, report_wrong_arguments,
+    end, end_output, end_text, report_arguments, report_signed_number, report_stream_to_terminal,
+    report_wrong_arguments, write_entry,
 };
 pub use status::{Ended, Status};
 pub use telling::{Audience, Output, audience_after_output};

@@ -6,7 +6,7 @@ ghost use Rattle.cli_texts.specs.OwnTexts.{is_version_word, is_refusals_topic, i
 ghost use Rattle.cli_texts.specs.OwnTexts.{asks_version, asks_refusals, asks_commands, is_own, own_text};
 
 use crate::help_page;
-use cli_refusals::{Refusal, refusals_page, write_whole};
+use cli_refusals::{Refusal, Side, refusals_page, write_whole};
 use std::alloc::Global;
 use std::convert::AsStr;
 use std::io::Write;
@@ -87,7 +87,7 @@ pub fn write_own_text<S: AsStr, W: Write>(
 ) -> Result<(), Refusal>
     ensures written { OnOk result (Appends (W.contents output.old) (W.contents output.new) (own_text (map S.text arguments.now))) }
     ensures refused { IfErr result IsOfOutput }
-    ensures silent { IfErr result (λ refusal. refusal ≢ Refusal.Io → output.new ≡ output.old) }
+    ensures silent { IfErr result (λ refusal. refusal ≢ Refusal.Io Side.Output → output.new ≡ output.old) }
 {
     if asks_version(arguments) {
         return write_whole(output, VERSION.as_bytes());

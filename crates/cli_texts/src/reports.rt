@@ -2,6 +2,7 @@
 ghost use Rattle.std.specs.Prelude.{◌≡◌, ◌≢◌, ◌⊎◌, Option, None, IsOk, IsTrue, IfErr, OnOk, codes};
 ghost use Rattle.std.specs.Io.KnownBytes.{Appends};
 ghost use Rattle.clap.specs.Words.{kind_of};
+ghost use Rattle.cli_refusals.specs.Known.{unchanging};
 ghost use Rattle.cli_refusals.specs.declared.hint.Hint.{Hint};
 ghost use Rattle.cli_texts.specs.Reported.{IsRequest, IsWrong};
 ghost use Rattle.cli_texts.specs.Ending.{GivesSome, HintsText, IsOfOutput, TellsRefusal, HasReportedHint};
@@ -10,21 +11,43 @@ ghost use Rattle.cli_texts.specs.Told.{audience_after_output, told};
 use crate::telling::{audience_after_output, tell};
 use crate::{Audience, Ended, Output, Status, system_text};
 use clap::error::ErrorKind;
-use cli_refusals::{Hint, Refusal, write_whole};
+use cli_refusals::{Hint, Known, Refusal, Side, entry_of, write_whole};
 use std::alloc::Global;
 use std::io::Write;
+
+// Writes a text that is not empty.
+fn write_some<W: Write>(text: &str, output: &mut W) -> Result<(), Refusal>
+    ensures written { OnOk result (GivesSome (W.contents output.old) (W.contents output.new)) }
+    ensures refused { IfErr result IsOfOutput }
+    ensures silent { IfErr result (λ refusal. refusal ≢ Refusal.Io Side.Output → output.new ≡ output.old) }
+{
+    if text.is_empty() {
+        return Err(Refusal::Io(Side::Output));
+    }
+    write_whole(output, text.as_bytes())
+}
 
 // Writes a help text. `clap` does not promise that there is one, so an empty text is an error.
 fn write_help<W: Write>(alloc: Global, error: &clap::Error, output: &mut W) -> Result<(), Refusal>
     ensures written { OnOk result (GivesSome (W.contents output.old) (W.contents output.new)) }
     ensures refused { IfErr result IsOfOutput }
-    ensures silent { IfErr result (λ refusal. refusal ≢ Refusal.Io → output.new ≡ output.old) }
+    ensures silent { IfErr result (λ refusal. refusal ≢ Refusal.Io Side.Output → output.new ≡ output.old) }
 {
     let help = format!(in alloc; "{error}")?;
-    if help.is_empty() {
-        return Err(Refusal::Io);
-    }
-    write_whole(output, help.as_bytes())
+    write_some(help.as_str(), output)
+}
+
+/// Writes what the page of refusals says of a code that it has an entry for, and nothing else.
+///
+/// # Errors
+/// `OutOfMemory`: nothing is written; `Io` of the output if that fails: some of the text may be written.
+pub fn write_entry<W: Write>(alloc: Global, code: &str, output: &mut W) -> Result<(), Refusal>
+    ensures written { OnOk result (GivesSome (W.contents output.old) (W.contents output.new)) }
+    ensures refused { IfErr result IsOfOutput }
+    ensures silent { IfErr result (λ refusal. refusal ≢ Refusal.Io Side.Output → output.new ≡ output.old) }
+{
+    let entry = entry_of(alloc, code)?;
+    write_some(entry.as_str(), output)
 }
 
 /// Reports an error of `clap`: a mistake goes to `errors`, and help to `output`.
@@ -39,7 +62,7 @@ pub fn report_arguments<W: Write + Output, E: Write>(
     // Help that was asked for is written, and nothing else.
     ensures helps { result.status ≡ Status.Done → GivesSome (W.contents output.old) (W.contents output.new) }
     ensures memory { kind_of error.now ≡ ErrorKind.OutOfMemory → (result.status ≡ Status.Refused Refusal.OutOfMemory) × (output.new ≡ output.old) }
-    // A terminal may be told why the output failed.
+    // A terminal or a script may be told why the output failed.
     ensures reports { HasReportedHint HintsText E.contents (audience_after_output audience (W.unread output.new)) output.old output.new errors.old
         errors.new result }
 {
@@ -61,7 +84,7 @@ pub fn report_wrong_arguments<W: Output, E: Write>(
 ) -> Ended
     ensures wrong { IsWrong result.status }
     ensures memory { kind_of error.now ≡ ErrorKind.OutOfMemory → result.status ≡ Status.Refused Refusal.OutOfMemory }
-    ensures line { TellsRefusal (told (audience_after_output audience (W.unread output.now)) None) result (E.contents errors.old) (E.contents errors.new) }
+    ensures line { TellsRefusal (told (audience_after_output audience (W.unread output.now)) (unchanging None)) result (E.contents errors.old) (E.contents errors.new) }
 {
     match error.kind() {
         ErrorKind::OutOfMemory => {
@@ -86,7 +109,23 @@ pub fn report_signed_number<E: Write>(errors: &mut E) -> Ended
     }
 }
 
-/// `end` for a run that has written to an output: if its reader is gone, a terminal does not show that the output failed.
+/// Reports that a stream was to be written to a terminal, which makes the arguments wrong.
+pub fn report_stream_to_terminal<E: Write>(errors: &mut E) -> Ended
+    ensures wrong { result.status ≡ Status.WrongArguments }
+    ensures told { IsTrue result.is_reported
+        → Appends (E.contents errors.old) (E.contents errors.new) (codes "error: no stream is written to a terminal: give `> FILE` or a pipe\n") }
+{
+    Ended {
+        status: Status::WrongArguments,
+        is_reported: writeln!(
+            errors,
+            "error: no stream is written to a terminal: give `> FILE` or a pipe"
+        )
+        .is_ok(),
+    }
+}
+
+/// `end` for a run that has written to an output and changes nothing: if its reader is gone, nobody is told that the output failed, except a script.
 pub fn end_output<W: Output, E: Write>(
     done: Result<(), Refusal>,
     hint: Option<Hint<'_>>,
@@ -96,22 +135,23 @@ pub fn end_output<W: Output, E: Write>(
 ) -> Ended
     ensures done { IsOk done → (result.status ≡ Status.Done) × (errors.new ≡ errors.old) × IsTrue result.is_reported }
     ensures refused { IfErr done (λ refusal. result.status ≡ Status.Refused refusal) }
-    ensures line { TellsRefusal (told (audience_after_output audience (W.unread output.now)) hint.entry) result (E.contents errors.old)
+    ensures line { TellsRefusal (told (audience_after_output audience (W.unread output.now)) (unchanging hint.entry)) result (E.contents errors.old)
         (E.contents errors.new) }
 {
-    end(done, hint, audience_after_output(audience, output), errors)
+    let known = Known::unchanging(hint);
+    end(done, known, audience_after_output(audience, output), errors)
 }
 
 // Returns the system's reason for a failed write, if a person reads it and memory is not refused.
 fn reason_of_output<W: Output>(alloc: Global, audience: Audience, output: &W) -> Option<String> {
-    match audience_after_output(audience, output) {
-        Audience::Terminal => system_text(alloc, &output.failure()?),
-        Audience::Program | Audience::Departed => None,
+    if !audience_after_output(audience, output).is_advised() {
+        return None;
     }
+    system_text(alloc, &output.failure()?)
 }
 
 fn hint_of_output(reason: &Option<String>) -> Option<Hint<'_>>
-    ensures { HintsText result Refusal.Io }
+    ensures { HintsText result (Refusal.Io Side.Output) }
 {
     match reason {
         Some(reason) => Some(Hint::Output(reason.as_str())),
@@ -119,7 +159,7 @@ fn hint_of_output(reason: &Option<String>) -> Option<Hint<'_>>
     }
 }
 
-/// `end_output` for a run that writes a text: a terminal is told why the output failed.
+/// `end_output` for a run that writes a text: a terminal or a script is told why the output failed.
 pub fn end_text<W: Output, E: Write>(
     alloc: Global,
     written: Result<(), Refusal>,
@@ -130,10 +170,10 @@ pub fn end_text<W: Output, E: Write>(
     ensures done { IsOk written → (result.status ≡ Status.Done) × (errors.new ≡ errors.old) × IsTrue result.is_reported }
     ensures refused { IfErr written (λ refusal. result.status ≡ Status.Refused refusal) }
     ensures line { (hint : Option Hint) × IfErr written (HintsText hint)
-        × TellsRefusal (told (audience_after_output audience (W.unread output.now)) hint) result (E.contents errors.old) (E.contents errors.new) }
+        × TellsRefusal (told (audience_after_output audience (W.unread output.now)) (unchanging hint)) result (E.contents errors.old) (E.contents errors.new) }
 {
     match written {
-        Err(Refusal::Io) => {
+        Err(Refusal::Io(Side::Output)) => {
             let reason = reason_of_output(alloc, audience, output);
             end_output(written, hint_of_output(&reason), audience, output, errors)
         }
@@ -141,16 +181,16 @@ pub fn end_text<W: Output, E: Write>(
     }
 }
 
-/// Reports how a run ended: a refusal, with a hint at what is refused if there is one.
+/// Reports how a run ended: a refusal, with what is known of it.
 pub fn end<E: Write>(
     done: Result<(), Refusal>,
-    hint: Option<Hint<'_>>,
+    known: Known<'_>,
     audience: Audience,
     errors: &mut E,
 ) -> Ended
     ensures done { IsOk done → (result.status ≡ Status.Done) × (errors.new ≡ errors.old) × IsTrue result.is_reported }
     ensures refused { IfErr done (λ refusal. result.status ≡ Status.Refused refusal) }
-    ensures line { TellsRefusal (told audience hint.entry) result (E.contents errors.old) (E.contents errors.new) }
+    ensures line { TellsRefusal (told audience known.entry) result (E.contents errors.old) (E.contents errors.new) }
 {
     match done {
         Ok(()) => Ended {
@@ -159,7 +199,7 @@ pub fn end<E: Write>(
         },
         Err(refusal) => Ended {
             status: Status::Refused(refusal),
-            is_reported: tell(refusal, hint, audience, errors).is_ok(),
+            is_reported: tell(refusal, known, audience, errors).is_ok(),
         },
     }
 }

@@ -1,10 +1,10 @@
 // Reports a refusal to its audience.
-ghost use Rattle.std.specs.Prelude.{◌≡◌, Bool, [], if◌then◌else◌, OnOk};
+ghost use Rattle.std.specs.Prelude.{◌≡◌, ◌++◌, Bool, [], if◌then◌else◌, OnOk};
 ghost use Rattle.std.specs.Io.KnownBytes.{Appends};
 ghost use Rattle.cli_texts.specs.Reported.{refusal_line};
-ghost use Rattle.cli_texts.specs.Told.{audience_after_output, is_io, told};
+ghost use Rattle.cli_texts.specs.Told.{audience_after_output, is_advised, is_unheard, remedy_line, told, word_front};
 
-use cli_refusals::{Hint, Refusal};
+use cli_refusals::{Known, Refusal, Side};
 use std::io::{self, IsTerminal, Write};
 
 /// Who reads the report of a refusal.
@@ -14,8 +14,10 @@ pub enum Audience {
     Program,
     /// A person at a terminal, who also gets a line that says what to do.
     Terminal,
-    /// A person at a terminal where the reader of the output is gone: gets nothing about a failed read or write, and only the line of any other
-    /// refusal.
+    /// A program that asks for the second line too, which begins with the word of the refusal.
+    Script,
+    /// A program or a person, where the reader of the output is gone, as `head` once it has its lines: gets no more than the line of the refusal, and
+    /// nothing if only the output failed and nothing was changed.
     Departed,
 }
 
@@ -27,6 +29,13 @@ impl Audience {
         } else {
             Audience::Program
         }
+    }
+
+    /// Returns whether the report has a second line, and so whether its causes are asked for.
+    pub fn is_advised(self) -> bool
+        ensures { result ≡ is_advised self }
+    {
+        matches!(self, Audience::Terminal | Audience::Script)
     }
 }
 
@@ -43,20 +52,25 @@ pub trait Output {
     fn failure(&self) -> Option<io::Error>;
 }
 
-/// Returns who reads the report of a run that has written to an output: a person who has closed it, as by `head`, knows that it failed.
+/// Returns who reads the report of a run that has written to an output: whoever has closed it, as `head` does, knows that it failed. A script that asks
+/// for words gets them all the same.
 pub fn audience_after_output<W: Output>(audience: Audience, output: &W) -> Audience
     ensures { result ≡ audience_after_output audience (W.unread output.now) }
 {
     match (audience, output.is_unread()) {
-        (Audience::Terminal, true) => Audience::Departed,
+        (Audience::Program | Audience::Terminal, true) => Audience::Departed,
         _ => audience,
     }
 }
 
-fn is_io(refusal: Refusal) -> bool
-    ensures { result ≡ is_io refusal }
+// Returns whether only the output failed, of a command that changes nothing.
+fn is_unheard(refusal: Refusal, changes: bool) -> bool
+    ensures { result ≡ is_unheard refusal changes }
 {
-    matches!(refusal, Refusal::Io)
+    match refusal {
+        Refusal::Io(Side::Output) => !changes,
+        _ => false,
+    }
 }
 
 #[tactic(auto, unfolding(crate::specs::Reported::refusal_line))]
@@ -66,37 +80,59 @@ fn tell_line<E: Write>(refusal: Refusal, errors: &mut E) -> io::Result<()>
     writeln!(errors, "refused {refusal}")
 }
 
-// Reports any refusal except a failed read or write.
-fn tell_unless_io<E: Write>(refusal: Refusal, errors: &mut E) -> io::Result<()>
-    ensures { OnOk result (Appends (E.contents errors.old) (E.contents errors.new) (if is_io refusal then [] else refusal_line refusal)) }
+// Reports any refusal except that of an output that nobody reads and that leaves nothing to be told.
+fn tell_if_heard<E: Write>(refusal: Refusal, changes: bool, errors: &mut E) -> io::Result<()>
+    ensures { OnOk result (Appends (E.contents errors.old) (E.contents errors.new)
+        (if is_unheard refusal changes then [] else refusal_line refusal)) }
 {
-    if is_io(refusal) {
+    if is_unheard(refusal, changes) {
         Ok(())
     } else {
         tell_line(refusal, errors)
     }
 }
 
-/// Reports a refusal, with a hint at what is refused if there is one.
-#[tactic(auto, unfolding(crate::specs::Told::told, crate::specs::Told::remedy_line, crate::specs::Reported::refusal_line))]
+// Writes what is refused, if it is known, and what to do.
+#[tactic(auto, unfolding(crate::specs::Told::remedy_line))]
+fn tell_remedy<E: Write>(refusal: Refusal, known: Known<'_>, errors: &mut E) -> io::Result<()>
+    ensures { OnOk result (Appends (E.contents errors.old) (E.contents errors.new) (remedy_line known.entry refusal)) }
+{
+    let remedy = known.remedy(refusal);
+    match known.hint {
+        None => writeln!(errors, "{remedy}"),
+        Some(hint) => writeln!(errors, "{hint}{remedy}"),
+    }
+}
+
+// The same after the word of the refusal.
+fn tell_word<E: Write>(refusal: Refusal, known: Known<'_>, errors: &mut E) -> io::Result<()>
+    ensures { OnOk result (Appends (E.contents errors.old) (E.contents errors.new) (word_front known.entry refusal ++ remedy_line known.entry refusal)) }
+{
+    let word = refusal.word(known);
+    write!(errors, "{word}: ")?;
+    tell_remedy(refusal, known, errors)
+}
+
+/// Reports a refusal, with what is known of it.
+#[tactic(auto, unfolding(crate::specs::Told::told))]
 pub(crate) fn tell<E: Write>(
     refusal: Refusal,
-    hint: Option<Hint<'_>>,
+    known: Known<'_>,
     audience: Audience,
     errors: &mut E,
 ) -> io::Result<()>
-    ensures { OnOk result (Appends (E.contents errors.old) (E.contents errors.new) (told audience hint.entry refusal)) }
+    ensures { OnOk result (Appends (E.contents errors.old) (E.contents errors.new) (told audience known.entry refusal)) }
 {
-    match (audience, hint) {
-        (Audience::Program, _) => tell_line(refusal, errors),
-        (Audience::Departed, _) => tell_unless_io(refusal, errors),
-        (Audience::Terminal, None) => {
-            let remedy = refusal.remedy();
-            writeln!(errors, "refused {refusal}\n{remedy}")
+    match audience {
+        Audience::Program => tell_line(refusal, errors),
+        Audience::Departed => tell_if_heard(refusal, known.changes, errors),
+        Audience::Terminal => {
+            tell_line(refusal, errors)?;
+            tell_remedy(refusal, known, errors)
         }
-        (Audience::Terminal, Some(hint)) => {
-            let remedy = hint.remedy(refusal);
-            writeln!(errors, "refused {refusal}\n{hint}{remedy}")
+        Audience::Script => {
+            tell_line(refusal, errors)?;
+            tell_word(refusal, known, errors)
         }
     }
 }

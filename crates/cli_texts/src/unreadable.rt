@@ -3,11 +3,12 @@ ghost use Rattle.std.specs.Prelude.{◌≡◌, ◌≢◌, None, IsTrue, codes};
 ghost use Rattle.std.specs.Io.KnownBytes.{Appends};
 ghost use Rattle.std.specs.IoError.{error_kind};
 ghost use Rattle.cli_texts.specs.Ending.{TellsRefusal};
+ghost use Rattle.cli_refusals.specs.Known.{unchanging};
 ghost use Rattle.cli_texts.specs.Told.{told};
 
 use crate::reports::end;
 use crate::{Audience, Ended, Status};
-use cli_refusals::Refusal;
+use cli_refusals::{Known, Refusal};
 use std::io;
 use std::io::{ErrorKind, Write};
 
@@ -19,12 +20,13 @@ pub fn report_unreadable_arguments<E: Write>(
 ) -> Ended
     ensures memory { error_kind error.now ≡ ErrorKind.OutOfMemory → result.status ≡ Status.Refused Refusal.OutOfMemory }
     ensures text { error_kind error.now ≢ ErrorKind.OutOfMemory → result.status ≡ Status.WrongArguments }
-    ensures line { TellsRefusal (told audience None) result (E.contents errors.old) (E.contents errors.new) }
+    ensures line { TellsRefusal (told audience (unchanging None)) result (E.contents errors.old) (E.contents errors.new) }
     ensures told { error_kind error.now ≢ ErrorKind.OutOfMemory → IsTrue result.is_reported
         → Appends (E.contents errors.old) (E.contents errors.new) (codes "error: an argument is not UTF-8\n") }
 {
     if error.kind() == ErrorKind::OutOfMemory {
-        return end(Err(Refusal::OutOfMemory), None, audience, errors);
+        let known = Known::unchanging(None);
+        return end(Err(Refusal::OutOfMemory), known, audience, errors);
     }
     Ended {
         status: Status::WrongArguments,

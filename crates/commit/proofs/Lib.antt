@@ -6,3 +6,4 @@ pub mod Formatted
 pub mod Told
 pub mod Counted
 pub mod Reordered
+pub mod Called

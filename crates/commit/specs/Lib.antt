@@ -8,5 +8,6 @@ pub mod Formatting
 pub mod Placing
 pub mod Opening
 pub mod Told
+pub mod InOrder
 pub mod laws
 pub mod inner

@@ -7,6 +7,7 @@ ghost use Rattle.commit.specs.Agreeing.{commits_agree};
 ghost use Rattle.commit.specs.Standing.{is_size};
 ghost use Rattle.commit.specs.Formatting.{HasNoCommit, IsFormatting, IsFormatted, IsMadeEmpty, CountsFormat, first_commit};
 ghost use Rattle.commit.specs.Placing.{Uses};
+ghost use Rattle.commit.specs.InOrder.{AreDone, OneFails, clearing_calls, beginning_calls, formatting_calls, FormatsInOrder, FailsInOrder};
 ghost use Rattle.commit.specs.inner.Prepared.{IsPrepared, HasZeros, HasFirst, Begins, EndsBegun, Clears, EndsCleared};
 
 use crate::opening::read_ruling;
@@ -60,6 +61,8 @@ fn prepare<D: SectorDevice>(device: &mut D) -> Result<(), DevError>
     ensures prepared { OnOk result (D.tells ≡ true → HasNoCommit (now (D.story device.old)) → IsPrepared (now (D.story device.new))) }
     ensures begun { OnOk result (D.tells ≡ true → (now (D.story device.old)).writes ≤ (now (D.story device.new)).writes) }
     ensures zeros { OnOk result (D.tells ≡ true → HasZeros (shown_image (now (D.story device.old))) (shown_image (now (D.story device.new)))) }
+    ensures order { OnOk result (D.tells ≡ true → AreDone clearing_calls (D.story device.old) (D.story device.new)) }
+    ensures cut_short { OnErr result (D.tells ≡ true → OneFails clearing_calls (D.story device.old) (D.story device.new)) }
 {
     let zeros = [0u8; SECTOR_BYTES];
     device.write(0, &zeros)?;
@@ -79,6 +82,8 @@ fn begin<D: SectorDevice>(device: &mut D, version: FormatVersion) -> Result<(), 
     ensures formatted { OnOk result (D.tells ≡ true → EndsBegun (D.size device.old) version (D.story device.old) (D.story device.new)) }
     ensures first { OnOk result
         (D.tells ≡ true → HasFirst (D.size device.old) version (shown_image (now (D.story device.old))) (shown_image (now (D.story device.new)))) }
+    ensures order { OnOk result (D.tells ≡ true → AreDone (beginning_calls (D.size device.old) version) (D.story device.old) (D.story device.new)) }
+    ensures cut_short { OnErr result (D.tells ≡ true → OneFails (beginning_calls (D.size device.old) version) (D.story device.old) (D.story device.new)) }
 {
     let first = first_commit(device.sectors(), version);
     let sector = commit_sector(first);
@@ -98,6 +103,8 @@ fn clear_and_begin<D: SectorDevice>(device: &mut D, version: FormatVersion) -> R
     ensures formatted { OnOk result (D.tells ≡ true → EndsCleared (D.size device.old) version (D.story device.old) (D.story device.new)) }
     ensures made { OnOk result
         (D.tells ≡ true → IsMadeEmpty (D.size device.old) version (shown_image (now (D.story device.old))) (shown_image (now (D.story device.new)))) }
+    ensures order { OnOk result (D.tells ≡ true → AreDone (formatting_calls (D.size device.old) version) (D.story device.old) (D.story device.new)) }
+    ensures cut_short { OnErr result (D.tells ≡ true → OneFails (formatting_calls (D.size device.old) version) (D.story device.old) (D.story device.new)) }
 {
     device.sync()?;
     prepare(device)?;
@@ -147,6 +154,10 @@ pub fn format<D: SectorDevice>(
     ensures made { OnOk result
         (D.tells ≡ true → IsMadeEmpty (D.size device.old) version (shown_image (now (D.story device.old))) (shown_image (now (D.story device.new)))) }
     ensures agree { OnOk result (D.tells ≡ true → commits_agree (shown_image (now (D.story device.new))) ≡ true) }
+    // After reads come a sync, the writes of zeros, a sync, the write of the first commit and a sync, and no other call; after a failure of the device,
+    // those before the call that failed.
+    ensures order { OnOk result (D.tells ≡ true → FormatsInOrder (D.size device.old) version (D.story device.old) (D.story device.new)) }
+    ensures cut_short { IsErrOf result FormatError.Device → D.tells ≡ true → FailsInOrder (D.size device.old) version (D.story device.old) (D.story device.new) }
     ensures map_size { IfOk result (λ store. store.1.size ≡ D.size device.old) }
     ensures uses { IfOk result (λ store. Uses store.1.entries (store.0.catalogue.run ∷ []) []) }
 {

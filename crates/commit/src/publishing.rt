@@ -1,10 +1,11 @@
 // Publishes a new commit in place of the one that rules.
-ghost use Rattle.std.specs.Prelude.{◌≡◌, ◌<◌, ◌+◌, ◌^◌, ◌++◌, ℕ, true, OnOk, IfErr, vec_len};
+ghost use Rattle.std.specs.Prelude.{◌≡◌, ◌<◌, ◌+◌, ◌^◌, ◌++◌, ℕ, true, OnOk, OnErr, IfErr, vec_len};
 ghost use Rattle.sector_dev.specs.Disk.{Counts};
 ghost use Rattle.segments.specs.Pieces.{plain_pieces};
 ghost use Rattle.segments.specs.Writing.{runs_of};
 ghost use Rattle.commit.specs.Placing.{HasRoom, contents_of, plain_contents};
 ghost use Rattle.commit.specs.Publishing.{IsPlan, next_commit, Publishes, EndsPublished};
+ghost use Rattle.commit.specs.InOrder.{AreDone, OneFails, publishing_calls};
 ghost use Rattle.commit.specs.Replacing.{change_of, Replaces, LeavesEither, KeepsAgreement, EndsReplaced};
 
 use crate::placing::pieces_of;
@@ -75,6 +76,8 @@ fn write_and_commit<D: SectorDevice>(
     ensures error { IfErr result (λ e. e ≡ DevError.Failed) }
     ensures moments { D.tells ≡ true → Publishes old new (plain_pieces pieces.now) (D.story device.old) (D.story device.new) }
     ensures published { OnOk result (D.tells ≡ true → EndsPublished old new (plain_pieces pieces.now) (D.story device.old) (D.story device.new)) }
+    ensures order { OnOk result (D.tells ≡ true → AreDone (publishing_calls new (plain_pieces pieces.now)) (D.story device.old) (D.story device.new)) }
+    ensures cut_short { OnErr result (D.tells ≡ true → OneFails (publishing_calls new (plain_pieces pieces.now)) (D.story device.old) (D.story device.new)) }
 {
     write_runs(device, pieces)?;
     device.sync()?;
@@ -109,6 +112,12 @@ pub fn publish<C: ReadCatalogue, D: SectorDevice>(
     // After `Ok` the new store is in place, and everything is synced.
     ensures published { OnOk result
         (D.tells ≡ true → EndsReplaced C.reading (D.size device.old) (change_of C.plain_of old.now plan.now) (D.story device.old) (D.story device.new)) }
+    // Each sector of the pieces is written once, in order, then comes a sync, then the commit, then a sync, and no other call; after an error, those
+    // before the call that failed.
+    ensures order { OnOk result
+        (D.tells ≡ true → AreDone (publishing_calls plan.now.commit (plain_pieces plan.now.pieces.items)) (D.story device.old) (D.story device.new)) }
+    ensures cut_short { OnErr result
+        (D.tells ≡ true → OneFails (publishing_calls plan.now.commit (plain_pieces plan.now.pieces.items)) (D.story device.old) (D.story device.new)) }
 {
     write_and_commit(device, old.commit, plan.commit, &plan.pieces)
 }

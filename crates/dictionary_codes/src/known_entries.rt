@@ -275,8 +275,8 @@ impl<'a> KnownEntries<'a> {
     }
 
     /// Ends a column: forgets which entries are named. If more entries were seen than the limit, all is forgotten; the limit is lower if a dictionary was new.
-    pub(crate) fn end(&mut self)
-        ensures { self.new.named.items ≡ [] }
+    pub fn end(&mut self)
+        ensures { named_cells self.new ≡ [] }
     {
         self.clear();
         let most = if self.are_new {

@@ -8,6 +8,6 @@ mod limits;
 mod messages;
 mod types;
 
-pub use limits::{limits_of_metadata, limits_of_stores, limits_of_tables};
+pub use limits::{limits_of_metadata, limits_of_programs, limits_of_stores, limits_of_tables};
 pub use messages::numbers_of_messages;
 pub use types::{codes_of_supported_types, codes_of_types};

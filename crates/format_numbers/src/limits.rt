@@ -4,6 +4,8 @@ ghost use Rattle.arrays.specs.declared.limits.TheConstants.{MAX_SLOTS};
 ghost use Rattle.arrow_schema.specs.declared.limits.TheConstants.{MAX_DEPTH, MAX_FIELDS, MAX_PAIRS, MAX_TEXT_BYTES, NUMBER_END};
 ghost use Rattle.catalogue.specs.declared.limits.TheConstants.{MAX_NAME_BYTES, MAX_SEGMENTS, MAX_SEGMENT_ROWS, MAX_TABLES};
 ghost use Rattle.cells.specs.declared.limits.TheConstants.{MAX_PIECE_ROWS, MAX_PIECE_WEIGHT, MAX_ROW_WEIGHT, MAX_TABLE_WEIGHT};
+ghost use Rattle.cli_commands.specs.declared.input.TheConstants.{LARGEST_INPUT};
+ghost use Rattle.export_book.specs.declared.book.TheConstants.{MAX_EXPORTS};
 ghost use Rattle.flatbuf.specs.declared.limits.TheConstants.{MAX_BUFFER_BYTES, MAX_BUFFER_TABLES, MAX_LEVELS};
 ghost use Rattle.ipc_write.specs.declared.contents.TheConstants.{MAX_BATCH_BUFFERS, MAX_BATCH_NODES};
 ghost use Rattle.sector_dev.specs.declared.device.TheConstants.{SECTOR_BYTES};
@@ -43,4 +45,10 @@ pub fn limits_of_stores()
     ensures tables { MAX_TABLES ≡ 1024 }
     ensures segments { MAX_SEGMENTS ≡ 65536 }
     ensures import_bytes { MAX_IMPORT_BYTES ≡ 2147483647 }
+    ensures exports { MAX_EXPORTS ≡ 64 }
+{}
+
+/// The limit of what a command of the program reads: an input, a text or a script.
+pub fn limits_of_programs()
+    ensures largest_input { LARGEST_INPUT ≡ 2147483647 }
 {}

@@ -1,5 +1,6 @@
 mod Alone
 mod BufferLemmas
+mod Encoded
 mod Gathering
 mod Meant
 mod RunSteps

@@ -1,3 +1,4 @@
+pub mod Encoding
 pub mod Messages
 pub mod Stream
 pub mod Writing

@@ -2,7 +2,7 @@
 ghost use Rattle.std.specs.Prelude.{◌≡◌, ◌<◌, ◌^◌, ◌∷◌, ◌++◌, [], true, IfOk, OnOk, length, map};
 ghost use Rattle.std.specs.List.{AllByRecursion};
 ghost use Rattle.arrow_schema.specs.Limits.{IsWithinLimits};
-ghost use Rattle.arrow_schema.specs.View.{column_of, schema_of};
+ghost use Rattle.arrow_schema.specs.View.{schema_of};
 ghost use Rattle.ipc_canonical.specs.Canonical.{canonical, rows_messages};
 ghost use Rattle.ipc_canonical.specs.Pieces.{IsPieceOf};
 ghost use Rattle.ipc_canonical.specs.PieceStreams.{piece_stream, piece_streams, piece_counts};
@@ -18,8 +18,9 @@ ghost use Rattle.values.specs.TableView.{table_of};
 use crate::by_runs::{encode_parts, encode_parts_pieces, messages_of_parts};
 use crate::front::BatchFront;
 use crate::messages::write_piece;
+use crate::same_encoding::have_same_encodings;
 use crate::stream::{Stream, begin_stream, end_stream, into_bytes, into_parts};
-use arrow_schema::{Field, Schema};
+use arrow_schema::Schema;
 use batch_build::Buffer;
 use ipc_canonical::pieces_can_be_built;
 use ipc_write::encode_schema;
@@ -155,20 +156,6 @@ fn encode_piece<'a>(
     into_parts(before, stream)
 }
 
-fn are_same_fields(fields: &[Field], others: &[Field]) -> bool
-    ensures { result ≡ true → map column_of fields.now ≡ map column_of others.now }
-{
-    if fields.len() != others.len() {
-        return false;
-    }
-    for (i, field) in fields.iter().enumerate() {
-        if !field.equals(&others[i]) {
-            return false;
-        }
-    }
-    true
-}
-
 /// Appends the stream of a piece and its number of rows.
 pub(crate) fn push_stream<'a>(
     pieces: &mut EncodedPieces<'a>,
@@ -238,8 +225,8 @@ fn encode_rows_pieces<'a>(
 ///
 /// The caller makes sure that the rows are a table under this schema, as they are under the table's own. Fails only if memory is refused. A buffer
 /// that the table's bytes contain as it is written is not copied unless it is small. This takes the memory of all other buffers, and that of the
-/// schema's message once; and time linear in these and in the cells of the table if it is not kept in record batches of exactly these columns, or
-/// of pieces that have rows under several dictionaries that can be full within a piece (8 bit indices, or 16 bit ones below a list). The law
+/// schema's message once; and time linear in these and in the cells of the table if it is not kept in record batches of columns of these types and
+/// dictionaries, or of pieces that have rows under several dictionaries that can be full within a piece (8 bit indices, or 16 bit ones below a list). The law
 /// [`crate::pieces_are_tables`] says what the streams mean.
 ///
 /// # Errors
@@ -255,7 +242,7 @@ pub fn encode_pieces<'a>(
     ensures short { IfOk result (λ pieces. AllByRecursion (λ stream. length stream < 2 ^ 64) (streams_in pieces)) }
 {
     if let Some(parts) = table.parts() {
-        if are_same_fields(&schema.fields, &table.schema().fields) {
+        if have_same_encodings(&schema.fields, &table.schema().fields) {
             return encode_parts_pieces(alloc, schema, parts, table.len());
         }
     }

@@ -17,6 +17,7 @@ mod encoder;
 mod front;
 mod laws;
 mod messages;
+mod same_encoding;
 mod stream;
 mod writing;
 

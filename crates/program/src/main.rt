@@ -1,19 +1,20 @@
 //! The program `arrowstore`: passes the process's arguments, streams and files to the library of that name, and exits with its status. On a
 //! terminal, work that takes more than a second shows a line of progress.
 //!
-//! Status 0 means done, 1 refused, with a line `refused CODE NAME ..` on standard error, or done in part, and 2 wrong arguments. On a terminal the
-//! line is left out if the reader of the output is gone, as when `head` has its lines. With `ARROWSTORE_ADVICE=1` in the environment the report is that
-//! of a terminal everywhere.
+//! Status 0 means done, 1 refused, with a line `refused CODE NAME ..` on standard error, or done in part, and 2 wrong arguments. The line is left out
+//! if only the output failed of a command that changes nothing, and its reader is gone, as when `head` has its lines. On a terminal a second line says
+//! what to do. With `ARROWSTORE_ADVICE=1` in the environment both lines are written everywhere, and the second one begins with a word for scripts.
 #![tactic(auto)]
 
 mod progress;
 
 use arrowstore::{
-    Audience, Failures, KeptStart, WatchedOutput, report_unreadable_arguments, run_with_files,
+    Audience, Failures, KeptStart, WatchedOutput, report_stream_to_terminal,
+    report_unreadable_arguments, run_with_files, writes_stream,
 };
 use progress::{ProgressFiles, ProgressLine, ProgressReader, ProgressWriter, Target};
 use std::env::{self, Env};
-use std::io;
+use std::io::{self, IsTerminal};
 use std::process::ExitCode;
 
 fn main(rt: HostRuntime) -> ExitCode {
@@ -25,6 +26,7 @@ fn main(rt: HostRuntime) -> ExitCode {
     let failures = Failures::new();
     let mut errors = ProgressWriter::new(rt.stderr(), line.as_ref(), Target::Other);
     let ended = match arguments_of(&rt) {
+        Ok(arguments) if is_stream_shown(&rt, &arguments) => report_stream_to_terminal(&mut errors),
         Ok(arguments) => run_with_files(
             &ProgressFiles::new(&rt, line.as_ref(), noted_at(audience, &failures), target),
             arguments.as_slice(),
@@ -46,22 +48,28 @@ fn main(rt: HostRuntime) -> ExitCode {
     ExitCode::from(ended.code())
 }
 
-// Returns for whom to report: a program that reads standard error may ask to be told what a person at a terminal is.
+// Returns for whom to report: a program that reads standard error may ask for what a person at a terminal is told, after a word for programs.
 fn audience_of(rt: &HostRuntime, reader: Audience) -> Audience {
     // The variable is read into a buffer, since `env::var` takes memory.
     let mut value = [0; 2];
     match rt.var("ARROWSTORE_ADVICE", &mut value) {
-        Ok(1) if value[0] == b'1' => Audience::Terminal,
+        Ok(1) if value[0] == b'1' => Audience::Script,
         _ => reader,
     }
 }
 
-// Returns where failed calls on files are noted: only a terminal shows them.
+// Returns where failed calls on files are noted: only a second line shows them.
 fn noted_at(audience: Audience, failures: &Failures) -> Option<&Failures> {
-    match audience {
-        Audience::Terminal => Some(failures),
-        Audience::Program | Audience::Departed => None,
+    if audience.is_advised() {
+        Some(failures)
+    } else {
+        None
     }
+}
+
+// Returns whether a stream would be written to a terminal, which shows its bytes as whatever they mean to it.
+fn is_stream_shown(rt: &HostRuntime, arguments: &[String]) -> bool {
+    rt.stdout().is_terminal() && writes_stream(rt.alloc(), arguments)
 }
 
 fn arguments_of(rt: &HostRuntime) -> io::Result<Vec<String>> {

@@ -8,6 +8,7 @@ pub mod Joining
 pub mod Keeping
 pub mod Choosing
 pub mod Binding
+pub mod RefusedPlaces
 pub mod SelectionReports
 pub mod Numbers
 pub mod SlotFlags

@@ -4,6 +4,7 @@ pub mod Literal
 pub mod Bound
 pub mod Selection
 pub mod BoundQuery
+pub mod RefusedPlace
 pub mod Choice
 pub mod BatchArrays
 pub mod Line

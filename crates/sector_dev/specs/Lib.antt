@@ -5,6 +5,8 @@ pub mod Faults
 pub mod History
 pub mod Rows
 pub mod Buffer
+pub mod Behind
+pub mod FileHistory
 pub mod Written
 pub mod View
 pub mod laws

@@ -1,6 +1,6 @@
 // Devices of sectors of 512 bytes.
 ghost use Rattle.std.specs.Prelude.{◌≡◌, ◌≢◌, ◌<◌, ◌≤◌, ◌+◌, ◌^◌, ℕ, Bool, true, [], length, Some, None, OnOk, OnErr, IfErr, IsErrOf};
-ghost use Rattle.sector_dev.specs.Disk.{Story, now, moment, ShowsImage, Watches, Passes, Puts, FailsToPut, Flushes, Counts, Each, IsWhole};
+ghost use Rattle.sector_dev.specs.Disk.{Story, now, moment, ShowsImage, Passes, Puts, FailsToPut, Flushes, Counts, Each, IsWhole};
 ghost use Rattle.sector_dev.specs.Rows.{row_writes, GrowsBy, FailsAmong};
 
 use thiserror::Error;
@@ -53,7 +53,6 @@ pub trait SectorDevice {
         ensures size { size self.new ≡ size self.old }
         ensures count { Counts (failed self.old) (failed self.new) result }
         ensures story { tells ≡ true → Passes (story self.old) (story self.new) }
-        ensures begun { OnOk result (tells ≡ true → Watches (story self.old) (story self.new)) }
         ensures content { OnOk result (tells ≡ true → ((now (story self.old)).at n).shown ≡ Some to.new) }
         ensures unreadable { IsErrOf result DevError.Unreadable → tells ≡ true → ((now (story self.old)).at n).shown ≡ None };
 
@@ -98,6 +97,15 @@ pub trait SectorDevice {
         ensures error { IfErr result (λ e. e ≡ DevError.Failed) }
         ensures ok { OnOk result (tells ≡ true → Flushes (story self.old) (story self.new)) }
         ensures err { OnErr result (tells ≡ true → Passes (story self.old) (story self.new)) };
+
+    /// Drops the copies of these sectors that the system keeps beside the device, as far as none of them waits to be written: the next read of them
+    /// asks the device. All of them must be below `sectors()`. This is no call that can fail: a system that keeps its copies is as it was before.
+    fn forget(&mut self, _start: u64, _count: u64)
+        requires { _start + _count ≤ size self.old }
+        ensures size { size self.new ≡ size self.old }
+        ensures failed { failed self.new ≡ failed self.old }
+        ensures story { tells ≡ true → story self.new ≡ story self.old }
+    {}
 
     /// What reads return is among what a crash may leave.
     ghost shows: { (device : Self) → tells ≡ true → ShowsImage (now (story device)) };

@@ -4,7 +4,7 @@ use Rattle.std.proofs.Common.{◌≡◌, ◌≤◌, ◌<◌, ◌+◌, ◌-◌, �
 use Rattle.std.proofs.lemmas.Option.{none-some}
 use Rattle.std.specs.Int.{div_ceil}
 use Rattle.std.specs.Result.{IfErr}
-use Rattle.sector_dev.specs.Disk.{Image, Story, Counts, Passes, Watches}
+use Rattle.sector_dev.specs.Disk.{Image, Story, Counts, Passes}
 use Rattle.sector_dev.specs.declared.device.DevError.{DevError}
 use Rattle.sector_dev.specs.declared.device.DevError.TheVariants.{Failed as DeviceFailed, Unreadable as SectorUnreadable}
 use Rattle.segments.specs.declared.reading.ReadError.TheVariants.{Unreadable, OutOfMemory}
@@ -35,16 +35,16 @@ same_error r a b is other = cc
 pub told_of : {T E : Type 0} (P : E → Type 0) (r : Result T E) (e : E) → r ≡ Err e → P e → IfErr r P
 told_of P r e is p = subst (λ (x : Result _ _). IfErr x P) (sym is) p
 
--- a read adds two moments, or, where it fails before it began, none
-pub watched_length : (n i : ℕ) (b z : Story) → length b ≡ n + 2 * i → Watches b z → length z ≡ n + 2 * (i + 1)
-watched_length n i b z is w = let more = ap length w in omega (arith, is, more)
-
+-- a read adds two moments or none
 passed_length : (b z : Story) → Passes b z → length z ≤ length b + 2
 passed_length b z (inl same) = let more = ap length same in omega (arith, more)
 passed_length b z (inr w) = let more = ap length w in omega (arith, more)
 
+pub read_length : (n i : ℕ) (b z : Story) → length b ≤ n + 2 * i → Passes b z → length z ≤ n + 2 * (i + 1)
+read_length n i b z le passes = let more = passed_length b z passes in omega (arith, le, more)
+
 -- the reading ended at the sector after those that were read
-pub ends_at : (error : ReadError) (told : DevError) (image : Image) (start count i : ℕ) (front : List ℕ) (old mid new : Story) → i < count → joined image start i ≡ Some front → error ≡ read_error told → (told ≡ SectorUnreadable → image (start + i) ≡ None) → length mid ≡ length old + 2 * i → Passes mid new → EndsAtSector error image start count old new
+pub ends_at : (error : ReadError) (told : DevError) (image : Image) (start count i : ℕ) (front : List ℕ) (old mid new : Story) → i < count → joined image start i ≡ Some front → error ≡ read_error told → (told ≡ SectorUnreadable → image (start + i) ≡ None) → length mid ≤ length old + 2 * i → Passes mid new → EndsAtSector error image start count old new
 ends_at error told image start count i front old mid new lt found is unreadable so_far passes = record {
   at = i;
   within = lt;

@@ -35,7 +35,10 @@ use Rattle.store.specs.Fits.{setting_of, StoreFits, commit_of, listed_in, IsOnDi
 use Rattle.store.specs.Applying.{EndsAs, IsKept, IsCarryingAtEachMoment, IsCarriedOnDisk, IsApplyingAtEachMoment, IsDoneOnDisk, GoesOn}
 use Rattle.store_changes.specs.OnDisk.{HasDone, IsOldOrDone, IsApplying, HasCarried, IsOldOrCarried, IsTaking, IsCarrying}
 use Rattle.store_runs.specs.Carrying.{IsCarried}
-use Rattle.store_changes.specs.Verdicts.{IsVerdict, IsUndecided}
+use Rattle.store_changes.specs.Verdicts.{IsSingle, IsVerdict, IsUndecided}
+use Rattle.tables.specs.declared.command.Command.{Command}
+use Rattle.tables.specs.declared.command.Command.TheVariants.{Create, ImportStream, AppendStream, AppendRows, AppendTable, SaveAs, Rename, Drop}
+use Rattle.tables.specs.View.{command_of}
 use Rattle.store_changes.specs.laws.ReadTables.{reads_quiet}
 use Rattle.store.proofs.Asked.{still, not_running, refused_elsewhere}
 use Rattle.store.proofs.ReadsStore.{moments_read, stays_reading, halts_reading, spared_reading}
@@ -63,6 +66,17 @@ reads_nothing size story failed tells reply store quiet = record {
   book = refl;
   halts = sym (ap (λ (b : Bool). store.halted || b) quiet ∙ or_false store.halted);
 }
+
+-- a command of the code is no list
+pub single_command : (command : Command) → IsSingle (command_of command)
+single_command (Create new) = tt
+single_command (ImportStream name bytes) = tt
+single_command (AppendStream name bytes) = tt
+single_command (AppendRows name rows) = tt
+single_command (AppendTable name new) = tt
+single_command (SaveAs from to query) = tt
+single_command (Rename from to) = tt
+single_command (Drop name) = tt
 
 -- why a command is refused before anything is written, by where its refusal comes from
 abbrev RefusesFirst : Origin → Tables → PlainCommand → Refusal → Type 0

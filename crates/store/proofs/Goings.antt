@@ -29,7 +29,8 @@ use Rattle.store_runs.specs.Runs.{Goes}
 use Rattle.store_runs.specs.Held.{tables_held, held_tables, held_by}
 use Rattle.pages.specs.Stored.{stored_reading}
 use Rattle.store.specs.Fits.{book_of, setting_of, listed_in, ExportsFit, StoreFits, IsSound}
-use Rattle.store_runs.specs.Changes.{PlainChange, MakesOf, placed_segments}
+use Rattle.store_runs.specs.Changes.{PlainChange, IsOfCatalogue, MakesOf, placed_segments}
+use Rattle.store_changes.specs.laws.Decided.{of_decided}
 use Rattle.store_runs.specs.Deciding.{IsDecided}
 use Rattle.store.specs.Exported.{AreExportable}
 use Rattle.store_runs.specs.Carrying.{IsCarried, placed, commit_placed}
@@ -77,14 +78,14 @@ module _ {D : Type 0} {g : Ghosts D} (size : D → ℕ) (story : D → Story) (o
 -- ---- what its images hold
 
 module _ (size : ℕ) (used : Run → Type 0) (k : Commit) (c : PlainCatalogue) (before : Disk) (change : PlainChange) (t u : Tables)
-    (catalogue : IsCatalogue c) (held : tables_held (synced_image before) c ≡ Some t) (makes : MakesOf t change u) (image : Image) where
+    (catalogue : IsCatalogue c) (own : IsOfCatalogue c change.edit) (held : tables_held (synced_image before) c ≡ Some t) (makes : MakesOf t change u) (image : Image) where
   still_held : ((n : ℕ) → InSome (used_runs stored_reading k c) n → image n ≡ (before.at n).synced) → tables_held image c ≡ Some t
   still_held kept = same_tables (synced_image before) image c catalogue.entries (λ n within. kept n (inr within)) ∙ held
 
   pub made_held : ((n : ℕ) → InSome (used_runs stored_reading k c) n → image n ≡ (before.at n).synced) → (is : HasCarried size used k c change image)
       → tables_held image (placed k.version c change is.places) ≡ Some u
   made_held kept is =
-      placed_held image k.version c change is.places ∙ edited_held image c change t u (placed_segments k.version is.places change.streams change.counts) catalogue (still_held kept) makes is.holds
+      placed_held image k.version c change is.places ∙ edited_held image c change t u (placed_segments k.version is.places change.streams change.counts) catalogue own (still_held kept) makes is.holds
 
   pub either_held : IsOldOrCarried size used k c before change image → (held_by size image ≡ holds t) ⊎ (held_by size image ≡ holds u)
   either_held is = by_which is.which
@@ -121,12 +122,15 @@ module _ {D : Type 0} {g : Ghosts D} (size : D → ℕ) (story : D → Story) (f
   catalogue : IsCatalogue (listed_in old)
   catalogue = catalogue_is (listed_in old) old.opened.catalogue.list.kept
 
+  own : IsOfCatalogue (listed_in old) change.edit
+  own = of_decided (shown_image (now (story old.device))) (listed_in old) c change decided
+
   each : (image : Image) → IsOldOrCarried (size old.device) (IsUsedIn old.opened.map.entries) old.opened.commit (listed_in old) (now (story old.device)) change image → Allows s (meanwhile (apply_call c) m true) image
   unfolding Allows held_by
   each image is =
       ⊎_elim (λ (was : held_by (size old.device) image ≡ holds (after base m.settled)). inl was)
       (λ (will : held_by (size old.device) image ≡ holds u). inr (inl (will ∙ ap holds (new_after (size old.device) base m c u on makes))))
-      (either_held (size old.device) (IsUsedIn old.opened.map.entries) old.opened.commit (listed_in old) (now (story old.device)) change (after base m.settled) u catalogue sound.tables mk image is)
+      (either_held (size old.device) (IsUsedIn old.opened.map.entries) old.opened.commit (listed_in old) (now (story old.device)) change (after base m.settled) u catalogue own sound.tables mk image is)
 
   at_moment : (d : Disk) → IsCarrying (size old.device) (IsUsedIn old.opened.map.entries) old.opened.commit (listed_in old) (now (story old.device)) change d
       → LeavesOnly (Allows s (meanwhile (apply_call c) m (has_written (now (story old.device)) d))) d
@@ -155,7 +159,7 @@ module _ {D : Type 0} {g : Ghosts D} (size : D → ℕ) (story : D → Story) (f
       let image = synced_image s1 in
       let is = (last_moment size story base m old new sound change carries).leaves image (own_image s1) in
       let tables : tables_held image (listed_in new) ≡ Some u =
-      ap (tables_held image) listed ∙ made_held (size old.device) (IsUsedIn old.opened.map.entries) old.opened.commit (listed_in old) (now (story old.device)) change (after base m.settled) u catalogue sound.tables mk image is.kept does.holds in
+      ap (tables_held image) listed ∙ made_held (size old.device) (IsUsedIn old.opened.map.entries) old.opened.commit (listed_in old) (now (story old.device)) change (after base m.settled) u catalogue own sound.tables mk image is.kept does.holds in
       let becomes = new_after (size old.device) base m c u on makes in
       let held : held_by (size old.device) image ≡ holds u =
       held_is (size old.device) image new.opened.commit (listed_in new) stands ∙ ap held_tables tables in

@@ -64,7 +64,7 @@ module _ (tells : Bool) (image : Image) (c : PlainCatalogue) (name : List ℕ) (
       by_state true o read heavy = absurd read
       by_state false None read heavy = absurd read
       by_state false (Some e) read heavy =
-          subst (λ (x : Result Addition Refusal). IsAdded tells image name x (Err (refusals.TooMany limits.Weight))) (sym (given e rows heavy.0)) (table, read, sym (heavy_behind name e table.rows rows heavy.1))
+          subst (λ (x : Result Addition Refusal). IsAdded tells image name x (Err (refusals.TooMany limits.Weight))) (sym (given e rows heavy.0)) (inl (table, read, sym (heavy_behind name e table.rows rows heavy.1)))
 
   -- and where it was not
   pub unread_told : (halted : Bool) (r : Refusal) → halted ≡ false → RefusesRead halted tells image (entry_of c name) r → AreTooHeavy (entry_of c name) rows

@@ -26,7 +26,7 @@ use Rattle.tables.specs.Commands.{PlainCommand, append_stream, append_rows}
 use Rattle.tables.specs.Tables.{Tables, table_at, with_table}
 use Rattle.tables.specs.Verdict.{too_many_bytes, other_shape, unfit_row, too_heavy, of_table, of_meaning, appended, appended_table, appended_stream, verdict}
 use Rattle.store_runs.specs.Changes.{PlainChange, extend, rows_under}
-use Rattle.store_runs.specs.Deciding.{of_entry, Addition, given_rows, rows_of_table, streamed_rows, pieces_put, decided_extension, IsAdded}
+use Rattle.store_runs.specs.Deciding.{of_entry, Addition, given_rows, rows_of_table, streamed_rows, pieces_put, decided_extension, IsAdded, IsSurelyLight}
 use Rattle.store_runs.specs.Held.{table_held}
 use Rattle.store_runs.specs.Reading.{IsRead}
 use Rattle.store_changes.specs.Appending.{IsAppended}
@@ -194,7 +194,20 @@ module _ (laws : LawsBelow) (image : Image) (c : PlainCatalogue) (t : Tables) (l
           let own = listed_at image c t name e listed there in
           let found = under t name e.schema own.0 own.1 own.2 in
           subst (IsVerdict t command) (sym same) (verdict_is own.0.rows found ∙ ap (λ (x : Result Addition Refusal). onto x (behind t name e own.0.rows found)) test)
-      by_tests (Ok a) test stands =
+      by_tests (Ok a) test (inr light) =
+          let own : a.entry ≡ e = (fitting a test).entry in
+          let stands = listed_at image c t name e listed there in
+          let could = listed.possible name e stands.0 there stands.1 in
+          let held : table_held could.1.0 a.entry ≡ Some stands.0 = ap (table_held could.1.0) own ∙ could.1.1 in
+          let weight : table_weight e.schema (stands.0.rows ++ a.rows) ≤ MAX_TABLE_WEIGHT
+          = subst (λ (x : PlainEntry). table_weight x.schema (stands.0.rows ++ a.rows) ≤ MAX_TABLE_WEIGHT) own (light.0 could.1.0 stands.0 held) in
+          let old : IsTable (rows_under e.schema stands.0.rows) = subst (λ (s : PlainSchema). IsTable (rows_under s stands.0.rows)) stands.2 could.0 in
+          let none : too_heavy e.schema (stands.0.rows ++ a.rows) ≡ None
+          = ap (λ (b : Bool). when (not b) (TooMany limits.Weight)) (le-leb (table_weight e.schema (stands.0.rows ++ a.rows)) MAX_TABLE_WEIGHT weight) in
+          let same : d ≡ Ok (pieces_put (extend name) (rows_under e.schema a.rows))
+          = light.1 ∙ ap (λ (x : PlainEntry). Ok (pieces_put (extend name) (rows_under x.schema a.rows))) own in
+          subst (IsVerdict t command) (sym same) (by_weight stands.0.rows (under t name e.schema stands.0 stands.1 stands.2) old a None test none)
+      by_tests (Ok a) test (inl stands) =
           let own : a.entry ≡ e = (fitting a test).entry in
           let schema : stands.0.schema ≡ e.schema = stands.1.schema ∙ ap (λ (x : PlainEntry). x.schema) own in
           let at = listed.held name e stands.0 there (ap (table_held image) (sym own) ∙ stands.1.held refl) in
@@ -245,7 +258,7 @@ heavy_test a b less = elim (leb_tells a b) [ inl is ↦ absurd (omega (arith, le
 module _ (tells : Bool) (image : Image) (name : List ℕ) (e : PlainEntry) (tested : Result Addition Refusal) (rows : List (List Cell)) (standing : PlainTable)
     (passed : tested ≡ Ok (record { entry = e; rows = rows })) (read : IsRead tells image e standing) where
   added : (d : Result PlainChange Refusal) → d ≡ decided_extension name (record { entry = e; rows = rows }) standing.rows → IsAdded tells image name tested d
-  added d is = subst (λ (x : Result Addition Refusal). IsAdded tells image name x d) (sym passed) (standing, read, is)
+  added d is = subst (λ (x : Result Addition Refusal). IsAdded tells image name x d) (sym passed) (inl (standing, read, is))
 
   -- rows that are too heavy alone
   pub heavy_alone : MAX_TABLE_WEIGHT < table_weight e.schema rows → IsAdded tells image name tested (Err (TooMany limits.Weight))
@@ -260,6 +273,13 @@ module _ (tells : Bool) (image : Image) (name : List ℕ) (e : PlainEntry) (test
       → IsAppended tells image name tested d
   appended_behind d weight weighs (inl none) = inl none
   appended_behind d weight weighs (inr decided) = inr (inr (added d (decided standing.rows weighs)))
+
+-- rows that are surely light enough after those that stand
+pub appended_unread : (tells : Bool) (image : Image) (name : List ℕ) (e : PlainEntry) (tested : Result Addition Refusal) (rows : List (List Cell)) (d : Result PlainChange Refusal)
+    → tested ≡ Ok (record { entry = e; rows = rows }) → IsSurelyLight (record { entry = e; rows = rows })
+    → (d ≡ Err OutOfMemory) ⊎ (d ≡ Ok (pieces_put (extend name) (rows_under e.schema rows))) → IsAppended tells image name tested d
+appended_unread tells image name e tested rows d passed light (inl none) = inl none
+appended_unread tells image name e tested rows d passed light (inr is) = inr (inr (subst (λ (x : Result Addition Refusal). IsAdded tells image name x d) (sym passed) (inr (light, is))))
 
 -- what is decided of an addition, by the test of what it and the rows that stand weigh
 pub behind_by : (name : List ℕ) (a : Addition) (standing : List (List Cell)) (weight : ℕ) (o : Option Refusal) → weight ≡ table_weight a.entry.schema (standing ++ a.rows)

@@ -4,8 +4,10 @@ mod GivenRows
 mod Appended
 mod Saved
 mod Verdicts
+mod SurelyLight
 mod MoreRows
 mod Undamaged
 mod Streamed
 mod StepFound
 mod Digesting
+mod NewDigests

@@ -1,17 +1,20 @@
 -- What is decided by a catalogue is the verdict on the tables that it lists, and what is done are the tables that the verdict says.
-use Rattle.std.specs.Prelude.{◌⊎◌}
-use Rattle.std.proofs.Common.{◌≡◌, ℕ, true, List, [], ◌∷◌, Option, Some, None, Result, Ok, Err, inl, inr, refl, sym, ap, ◌∙◌, subst}
+use Rattle.std.specs.Prelude.{◌⊎◌, ◌≤◌}
+use Rattle.std.proofs.Common.{arith, ◌≡◌, ℕ, true, List, [], ◌∷◌, Option, Some, None, Result, Ok, Err, inl, inr, refl, sym, ap, ◌∙◌, subst}
 use Rattle.facts.specs.Bytes.{AreBytes}
 use Rattle.facts.specs.Checks.{first_some, unless}
 use Rattle.sector_dev.specs.Disk.{Disk, Image, synced_image, shown_image}
 use Rattle.segments.specs.declared.entries.UsageEntry.{UsageEntry}
 use Rattle.segments.specs.Usages.{IsUsedIn}
 use Rattle.arrow_schema.specs.Column.{PlainSchema}
-use Rattle.cells.specs.Cell.{PlainTable}
+use Rattle.arrow_schema.specs.Limits.{IsWithinLimits}
+use Rattle.cells.specs.Cell.{Cell, PlainTable}
+use Rattle.values.specs.Table as values
+use Rattle.values.specs.Table.{IsTable, table_from}
 use Rattle.ipc_message.specs.declared.fault.Fault.{Fault}
 use Rattle.ipc_message.specs.Header.{supported_codes}
 use Rattle.ipc_stream.specs.Meaning.{meaning}
-use Rattle.catalogue.specs.Entries.{PlainEntry, PlainCatalogue, is_entry, IsCatalogue}
+use Rattle.catalogue.specs.Entries.{PlainEntry, PlainCatalogue, is_entry, runs_of, IsCatalogue}
 use Rattle.catalogue.specs.Edits.{entry_of}
 use Rattle.catalogue.specs.laws.Changed.{found_passes}
 use Rattle.catalogue.specs.laws.Kept.{entry_is}
@@ -20,23 +23,26 @@ use Rattle.commit.specs.Standing.{rules, standing, used_runs, Stands, InSome}
 use Rattle.commit.specs.laws.Frame.{rules_found}
 use Rattle.tables.specs.declared.refusal.Refusal.{Refusal}
 use Rattle.tables.specs.declared.refusal.Refusal.TheVariants as refusals
-use Rattle.tables.specs.Commands.{PlainCommand, create, import_stream, append_stream, append_rows, save_as, rename, drop_table, BringsTables}
+use Rattle.tables.specs.Commands.{PlainCommand, create, import_stream, append_stream, append_rows, save_as, rename, drop_table, all_of, PlainCommands, no_command, and_command, BringsTables, EachBringsTables}
 use Rattle.tables.specs.Tables.{Tables, table_at, with_table, without_table}
-use Rattle.tables.specs.Verdict.{import_tests, of_meaning, empty_table, verdict}
+use Rattle.tables.specs.Verdict.{import_tests, of_meaning, empty_table, verdict, verdict_in_turn}
 use Rattle.store_runs.specs.Machine.{holds}
-use Rattle.store_runs.specs.Held.{tables_held, held_tables, held_by}
+use Rattle.store_runs.specs.Held.{table_where, table_of_rows, table_held, tables_held, held_tables, held_by}
 use Rattle.pages.specs.Stored.{stored_reading}
-use Rattle.store_runs.specs.Changes.{put, move, remove, PlainChange, placed_segments, stream_rows, MakesOf}
+use Rattle.store_runs.specs.Changes.{PlainEdit, put, move, remove, PlainChange, placed_segments, stream_rows, Makes, MakesOf, IsOfCatalogue}
 use Rattle.store_runs.specs.Reading.{Unreads}
-use Rattle.store_runs.specs.Deciding.{missing_in, full_in, create_tests, rename_tests, names_changed, pieces_put, decided_create, decided_table, of_entry, Addition, given_rows, streamed_rows, unselected, entry_added, entry_selected, entry_read, reads_device, IsNotRead, IsDecided, IsAnswered}
+use Rattle.store_runs.specs.Deciding.{missing_in, full_in, create_tests, rename_tests, names_changed, pieces_put, decided_create, decided_table, of_entry, Addition, given_rows, streamed_rows, unselected, entry_added, entry_selected, entry_read, reads_device, IsNotRead, AreBefore, Leaves, IsDecided, IsDecidedInTurn, Stops, IsAnswered}
 use Rattle.store_runs.specs.Carrying.{placed, commit_placed}
 use Rattle.store_changes.specs.OnDisk.{HasDone}
-use Rattle.store_changes.specs.LawsBelow.{LawsBelow}
-use Rattle.store_changes.specs.Verdicts.{Lists, AreListed, IsVerdict, IsUndecided, HoldsVerdict}
+use Rattle.store_changes.specs.LawsBelow.{LawsBelow, TableLaws}
+use Rattle.store_changes.specs.Verdicts.{Lists, AreListed, IsVerdict, IsSingle, IsUndecided, HoldsVerdict}
+use Rattle.store_changes.specs.laws.InTurn.{over, over_below, sector_before, filled_held, Rebased, stepped, rebased}
+use Rattle.store_changes.specs.laws.Quiet.{single_stops}
+use Rattle.store_changes.specs.laws.Decided.{of_decided}
 use Rattle.store_changes.specs.laws.Changed.{edited_held, placed_held}
 use Rattle.store_changes.specs.laws.Frame.{held_is, same_tables}
 use Rattle.store_changes.specs.laws.Listed.{held_lists}
-use Rattle.store_changes.specs.laws.Named.{entry_has}
+use Rattle.store_changes.specs.laws.Named.{entry_has, held_has}
 use Rattle.store_changes.proofs.Appended.{given_is, streamed_is, rows_decided, stream_decided}
 use Rattle.store_changes.specs.laws.ReadTables.{unread_not_held, damaged_not_held}
 use Rattle.store_changes.specs.laws.Synced.{shown_is_synced}
@@ -80,24 +86,117 @@ module _ (c : PlainCatalogue) (t : Tables) (lists : Lists c t) where
 
 -- ---- what is decided
 
-pub decided : LawsBelow → (image : Image) (c : PlainCatalogue) (t : Tables) (command : PlainCommand) (d : Result PlainChange Refusal) → AreListed image c t → BringsTables command
+pub decided : LawsBelow → (image : Image) (c : PlainCatalogue) (t : Tables) (command : PlainCommand) (d : Result PlainChange Refusal) → IsSingle command → AreListed image c t → BringsTables command
     → IsDecided true image c command d → IsVerdict t command d
-decided laws image c t (create name schema) d listed brings is = subst (IsVerdict t (create name schema)) (sym is) (created c t listed.lists name schema)
-decided laws image c t (import_stream name bytes) d listed brings is =
+decided laws image c t (create name schema) d single listed brings is = subst (IsVerdict t (create name schema)) (sym is) (created c t listed.lists name schema)
+decided laws image c t (import_stream name bytes) d single listed brings is =
     subst (IsVerdict t (import_stream name bytes)) (sym is) (imported c t listed.lists laws name bytes brings (import_tests name bytes) (meaning supported_codes bytes) refl refl)
-decided laws image c t (append_stream name bytes) d listed brings is = stream_decided laws image c t listed name d bytes is
-decided laws image c t (append_rows name rows) d listed brings is = rows_decided laws image c t listed name d rows is
-decided laws image c t (save_as from to query) d listed brings is = saved_decided laws image c t listed from to query d is
-decided laws image c t (rename from to) d listed brings is = subst (IsVerdict t (rename from to)) (sym is) (renamed c t listed.lists from to (rename_tests c from to) refl)
-decided laws image c t (drop_table name) d listed brings is = subst (IsVerdict t (drop_table name)) (sym is) (dropped c t listed.lists name (missing_in c name) refl)
+decided laws image c t (append_stream name bytes) d single listed brings is = stream_decided laws image c t listed name d bytes is
+decided laws image c t (append_rows name rows) d single listed brings is = rows_decided laws image c t listed name d rows is
+decided laws image c t (save_as from to query) d single listed brings is = saved_decided laws image c t listed from to query d is
+decided laws image c t (rename from to) d single listed brings is = subst (IsVerdict t (rename from to)) (sym is) (renamed c t listed.lists from to (rename_tests c from to) refl)
+decided laws image c t (drop_table name) d single listed brings is = subst (IsVerdict t (drop_table name)) (sym is) (dropped c t listed.lists name (missing_in c name) refl)
+decided laws image c t (all_of cs) d single listed brings is = absurd single
 
 -- ---- the tables that an image holds
 
-pub are_listed : (image : Image) (c : PlainCatalogue) (t : Tables) → IsCatalogue c → tables_held image c ≡ Some t → AreListed image c t
-are_listed image c t catalogue held = record {
+made_as : (s : PlainSchema) (rows : List (List Cell)) (table : PlainTable) (made : Result PlainTable values.Refusal) → table_from s rows ≡ made → table_where made ≡ Some table → table_from s rows ≡ Ok table
+made_as s rows table (Ok t) made is = let same : t ≡ table = cc is in made ∙ ap Ok same
+made_as s rows table (Err refusal) made is = absurd (cc is)
+
+-- what is held of an entry is a table
+held_sound : TableLaws → (image : Image) (e : PlainEntry) (table : PlainTable) → IsWithinLimits e.schema → table_held image e ≡ Some table → IsTable table
+held_sound laws image e table within is =
+    let has = held_has image e table is in
+    let made : table_where (table_from e.schema has.0) ≡ Some table = sym (ap (table_of_rows e.schema) has.1) ∙ is in
+    (laws.accepts e.schema has.0 table within (made_as e.schema has.0 table (table_from e.schema has.0) refl made)).1
+
+pub are_listed : LawsBelow → (image : Image) (c : PlainCatalogue) (t : Tables) → IsCatalogue c → tables_held image c ≡ Some t → AreListed image c t
+are_listed laws image c t catalogue held = record {
   lists = held_lists image c t catalogue held;
   held = λ name e table there own. let has = entry_has image c t held name e there in has.2 ∙ (sym has.1 ∙ own);
+  possible = λ name e table there at.
+      let has = entry_has image c t held name e there in
+      let own : table_held image e ≡ Some table = has.1 ∙ (sym has.2 ∙ at) in
+      (held_sound laws.tables image e table (entry_is e (found_passes is_entry c name e catalogue.entries there)).schema own, (image, own));
 }
+
+-- ---- several commands
+
+-- what is decided for the commands that are left of a list is their verdict on the tables so far, with the effect on the old ones
+abbrev InTurnVerdict : (before now : Tables) → PlainCommands → Result PlainChange Refusal → Type 0
+InTurnVerdict before now cs (Ok change) = (u : Tables) × (verdict_in_turn now cs ≡ Ok u) × MakesOf before change u
+InTurnVerdict before now cs (Err r) = verdict_in_turn now cs ≡ Err r
+
+refused_first : (t0 t : Tables) (x : PlainCommand) (xs : PlainCommands) (d : Result PlainChange Refusal) (r : Refusal) → verdict t x ≡ Err r → d ≡ Err r → InTurnVerdict t0 t (and_command x xs) d
+unfolding verdict
+refused_first t0 t x xs d r first says =
+    subst (InTurnVerdict t0 t (and_command x xs)) (sym says) (ap (λ (v : Result Tables Refusal). elim v [ Err e ↦ Err e | Ok u ↦ verdict_in_turn u xs ]) first)
+
+accepted_first : (t0 t u : Tables) (x : PlainCommand) (xs : PlainCommands) (d : Result PlainChange Refusal) → verdict t x ≡ Ok u → InTurnVerdict t0 u xs d → InTurnVerdict t0 t (and_command x xs) d
+unfolding verdict
+accepted_first t0 t u x xs (Ok change) first later = (later.0, ap (λ (v : Result Tables Refusal). elim v [ Err e ↦ Err e | Ok w ↦ verdict_in_turn w xs ]) first ∙ later.1, later.2)
+accepted_first t0 t u x xs (Err r) first later = ap (λ (v : Result Tables Refusal). elim v [ Err e ↦ Err e | Ok w ↦ verdict_in_turn w xs ]) first ∙ later
+
+-- what is decided behind the first command of a list
+abbrev Following : (from : ℕ) (old : PlainCatalogue) (next : ℕ) → Image → PlainCatalogue → PlainCommands → Result PlainChange Refusal → Result PlainChange Refusal → Type 0
+Following from old next image c xs d (Err r) = d ≡ Err r
+Following from old next image c xs d (Ok change) =
+    (next' : ℕ) × (image' : Image) × (c' : PlainCatalogue) × Leaves next image c change next' image' c' × IsDecidedInTurn true from old next' image' c' xs d
+
+module _ (from : ℕ) (old : PlainCatalogue) (t0 : Tables) (next : ℕ) (image : Image) (c : PlainCatalogue) (t : Tables) (low : from ≤ next) (k : IsCatalogue c) (held : tables_held image c ≡ Some t)
+    (so_far : Rebased from old t0 image c t) (d : Result PlainChange Refusal) where
+  -- the last command was decided
+  whole_is : IsDecidedInTurn true from old next image c no_command d → InTurnVerdict t0 t no_command d
+  unfolding verdict
+  whole_is (change, whole, is) =
+      let makes : MakesOf t0 change t =
+      subst (λ (e : PlainEdit). Makes t0 e change.streams change.counts t) (sym whole.edit)
+      (λ base segments stood made. filled_held from base image c segments change.streams change.counts k.entries whole.order whole.before made whole.holds ∙ so_far base stood) in
+      subst (InTurnVerdict t0 t no_command) (sym is) (t, refl, makes)
+
+  -- one command was decided
+  by_first : (x : PlainCommand) (xs : PlainCommands) (one : Result PlainChange Refusal) → IsVerdict t x one
+      → Following from old next image c xs d one
+      → ((next' : ℕ) (image' : Image) (c' : PlainCatalogue) (u : Tables) → from ≤ next' → IsCatalogue c' → tables_held image' c' ≡ Some u → Rebased from old t0 image' c' u
+      → IsDecidedInTurn true from old next' image' c' xs d → InTurnVerdict t0 u xs d) → InTurnVerdict t0 t (and_command x xs) d
+  by_first x xs (Err r) says rest later = refused_first t0 t x xs d r says rest
+  by_first x xs (Ok change) says (next', image', c', leaves, more) later =
+      let onward = leaves.onward in
+      accepted_first t0 t says.0 x xs d says.1
+      (later next' image' c' says.0 (omega (arith, low, onward)) leaves.stands (stepped from old t0 next image c t change says.0 next' image' c' low k says.2 leaves held)
+      (rebased from old t0 next image c t change says.0 next' image' c' low k says.2 leaves so_far) more)
+
+-- a list, as a command
+by_list : (t : Tables) (cs : PlainCommands) (d : Result PlainChange Refusal) → InTurnVerdict t t cs d → IsVerdict t (all_of cs) d
+unfolding verdict
+by_list t cs (Ok change) is = is
+by_list t cs (Err r) is = is
+
+-- where a list begins, other images that hold its tables still do
+begins : (from : ℕ) (image : Image) (c : PlainCatalogue) (t : Tables) → IsCatalogue c → AreBefore from (runs_of c) → Rebased from c t image c t
+begins from image c t k before = λ base is.
+    same_tables base (over from base image) c k.entries (λ n within. over_below from base image n (sector_before from (runs_of c) n before within)) ∙ is
+
+mutual
+  pub decided_held : (laws : LawsBelow) (image : Image) (c : PlainCatalogue) (t : Tables) (command : PlainCommand) (d : Result PlainChange Refusal) → IsCatalogue c → tables_held image c ≡ Some t → BringsTables command
+      → IsDecided true image c command d → IsVerdict t command d
+  decided_held laws image c t (all_of cs) d k held brings is =
+      by_list t cs d (decided_in_turn laws is.0 c t is.0 image c t cs d (omega arith) k held (begins is.0 image c t k is.1) brings is.2)
+  decided_held laws image c t (create name schema) d k held brings is = decided laws image c t (create name schema) d tt (are_listed laws image c t k held) brings is
+  decided_held laws image c t (import_stream name bytes) d k held brings is = decided laws image c t (import_stream name bytes) d tt (are_listed laws image c t k held) brings is
+  decided_held laws image c t (append_stream name bytes) d k held brings is = decided laws image c t (append_stream name bytes) d tt (are_listed laws image c t k held) brings is
+  decided_held laws image c t (append_rows name rows) d k held brings is = decided laws image c t (append_rows name rows) d tt (are_listed laws image c t k held) brings is
+  decided_held laws image c t (save_as from to query) d k held brings is = decided laws image c t (save_as from to query) d tt (are_listed laws image c t k held) brings is
+  decided_held laws image c t (rename from to) d k held brings is = decided laws image c t (rename from to) d tt (are_listed laws image c t k held) brings is
+  decided_held laws image c t (drop_table name) d k held brings is = decided laws image c t (drop_table name) d tt (are_listed laws image c t k held) brings is
+
+  decided_in_turn : (laws : LawsBelow) (from : ℕ) (old : PlainCatalogue) (t0 : Tables) (next : ℕ) (image : Image) (c : PlainCatalogue) (t : Tables) (cs : PlainCommands) (d : Result PlainChange Refusal) → from ≤ next → IsCatalogue c
+      → tables_held image c ≡ Some t → Rebased from old t0 image c t → EachBringsTables cs → IsDecidedInTurn true from old next image c cs d → InTurnVerdict t0 t cs d
+  decided_in_turn laws from old t0 next image c t no_command d low k held so_far brings is = whole_is from old t0 next image c t low k held so_far d is
+  decided_in_turn laws from old t0 next image c t (and_command x xs) d low k held so_far brings is =
+      by_first from old t0 next image c t low k held so_far d x xs is.0 (decided_held laws image c t x is.0 k held brings.0 is.1) is.2
+      (λ next' image' c' u low' k' held' so_far' more. decided_in_turn laws from old t0 next' image' c' u xs d low' k' held' so_far' brings.1 more)
 
 -- the entry that is read stands in the catalogue
 module _ (x : PlainEntry) where
@@ -154,11 +253,11 @@ not_read laws image c t command d catalogue held unread =
     by_refusal reads (inl memory) = inl (unread.told ∙ ap Err memory)
     by_refusal reads (inr device) = inr (unread.told ∙ ap Err device, reads)
 
-pub answered : LawsBelow → (image : Image) (c : PlainCatalogue) (t : Tables) (command : PlainCommand) (d : Result PlainChange Refusal) → IsCatalogue c → tables_held image c ≡ Some t → BringsTables command
+pub answered : LawsBelow → (image : Image) (c : PlainCatalogue) (t : Tables) (command : PlainCommand) (d : Result PlainChange Refusal) → IsSingle command → IsCatalogue c → tables_held image c ≡ Some t → BringsTables command
     → IsAnswered true image c command d → IsUndecided command d ⊎ IsVerdict t command d
-answered laws image c t command d catalogue held brings (inl memory) = inl (inl memory)
-answered laws image c t command d catalogue held brings (inr (inl unread)) = inl (not_read laws image c t command d catalogue held unread)
-answered laws image c t command d catalogue held brings (inr (inr is)) = inr (decided laws image c t command d (are_listed image c t catalogue held) brings is)
+answered laws image c t command d single catalogue held brings (inl memory) = inl (inl memory)
+answered laws image c t command d single catalogue held brings (inr (inl stops)) = inl (not_read laws image c t command d catalogue held (single_stops true image c command d single stops))
+answered laws image c t command d single catalogue held brings (inr (inr is)) = inr (decided laws image c t command d single (are_listed laws image c t catalogue held) brings is)
 
 -- ---- what is done
 
@@ -181,9 +280,9 @@ module _ (laws : LawsBelow) (size : ℕ) (entries : List UsageEntry) (k : Commit
   pub done_verdict : HasDone size (IsUsedIn entries) k c before command image → HoldsVerdict size image t command
   done_verdict done =
       let shown : tables_held (shown_image before) c ≡ Some t = ap (λ (i : Image). tables_held i c) (shown_is_synced before stands.quiet.shown) ∙ held in
-      let says = decided laws (shown_image before) c t command (Ok done.change) (are_listed (shown_image before) c t catalogue shown) brings done.decides in
+      let says = decided_held laws (shown_image before) c t command (Ok done.change) catalogue shown brings done.decides in
       let segments = placed_segments k.version done.places done.change.streams done.change.counts in
-      let edited_is = edited_held image c done.change t says.0 segments catalogue still_held says.2 done.holds in
+      let edited_is = edited_held image c done.change t says.0 segments catalogue (of_decided (shown_image before) c command done.change done.decides) still_held says.2 done.holds in
       let made = placed_held image k.version c done.change done.places ∙ edited_is in
       (says.0, says.1, held_is size image (commit_placed k c done.change done.text) (placed k.version c done.change done.places) done.stands ∙ ap held_tables made)
 

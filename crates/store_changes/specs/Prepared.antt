@@ -23,7 +23,7 @@ use Rattle.commit.specs.laws.Taking.{TookAll}
 use Rattle.tables.specs.declared.refusal.Refusal.{Refusal}
 use Rattle.tables.specs.declared.refusal.Refusal.TheVariants as refusals
 use Rattle.pages.specs.declared.stored.StoredCatalogue.{StoredCatalogue}
-use Rattle.store_runs.specs.Changes.{PlainEdit, put, extend, move, remove, exchange, digest, PlainChange, version_after, edited, given_up, placed_segments}
+use Rattle.store_runs.specs.Changes.{PlainEdit, put, extend, move, remove, exchange, digest, rebuild, PlainChange, version_after, edited, given_up, placed_segments}
 use Rattle.store_changes.specs.laws.EditedEach.{OneSchema}
 use Rattle.store_runs.specs.Carrying.{HasNext, asked_sizes, unplaced, outline, commit_placed}
 use Rattle.pages.specs.Stored.{stored_reading, form_of, by_kind}
@@ -47,6 +47,7 @@ CanGive (move from to) e = Unit {0}
 CanGive (remove name) e = Unit {0}
 CanGive (exchange name place count) e = place + count ≤ length e.segments
 CanGive (digest digests) e = Unit {0}
+CanGive (rebuild old from made gone) e = Unit {0}
 
 -- the refusal of a command for which no run is taken
 abbrev pub taking_refusal : TakeError → Refusal

@@ -5,6 +5,8 @@ pub mod Named
 pub mod Listed
 pub mod Mapped
 pub mod Changed
+pub mod InTurn
+pub mod Filled
 pub mod Edited
 pub mod EditedEach
 pub mod EditedForm

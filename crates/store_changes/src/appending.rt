@@ -1,5 +1,5 @@
-// Appends rows to the table of an entry, which is read for its weight.
-ghost use Rattle.std.specs.Prelude.{◌≡◌, ◌≢◌, ◌⊎◌, ◌++◌, List, Some, Err, IfOk, IfErr, false, true, not, nat_le, string_bytes};
+// Appends rows to the table of an entry, which is read for its weight unless its segments are short enough.
+ghost use Rattle.std.specs.Prelude.{◌≡◌, ◌≢◌, ◌⊎◌, ◌++◌, List, Option, Some, Result, Ok, Err, IfOk, IfErr, IfSome, false, true, not, nat_le, string_bytes};
 ghost use Rattle.facts.specs.Checks.{when};
 ghost use Rattle.sector_dev.specs.Disk.{now, shown_image};
 ghost use Rattle.cells.specs.Cell.{Cell};
@@ -11,20 +11,21 @@ ghost use Rattle.values.specs.Table.{IsTable};
 ghost use Rattle.values.specs.TableView.{table_of};
 ghost use Rattle.store_runs.specs.Calls.{is_failure};
 ghost use Rattle.store_changes.specs.Change.{change_of};
-ghost use Rattle.store_runs.specs.Changes.{CanChange, rows_under};
-ghost use Rattle.store_runs.specs.Deciding.{decided_extension};
+ghost use Rattle.store_runs.specs.Changes.{CanChange, extend, rows_under};
+ghost use Rattle.store_runs.specs.Deciding.{Addition, decided_extension, pieces_put};
 ghost use Rattle.store_runs.specs.Reading.{OnlyReadsDevice, ended};
-ghost use Rattle.store_changes.specs.Appending.{added_to, IsAppended};
+ghost use Rattle.store_changes.specs.Appending.{added_to, ArePassed, IsAppended};
 ghost use Rattle.store_changes.specs.Tests.{Tests, decision_of};
 
 use crate::change::{Change, Edit, NewSegments, SegmentRows};
+use crate::lightness::stays_light;
 use crate::new_rows::{NewRows, pass_new};
 use crate::weighing::weigh_entry;
 use catalogue::TableEntry;
 use cells::MAX_TABLE_WEIGHT;
 use ipc_encode::pieces_are_tables;
 use sector_dev::SectorDevice;
-use std::alloc::Global;
+use std::alloc::{AllocError, Global};
 use tables::{Limit, Refusal};
 use values::{Table, WeighedTable};
 
@@ -39,7 +40,32 @@ fn test_weight(weight: u64) -> Result<(), Refusal>
     }
 }
 
-// Returns the change that appends new rows to an entry's table, if both together have this weight. The pieces have the schema of the entry.
+// Returns the change that appends new rows to an entry's table. The pieces have the schema of the entry.
+fn extension(
+    alloc: Global,
+    entry: &TableEntry,
+    name: String,
+    new: Table,
+) -> Result<Change, AllocError>
+    requires table { IsTable (rows_under (plain_entry entry.now).schema (table_of new).rows) }
+    ensures ok { IfOk result (λ change. (c : PlainCatalogue) → entry_of c (string_bytes name) ≡ Some (plain_entry entry.now)
+        → CanChange c (change_of change)) }
+    ensures change { IfOk result (λ change. change_of change
+        ≡ pieces_put (extend (string_bytes name)) (rows_under (plain_entry entry.now).schema (table_of new).rows)) }
+{
+    pieces_are_tables();
+    let schema = entry.schema().copy(alloc)?;
+    let rows = SegmentRows {
+        table: new,
+        schema: Some(schema),
+    };
+    Ok(Change {
+        edit: Edit::Extend { name },
+        new: Some(NewSegments::Rows(rows)),
+    })
+}
+
+// Returns the same if the rows together with those of the table have this weight.
 fn decide_extension(
     alloc: Global,
     entry: &TableEntry,
@@ -56,20 +82,72 @@ fn decide_extension(
     ensures no_device { IfErr result (λ e. is_failure e ≡ false) }
     ensures not_halted { IfErr result (λ e. e ≢ Refusal.Halted) }
 {
-    pieces_are_tables();
-    test_weight(weight)?;
-    let schema = entry.schema().copy(alloc)?;
-    let rows = SegmentRows {
-        table: new,
-        schema: Some(schema),
-    };
-    Ok(Change {
-        edit: Edit::Extend { name },
-        new: Some(NewSegments::Rows(rows)),
-    })
+    match test_weight(weight) {
+        Ok(()) => match extension(alloc, entry, name, new) {
+            Ok(change) => Ok(change),
+            Err(_) => Err(Refusal::OutOfMemory),
+        },
+        Err(refusal) => Err(refusal),
+    }
 }
 
-/// Decides on an append to the table of an entry: its tests in order, the last of which reads the table.
+// Returns the change that appends rows, without reading the table of the entry: whatever it holds, it stays light enough.
+fn append_unread(
+    alloc: Global,
+    entry: &TableEntry,
+    name: String,
+    new: Table,
+) -> Result<Change, Refusal>
+    requires table { IsTable (rows_under (plain_entry entry.now).schema (table_of new).rows) }
+    ensures ok { IfOk result (λ change. (c : PlainCatalogue) → entry_of c (string_bytes name) ≡ Some (plain_entry entry.now)
+        → CanChange c (change_of change)) }
+    ensures answers { (decision_of result ≡ Err Refusal.OutOfMemory)
+        ⊎ (decision_of result ≡ Ok (pieces_put (extend (string_bytes name)) (rows_under (plain_entry entry.now).schema (table_of new).rows))) }
+    ensures no_device { IfErr result (λ e. is_failure e ≡ false) }
+    ensures not_halted { IfErr result (λ e. e ≢ Refusal.Halted) }
+{
+    match extension(alloc, entry, name, new) {
+        Ok(change) => Ok(change),
+        Err(_) => Err(Refusal::OutOfMemory),
+    }
+}
+
+// The same where the table is read for its weight. Rows that are too heavy for any table are not kept.
+fn append_after_reading<D: SectorDevice>(
+    alloc: Global,
+    device: &mut D,
+    entry: &TableEntry,
+    name: String,
+    passed: Option<WeighedTable>,
+) -> Result<Change, Refusal>
+    requires size { is_size (D.size device.old) ≡ true }
+    requires placed { all_on_device (D.size device.old) (runs_in_segments (plain_entry entry.now).segments) ≡ true }
+    requires sound { is_entry (plain_entry entry.now) ≡ true }
+    requires passed { IfSome passed (λ w. IsTable (rows_under (plain_entry entry.now).schema (table_of w.table).rows)) }
+    ensures reads { OnlyReadsDevice D.size D.story D.failed D.tells (ended result) device.old device.new }
+    ensures ok { IfOk result (λ change. (c : PlainCatalogue) → entry_of c (string_bytes name) ≡ Some (plain_entry entry.now)
+        → CanChange c (change_of change)) }
+    ensures answers { (tested : Result Addition Refusal) → ArePassed (plain_entry entry.now) tested passed
+        → IsAppended D.tells (shown_image (now (D.story device.old))) (string_bytes name) tested (decision_of result) }
+    ensures not_halted { IfErr result (λ e. e ≢ Refusal.Halted) }
+{
+    let standing = match weigh_entry(alloc, device, entry) {
+        Ok(standing) => standing,
+        Err(refusal) => {
+            // Dropped by a call, since its inlined drop is long.
+            drop(passed);
+            return Err(refusal);
+        }
+    };
+    match passed {
+        Some(WeighedTable { table, weight }) => {
+            decide_extension(alloc, entry, name, table, standing + weight)
+        }
+        None => Err(Refusal::TooMany(Limit::Weight)),
+    }
+}
+
+/// Decides on an append to the table of an entry: its tests in order. For the last one the table is read, unless it is surely light enough with the new rows.
 ///
 /// # Errors
 /// Those of the new rows, in their order; those of reading the table; `TooMany(Weight)`; `OutOfMemory`.
@@ -90,22 +168,15 @@ pub fn append_to_entry<D: SectorDevice>(
         (decision_of result) }
     ensures not_halted { IfErr result (λ e. e ≢ Refusal.Halted) }
 {
-    let passed = match pass_new(alloc, entry, new) {
-        Ok(passed) => passed,
-        Err(refusal) => return Err(refusal),
-    };
-    let standing = match weigh_entry(alloc, device, entry) {
-        Ok(standing) => standing,
-        Err(refusal) => {
-            // Dropped by a call, since its inlined drop is long.
-            drop(passed);
-            return Err(refusal);
+    match pass_new(alloc, entry, new) {
+        Ok(Some(weighed)) => {
+            if stays_light(entry, weighed.weight) {
+                append_unread(alloc, entry, name, weighed.table)
+            } else {
+                append_after_reading(alloc, device, entry, name, Some(weighed))
+            }
         }
-    };
-    match passed {
-        Some(WeighedTable { table, weight }) => {
-            decide_extension(alloc, entry, name, table, standing + weight)
-        }
-        None => Err(Refusal::TooMany(Limit::Weight)),
+        Ok(None) => append_after_reading(alloc, device, entry, name, None),
+        Err(refusal) => Err(refusal),
     }
 }

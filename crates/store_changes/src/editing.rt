@@ -5,8 +5,7 @@ ghost use Rattle.std.specs.Str.{bytes_eq};
 ghost use Rattle.arrow_schema.specs.Limits.{IsWithinLimits};
 ghost use Rattle.arrow_schema.specs.View.{schema_of};
 ghost use Rattle.ipc_write.specs.Written.{schema_message};
-ghost use Rattle.sha2.specs.Sha256.{sha256};
-ghost use Rattle.segments.specs.Pieces.{bytes_of_parts, plain_pieces};
+ghost use Rattle.segments.specs.Pieces.{plain_pieces};
 ghost use Rattle.segments.specs.Writing.{runs_of};
 ghost use Rattle.commit.specs.Placing.{plain_contents};
 ghost use Rattle.catalogue.specs.declared.entry.Segment.{Segment};
@@ -14,12 +13,13 @@ ghost use Rattle.catalogue.specs.Edits.{page_behind, entry_of, from_place};
 ghost use Rattle.catalogue.specs.Entries.{plain_entry, is_segment, is_entry, segment_count, IsCatalogue};
 ghost use Rattle.catalogue.specs.View.{catalogue_of};
 ghost use Rattle.store_changes.specs.Change.{edit_of};
-ghost use Rattle.store_runs.specs.Changes.{new_entry, page_over, page_instead, edited, page_lost, given_by, lost_page, name_edited, given_up, version_after, digest_for, IsEdit};
+ghost use Rattle.store_runs.specs.Changes.{new_entry, page_over, page_instead, edited, page_lost, given_by, given_by_all, lost_page, name_edited, given_up, version_after, IsEdit};
 ghost use Rattle.store_runs.specs.Carrying.{unplaced};
 ghost use Rattle.store_changes.specs.Prepared.{in_runs, CanGive};
 ghost use Rattle.store_changes.specs.laws.Edited.{segments_at};
 
 use crate::change::Edit;
+use crate::new_digests::digests_for;
 use arrow_schema::Schema;
 use catalogue::{Catalogue, MAX_SEGMENT_ROWS, Segment, TableEntry, put_runs};
 use cells::MAX_PIECE_ROWS;
@@ -27,7 +27,6 @@ use commit::FormatVersion;
 use ipc_write::encode_schema;
 use sector_dev::SECTOR_BYTES;
 use segments::{Extent, Piece, PiecePart, Run, byte_count};
-use sha2::{Digest, Sha256};
 use std::alloc::{AllocError, Global};
 
 // A segment holds the rows of one piece.
@@ -229,6 +228,16 @@ fn lost_pages(alloc: Global, entries: &[TableEntry]) -> Result<Vec<Run>, AllocEr
     Ok(runs)
 }
 
+// Returns the runs that an edit of all tables removes.
+fn given_by_all(alloc: Global, catalogue: &Catalogue, edit: &Edit) -> Result<Vec<Run>, AllocError>
+    ensures { IfOk result (λ runs. runs.items ≡ given_by_all (catalogue_of catalogue.now) (edit_of edit.now)) }
+{
+    match edit {
+        Edit::Digest { digests: _ } => lost_pages(alloc, catalogue.entries()),
+        _ => Ok(Vec::new(alloc)),
+    }
+}
+
 // Returns the runs that an edit with these new segments removes.
 pub(crate) fn given_up(
     alloc: Global,
@@ -244,7 +253,7 @@ pub(crate) fn given_up(
             Some(entry) => given_by(alloc, edit, segments, entry),
             None => Ok(Vec::new(alloc)),
         },
-        None => lost_pages(alloc, catalogue.entries()),
+        None => given_by_all(alloc, catalogue, edit),
     }
 }
 
@@ -291,27 +300,6 @@ pub(crate) fn version_after(edit: &Edit, version: FormatVersion) -> FormatVersio
     }
 }
 
-// Returns the SHA-256 of parts one after another.
-fn digest_of_parts(parts: &[PiecePart<'_>]) -> [u8; 32]
-    ensures { result ≡ sha256 (bytes_of_parts parts.now) }
-{
-    let mut hasher = Sha256::new();
-    for part in parts {
-        hasher.update(part.bytes());
-    }
-    hasher.finalize()
-}
-
-// Returns the digest of a segment of these parts, if the version has digests.
-fn digest_for(version: FormatVersion, parts: &[PiecePart<'_>]) -> Option<[u8; 32]>
-    ensures { result ≡ digest_for version (bytes_of_parts parts.now) }
-{
-    match version {
-        FormatVersion::One => None,
-        FormatVersion::Two => Some(digest_of_parts(parts)),
-    }
-}
-
 // Returns the segments of streams, with the number of rows of each. They have no places yet.
 pub(crate) fn unplaced(
     alloc: Global,
@@ -322,6 +310,7 @@ pub(crate) fn unplaced(
     requires { length streams.now ≡ length rows.now }
     ensures { IfOk result (λ segments. segments.items ≡ unplaced version (plain_contents streams.now) rows.now) }
 {
+    let digests = digests_for(alloc, version, streams)?;
     let mut segments = Vec::with_capacity(alloc, streams.len())?;
     for (place, parts) in streams.iter().enumerate() {
         let bytes = byte_count(parts).ok_or(AllocError)?;
@@ -332,7 +321,7 @@ pub(crate) fn unplaced(
         segments.push_reserved(Segment {
             place: Extent { run, bytes },
             rows: rows[place],
-            digest: digest_for(version, parts),
+            digest: digests[place],
         });
     }
     Ok(segments)

@@ -22,7 +22,7 @@ ghost use Rattle.pages.specs.Stored.{stored_reading};
 ghost use Rattle.store_runs.specs.Changes.{PlainChange};
 ghost use Rattle.store_runs.specs.Deciding.{IsDecided, IsAnswered};
 ghost use Rattle.store_changes.specs.OnDisk.{HasDone, IsOldOrDone};
-ghost use Rattle.store_changes.specs.Verdicts.{AreListed, IsVerdict, IsUndecided, HoldsVerdict};
+ghost use Rattle.store_changes.specs.Verdicts.{AreListed, IsVerdict, IsSingle, IsUndecided, HoldsVerdict};
 ghost use Rattle.store_changes.specs.LawsBelow.{LawsBelow, TableLaws};
 
 use ipc_encode::pieces_are_tables;
@@ -80,10 +80,12 @@ pub fn laws_below()
 /// other answers are that memory was refused or that the device failed (`answered`). `catalogues`: what a commit names is a catalogue.
 pub fn decisions_are_verdicts()
     ensures decided { (image : Image) (c : PlainCatalogue) (t : Tables) (command : PlainCommand) (d : Result PlainChange Refusal)
-        → AreListed image c t → BringsTables command → IsDecided true image c command d → IsVerdict t command d }
+        → IsSingle command → AreListed image c t → BringsTables command → IsDecided true image c command d → IsVerdict t command d }
+    ensures each { (image : Image) (c : PlainCatalogue) (t : Tables) (command : PlainCommand) (d : Result PlainChange Refusal)
+        → IsCatalogue c → tables_held image c ≡ Some t → BringsTables command → IsDecided true image c command d → IsVerdict t command d }
     ensures listed { (image : Image) (c : PlainCatalogue) (t : Tables) → IsCatalogue c → tables_held image c ≡ Some t → AreListed image c t }
     ensures answered { (image : Image) (c : PlainCatalogue) (t : Tables) (command : PlainCommand) (d : Result PlainChange Refusal)
-        → IsCatalogue c → tables_held image c ≡ Some t → BringsTables command → IsAnswered true image c command d
+        → IsSingle command → IsCatalogue c → tables_held image c ≡ Some t → BringsTables command → IsAnswered true image c command d
         → IsUndecided command d ⊎ IsVerdict t command d }
     ensures catalogues { (size : ℕ) (image : Image) (k : Commit) (c : PlainCatalogue) → standing stored_reading size image ≡ rules k c → IsCatalogue c }
 {

@@ -47,6 +47,8 @@ pub data PlainReply : Type 0 where
   -- the store already had digests
   already : PlainReply
   refused : Refusal → PlainReply
+  -- a list of commands was refused for the one at this place, counted from 0
+  refused_at : (place : ℕ) → Refusal → PlainReply
   -- a formatting or an opening that was refused: the place is shut
   shut_by : OpeningRefusal → PlainReply
 

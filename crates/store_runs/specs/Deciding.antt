@@ -1,26 +1,35 @@
 -- The decision on a command by the catalogue, and for an append or a saved query by the existing table: the first of its tests that fails, or its
 -- change.
 -- The tests are those of the verdict on the tables that the catalogue lists.
-use Rattle.std.specs.Prelude.{◌≡◌, ◌⊎◌, ℕ, Bool, true, false, not, ◌&&◌, nat_le, List, [], ◌∷◌, ◌++◌, length, is_some, Option, Some, None, Result, Ok, Err}
+use Rattle.std.specs.Prelude.{◌≡◌, ◌⊎◌, ◌≤◌, ◌<◌, ◌+◌, ◌||◌, ℕ, Bool, true, false, not, ◌&&◌, nat_le, List, [], ◌∷◌, ◌++◌, length, is_some, Option, Some, None, Result, Ok, Err}
+use Rattle.std.specs.List.{AllByRecursion}
 use Rattle.facts.specs.Checks.{when, first_some, unless}
+use Rattle.segments.specs.declared.run.Run.{Run}
+use Rattle.segments.specs.Sectors.{sector_count}
 use Rattle.sector_dev.specs.Disk.{Image}
 use Rattle.arrow_schema.specs.Column.{PlainSchema}
 use Rattle.cells.specs.Cell.{Cell, PlainTable}
+use Rattle.cells.specs.Weight.{table_weight}
+use Rattle.cells.specs.declared.limits.TheConstants.{MAX_TABLE_WEIGHT}
 use Rattle.ipc_message.specs.Header.{supported_codes}
 use Rattle.ipc_stream.specs.Meaning.{meaning}
 use Rattle.ipc_canonical.specs.PieceStreams.{piece_streams, piece_counts}
 use Rattle.query.specs.Query.{PlainQuery}
 use Rattle.query.specs.Selection.{selection}
-use Rattle.catalogue.specs.Entries.{PlainEntry, PlainCatalogue}
+use Rattle.catalogue.specs.declared.entry.Segment.{Segment}
+use Rattle.catalogue.specs.Entries.{PlainEntry, PlainCatalogue, runs_of, segment_count, IsCatalogue}
 use Rattle.catalogue.specs.Edits.{entry_of}
-use Rattle.catalogue.specs.declared.limits.TheConstants.{MAX_TABLES}
+use Rattle.catalogue.specs.declared.limits.TheConstants.{MAX_TABLES, MAX_SEGMENTS}
+use Rattle.commit.specs.declared.sector.FormatVersion.TheVariants.{One}
 use Rattle.tables.specs.declared.refusal.Limit.TheVariants as limits
 use Rattle.tables.specs.declared.refusal.Refusal.{Refusal}
 use Rattle.tables.specs.declared.refusal.Refusal.TheVariants.{NoTable, NameTaken, TooMany, OutOfMemory}
-use Rattle.tables.specs.Commands.{PlainCommand, create, import_stream, append_stream, append_rows, save_as, rename, drop_table}
+use Rattle.tables.specs.Commands.{PlainCommand, create, import_stream, append_stream, append_rows, save_as, rename, drop_table, all_of, PlainCommands, no_command, and_command}
 use Rattle.tables.specs.Refusals.{query_refusal}
 use Rattle.tables.specs.Verdict.{bad_name, too_many_bytes, import_tests, other_shape, unfit_row, too_heavy, of_meaning, of_query, empty_table}
-use Rattle.store_runs.specs.Changes.{PlainEdit, put, extend, move, remove, PlainChange, rows_under}
+use Rattle.store_runs.specs.Changes.{PlainEdit, put, extend, move, remove, rebuild, PlainChange, edited, placed_segments, HoldsStreams, rows_under, IsChange, IsRebuild}
+use Rattle.store_runs.specs.Filling.{placed_in, new_in, new_segments, runs_placed}
+use Rattle.store_runs.specs.Held.{table_held}
 use Rattle.store_runs.specs.Reading.{IsRead, Unreads}
 
 -- ---- the tests
@@ -91,10 +100,16 @@ streamed_rows bytes e = unless (too_many_bytes bytes) (of_meaning (meaning suppo
 abbrev pub decided_extension : List ℕ → Addition → (standing : List (List Cell)) → Result PlainChange Refusal
 decided_extension name a standing = unless (too_heavy a.entry.schema (standing ++ a.rows)) (Ok (pieces_put (extend name) (rows_under a.entry.schema a.rows)))
 
--- the existing table is read after all other tests of the new rows
+-- whatever its segments hold, the existing table and the new rows are light enough
+abbrev pub IsSurelyLight : Addition → Type 0
+IsSurelyLight a = (image : Image) (standing : PlainTable) → table_held image a.entry ≡ Some standing → table_weight a.entry.schema (standing.rows ++ a.rows) ≤ MAX_TABLE_WEIGHT
+
+-- the existing table is read after all other tests of the new rows, unless it is not needed for the last one
 abbrev pub IsAdded : (tells : Bool) → Image → List ℕ → Result Addition Refusal → Result PlainChange Refusal → Type 0
 IsAdded tells image name (Err r) d = d ≡ Err r
-IsAdded tells image name (Ok a) d = (standing : PlainTable) × IsRead tells image a.entry standing × (d ≡ decided_extension name a standing.rows)
+IsAdded tells image name (Ok a) d =
+    ((standing : PlainTable) × IsRead tells image a.entry standing × (d ≡ decided_extension name a standing.rows))
+    ⊎ (IsSurelyLight a × (d ≡ Ok (pieces_put (extend name) (rows_under a.entry.schema a.rows))))
 
 -- why a query can't be executed on tables of a schema: the selection of a table without rows shows it
 abbrev pub unselected : PlainSchema → PlainQuery → Option Refusal
@@ -118,22 +133,77 @@ decided_rename c from to = unless (rename_tests c from to) (Ok (names_changed (m
 abbrev pub decided_drop : PlainCatalogue → List ℕ → Result PlainChange Refusal
 decided_drop c name = unless (missing_in c name) (Ok (names_changed (remove name)))
 
--- commands that read the device: for an append the table is weighed, and for a saved query it is read
-abbrev pub reads_device : PlainCommand → Bool
-reads_device (append_stream name bytes) = true
-reads_device (append_rows name rows) = true
-reads_device (save_as from to query) = true
-reads_device _ = false
+abbrev mutual
+  -- commands that read the device: for an append the table is weighed, and for a saved query it is read
+  pub reads_device : PlainCommand → Bool
+  reads_device (append_stream name bytes) = true
+  reads_device (append_rows name rows) = true
+  reads_device (save_as from to query) = true
+  reads_device (all_of cs) = any_reads_device cs
+  reads_device _ = false
 
--- the decision on a command, if reads of the device show this image
-abbrev pub IsDecided : (tells : Bool) → Image → PlainCatalogue → PlainCommand → Result PlainChange Refusal → Type 0
-IsDecided tells image c (create name schema) d = d ≡ decided_create c name schema
-IsDecided tells image c (import_stream name bytes) d = d ≡ decided_import c name bytes
-IsDecided tells image c (append_stream name bytes) d = IsAdded tells image name (of_entry (entry_of c name) (streamed_rows bytes)) d
-IsDecided tells image c (append_rows name rows) d = IsAdded tells image name (of_entry (entry_of c name) (given_rows rows)) d
-IsDecided tells image c (save_as from to query) d = IsSaved tells image to query (of_entry (entry_of c from) (selected_entry c to query)) d
-IsDecided tells image c (rename from to) d = d ≡ decided_rename c from to
-IsDecided tells image c (drop_table name) d = d ≡ decided_drop c name
+  pub any_reads_device : PlainCommands → Bool
+  any_reads_device no_command = false
+  any_reads_device (and_command c cs) = reads_device c || any_reads_device cs
+
+-- ---- several commands
+
+-- all runs that a catalogue names lie before this sector
+abbrev pub AreBefore : (from : ℕ) → List Run → Type 0
+AreBefore from runs = AllByRecursion (λ (run : Run). run.start + run.count ≤ from) runs
+
+-- what a command leaves for the next one of a list: its new segments lie from the sector `next` on, behind all others and before `next'`, in an image that holds
+-- their streams there and has the old content before `next`. They have no digests yet
+pub record Leaves (next : ℕ) (image : Image) (c : PlainCatalogue) (change : PlainChange) (next' : ℕ) (image' : Image) (c' : PlainCatalogue) : Type 0 where
+  pub before : AreBefore next (runs_of c)
+  pub sound : IsChange c change
+  pub places : List Run
+  pub onward : next ≤ next'
+  pub within : AllByRecursion (λ (run : Run). (next ≤ run.start) × (run.start + run.count ≤ next')) places
+  pub holds : HoldsStreams image' (placed_segments One places change.streams change.counts) change.streams change.counts
+  pub same : (n : ℕ) → n < next → image' n ≡ image n
+  pub stands : IsCatalogue c'
+  pub is : c' ≡ edited c change.edit (placed_segments One places change.streams change.counts)
+
+-- the change of a whole list: the catalogue is rebuilt as its commands leave it, and the streams are those that the image holds in the new segments that are
+-- left; those of segments that a later command removed are not among them
+pub record IsWhole (from : ℕ) (old : PlainCatalogue) (image : Image) (c : PlainCatalogue) (change : PlainChange) : Type 0 where
+  pub gone : List Run
+  pub edit : change.edit ≡ rebuild old from c gone
+  pub sound : IsRebuild old old from c gone change.streams
+  pub before : AreBefore from (runs_placed from c)
+  pub order : AllByRecursion (λ (e : PlainEntry). e.segments ≡ placed_in from e.segments ++ new_in from e.segments) c
+  pub holds : HoldsStreams image (new_segments from c) change.streams change.counts
+
+-- new segments that all start at this sector, where only their number is asked for
+abbrev pub new_behind : (from : ℕ) → (streams : List (List ℕ)) → (counts : List ℕ) → List Segment
+new_behind from [] counts = []
+new_behind from (stream ∷ streams) [] = []
+new_behind from (stream ∷ streams) (count ∷ counts) =
+    record { place = record { run = record { start = from; count = sector_count (length stream) }; bytes = length stream }; rows = count; digest = None }
+    ∷ new_behind from streams counts
+
+abbrev mutual
+  -- the decision on a command, if reads of the device show this image
+  pub IsDecided : (tells : Bool) → Image → PlainCatalogue → PlainCommand → Result PlainChange Refusal → Type 0
+  IsDecided tells image c (create name schema) d = d ≡ decided_create c name schema
+  IsDecided tells image c (import_stream name bytes) d = d ≡ decided_import c name bytes
+  IsDecided tells image c (append_stream name bytes) d = IsAdded tells image name (of_entry (entry_of c name) (streamed_rows bytes)) d
+  IsDecided tells image c (append_rows name rows) d = IsAdded tells image name (of_entry (entry_of c name) (given_rows rows)) d
+  IsDecided tells image c (save_as from to query) d = IsSaved tells image to query (of_entry (entry_of c from) (selected_entry c to query)) d
+  IsDecided tells image c (rename from to) d = d ≡ decided_rename c from to
+  IsDecided tells image c (drop_table name) d = d ≡ decided_drop c name
+  IsDecided tells image c (all_of cs) d = (from : ℕ) × AreBefore from (runs_of c) × IsDecidedInTurn tells from c from image c cs d
+
+  -- the same for the commands that are left of a list, on what those before them leave
+  pub IsDecidedInTurn : (tells : Bool) → (from : ℕ) → (old : PlainCatalogue) → (next : ℕ) → Image → PlainCatalogue → PlainCommands → Result PlainChange Refusal → Type 0
+  IsDecidedInTurn tells from old next image c no_command d = (change : PlainChange) × IsWhole from old image c change × (d ≡ Ok change)
+  IsDecidedInTurn tells from old next image c (and_command x xs) d =
+      (one : Result PlainChange Refusal) × IsDecided tells image c x one
+      × (elim one [
+        | Err r ↦ d ≡ Err r
+        | Ok change ↦ (next' : ℕ) × (image' : Image) × (c' : PlainCatalogue) × Leaves next image c change next' image' c' × IsDecidedInTurn tells from old next' image' c' xs d
+      ])
 
 -- the entry of the table that is read for a command: no test before the read fails
 abbrev pub entry_added : Result Addition Refusal → Option PlainEntry
@@ -158,6 +228,24 @@ pub record IsNotRead (tells : Bool) (image : Image) (found : Option PlainEntry) 
   pub told : answer ≡ Err refusal
   pub unread : Unreads tells image entry refusal
 
+-- there are too many segments after a change, wherever the new ones lie
+abbrev pub ExceedsSegments : (from : ℕ) → PlainCatalogue → PlainChange → Type 0
+ExceedsSegments from c change = MAX_SEGMENTS < segment_count (edited c change.edit (new_behind from change.streams change.counts))
+
+abbrev mutual
+  -- why there is no decision: reading the table of a command fails, or there are too many segments after a command of a list
+  pub Stops : (tells : Bool) → Image → PlainCatalogue → PlainCommand → Result PlainChange Refusal → Type 0
+  Stops tells image c (all_of cs) answer = (from : ℕ) × AreBefore from (runs_of c) × StopsInTurn tells from image c cs answer
+  Stops tells image c command answer = IsNotRead tells image (entry_read c command) answer
+
+  pub StopsInTurn : (tells : Bool) → (next : ℕ) → Image → PlainCatalogue → PlainCommands → Result PlainChange Refusal → Type 0
+  StopsInTurn tells next image c no_command answer = ⊥
+  StopsInTurn tells next image c (and_command x xs) answer =
+      Stops tells image c x answer
+      ⊎ ((change : PlainChange) × IsDecided tells image c x (Ok change)
+      × (((answer ≡ Err (TooMany limits.Segments)) × ExceedsSegments next c change)
+      ⊎ ((next' : ℕ) × (image' : Image) × (c' : PlainCatalogue) × Leaves next image c change next' image' c' × StopsInTurn tells next' image' c' xs answer)))
+
 -- the possible answers: the decision, that reading the table failed, or that memory was refused
 abbrev pub IsAnswered : (tells : Bool) → Image → PlainCatalogue → PlainCommand → Result PlainChange Refusal → Type 0
-IsAnswered tells image c command answer = (answer ≡ Err OutOfMemory) ⊎ IsNotRead tells image (entry_read c command) answer ⊎ IsDecided tells image c command answer
+IsAnswered tells image c command answer = (answer ≡ Err OutOfMemory) ⊎ Stops tells image c command answer ⊎ IsDecided tells image c command answer

@@ -8,6 +8,7 @@ pub mod Halting
 pub mod Snapshots
 pub mod Reached
 pub mod Held
+pub mod Filling
 pub mod Changes
 pub mod Deciding
 pub mod Compacting

@@ -1,5 +1,5 @@
 // For how many rows of a run the dictionaries of columns have room, column by column, if no column is a list or a struct.
-ghost use Rattle.std.specs.Prelude.{◌≡◌, ◌≤◌, ◌++◌, ◌∷◌, [], ℕ, true, Some, IfOk, length, map};
+ghost use Rattle.std.specs.Prelude.{◌≡◌, ◌≤◌, ◌++◌, ◌∷◌, [], ℕ, true, Some, IfOk, OnOk, length, map};
 ghost use Rattle.std.specs.List.{flat_map};
 ghost use Rattle.arrow_schema.specs.Column.{Column};
 ghost use Rattle.arrow_schema.specs.View.{column_of, index_of};
@@ -43,38 +43,33 @@ fn are_few(runs: &[RowRun<'_>], most: usize) -> bool
     true
 }
 
-// Returns the entries, at most `most`, that the column at a place has in the rows of a piece.
-fn piece_entries<'a>(
+// Names the entries, at most `most`, that the column at a place has in the rows of a piece, and no others.
+fn name_piece<'a>(
     alloc: Global,
+    entries: &mut KnownEntries<'a>,
     field: &'a Field,
     spec: DictSpec,
     place: usize,
     piece: &[RowRun<'a>],
     most: usize,
-) -> Result<KnownEntries<'a>, AllocError>
+) -> Result<(), AllocError>
     requires spec { field.now.dictionary ≡ Some spec }
     requires counted { IsCounted place (column_of field.now) piece.now }
     requires fits { length (entries_of (flat_map (cells_at_place place (column_of field.now)) piece.now)) ≤ most }
-    ensures { IfOk result (λ entries. named_cells entries ≡ entries_of (flat_map (cells_at_place place (column_of field.now)) piece.now)) }
+    ensures { OnOk result (named_cells entries.new ≡ entries_of (flat_map (cells_at_place place (column_of field.now)) piece.now)) }
 {
-    let mut entries = KnownEntries::none(alloc);
+    entries.end();
     for run in piece {
-        name_slots(
-            alloc,
-            &mut entries,
-            field,
-            spec,
-            slots_at(*run, place),
-            most,
-        )?;
+        name_slots(alloc, entries, field, spec, slots_at(*run, place), most)?;
     }
-    Ok(entries)
+    Ok(())
 }
 
 // Returns for how many rows of a run, which follows a piece, the dictionary of the column at a place has room. If they are few together, no slot is visited:
 // they have no more values than rows.
 fn coded_column_room<'a>(
     alloc: Global,
+    entries: &mut KnownEntries<'a>,
     field: &'a Field,
     spec: DictSpec,
     place: usize,
@@ -94,8 +89,8 @@ fn coded_column_room<'a>(
             if run.len <= most && are_few(piece, most - run.len) {
                 return Ok(run.len);
             }
-            let mut entries = piece_entries(alloc, field, spec, place, piece, most)?;
-            name_slots(alloc, &mut entries, field, spec, slots_at(run, place), most)
+            name_piece(alloc, entries, field, spec, place, piece, most)?;
+            name_slots(alloc, entries, field, spec, slots_at(run, place), most)
         }
     }
 }
@@ -103,6 +98,7 @@ fn coded_column_room<'a>(
 // Returns for how many rows of a run, which follows a piece, the column at a place has room.
 fn column_room<'a>(
     alloc: Global,
+    entries: &mut KnownEntries<'a>,
     field: &'a Field,
     place: usize,
     piece: &[RowRun<'a>],
@@ -116,11 +112,12 @@ fn column_room<'a>(
 {
     match field.dictionary {
         None => Ok(run.len),
-        Some(spec) => coded_column_room(alloc, field, spec, place, piece, run),
+        Some(spec) => coded_column_room(alloc, entries, field, spec, place, piece, run),
     }
 }
 
-/// Returns for how many rows of a run, which follows a piece, the dictionaries of all columns have room.
+/// Returns for how many rows of a run, which follows a piece, the dictionaries of all columns have room. What is known of the entries of one column's dictionary
+/// is kept for the next column, which may have the same.
 pub(crate) fn columns_room<'a>(
     alloc: Global,
     fields: &'a [Field],
@@ -132,9 +129,10 @@ pub(crate) fn columns_room<'a>(
     requires fits { fit_with 0 (fields_of fields.now) piece.now run 0 ≡ true }
     ensures { IfOk result (λ n. HaveRoom 0 (fields_of fields.now) piece.now run.entry n) }
 {
+    let mut entries = KnownEntries::none(alloc);
     let mut rows = run.len;
     for (place, field) in fields.iter().enumerate() {
-        rows = rows.min(column_room(alloc, field, place, piece, run)?);
+        rows = rows.min(column_room(alloc, &mut entries, field, place, piece, run)?);
     }
     Ok(rows)
 }

@@ -1,5 +1,5 @@
 -- The tables after a command, or the first of its tests that fails.
-use Rattle.std.specs.Prelude.{ℕ, not, ◌&&◌, nat_le, nat_lt, List, [], ◌∷◌, ◌++◌, length, Option, Some, None, Result, Ok, Err}
+use Rattle.std.specs.Prelude.{ℕ, zero, suc, ◌+◌, IsOk, not, ◌&&◌, nat_le, nat_lt, List, [], ◌∷◌, ◌++◌, length, Option, Some, None, Result, Ok, Err}
 use Rattle.facts.specs.Checks.{when, first_some, unless}
 use Rattle.arrow_schema.specs.Column.{PlainSchema}
 use Rattle.arrow_schema.specs.OneShape.{have_one_shape}
@@ -21,7 +21,7 @@ use Rattle.tables.specs.Refusals.{query_refusal}
 use Rattle.catalogue.specs.declared.limits.TheConstants.{MAX_TABLES}
 use Rattle.catalogue.specs.Entries.{is_name}
 use Rattle.tables.specs.Tables.{Tables, table_at, has_table, with_table, without_table, table_count}
-use Rattle.tables.specs.Commands.{PlainCommand, create, import_stream, append_stream, append_rows, save_as, rename, drop_table}
+use Rattle.tables.specs.Commands.{PlainCommand, create, import_stream, append_stream, append_rows, save_as, rename, drop_table, all_of, PlainCommands, no_command, and_command}
 
 -- ---- the tests
 
@@ -108,14 +108,42 @@ dropped t name table = Ok (without_table t name)
 
 -- ---- the commands
 
-unfoldable pub verdict : Tables → PlainCommand → Result Tables Refusal
-verdict t (create name schema) = made t name (empty_table schema)
-verdict t (import_stream name bytes) = unless (import_tests name bytes) (of_meaning (meaning supported_codes bytes) (put t name))
-verdict t (append_stream name bytes) = of_table (table_at t name) (appended_stream t name bytes)
-verdict t (append_rows name rows) = of_table (table_at t name) (appended t name rows)
-verdict t (save_as from to query) = of_table (table_at t from) (saved t to query)
-verdict t (rename from to) = of_table (table_at t from) (renamed t from to)
-verdict t (drop_table name) = of_table (table_at t name) (dropped t name)
+unfoldable mutual
+  pub verdict : Tables → PlainCommand → Result Tables Refusal
+  verdict t (create name schema) = made t name (empty_table schema)
+  verdict t (import_stream name bytes) = unless (import_tests name bytes) (of_meaning (meaning supported_codes bytes) (put t name))
+  verdict t (append_stream name bytes) = of_table (table_at t name) (appended_stream t name bytes)
+  verdict t (append_rows name rows) = of_table (table_at t name) (appended t name rows)
+  verdict t (save_as from to query) = of_table (table_at t from) (saved t to query)
+  verdict t (rename from to) = of_table (table_at t from) (renamed t from to)
+  verdict t (drop_table name) = of_table (table_at t name) (dropped t name)
+  verdict t (all_of cs) = verdict_in_turn t cs
+
+  -- each command on the tables that the ones before it leave; the first refusal is that of the list
+  pub verdict_in_turn : Tables → PlainCommands → Result Tables Refusal
+  verdict_in_turn t no_command = Ok t
+  verdict_in_turn t (and_command c cs) = elim (verdict t c) [ Err r ↦ Err r | Ok u ↦ verdict_in_turn u cs ]
+
+-- the first refused command of a list, counted from `place`, and why it is refused
+abbrev pub refused_in_turn : (place : ℕ) → Tables → PlainCommands → Option (ℕ × Refusal)
+refused_in_turn place t no_command = None
+refused_in_turn place t (and_command c cs) = elim (verdict t c) [ Err r ↦ Some (place, r) | Ok u ↦ refused_in_turn (place + 1) u cs ]
+
+-- the first commands of a list
+abbrev pub first_commands : ℕ → PlainCommands → PlainCommands
+first_commands count no_command = no_command
+first_commands zero (and_command c cs) = no_command
+first_commands (suc count) (and_command c cs) = and_command c (first_commands count cs)
+
+-- the commands of a list are accepted up to the one at this place
+abbrev pub AcceptsThrough : Tables → PlainCommand → (place : ℕ) → Type 0
+AcceptsThrough t (all_of cs) place = IsOk (verdict_in_turn t (first_commands (place + 1) cs))
+AcceptsThrough t _ place = ⊥
+
+-- the refused line of a command that is a list, counted from 0
+abbrev pub refused_line : Tables → PlainCommand → Option (ℕ × Refusal)
+refused_line t (all_of cs) = refused_in_turn 0 t cs
+refused_line t _ = None
 
 -- the tables after a command; a refused one leaves them as they are
 abbrev pub after_verdict : Tables → Result Tables Refusal → Tables

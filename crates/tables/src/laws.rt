@@ -1,5 +1,5 @@
 // Laws about the definitions. The functions do nothing: their contracts are the laws.
-ghost use Rattle.std.specs.Prelude.{◌≡◌, ◌≢◌, ℕ, ◌+◌, List, [], ◌∷◌, ◌++◌, Option, Some, None, Result, Ok, Err, IfOk, codes};
+ghost use Rattle.std.specs.Prelude.{◌≡◌, ◌≢◌, ℕ, ◌+◌, take, slice_get, List, [], ◌∷◌, ◌++◌, Option, Some, None, Result, Ok, Err, IfOk, codes};
 ghost use Rattle.std.specs.List.{Contains};
 ghost use Rattle.arrow_schema.specs.Column.{PlainSchema};
 ghost use Rattle.facts.specs.Bytes.{AreBytes};
@@ -12,10 +12,10 @@ ghost use Rattle.ipc_message.specs.Header.{supported_codes};
 ghost use Rattle.ipc_stream.specs.Meaning.{meaning};
 ghost use Rattle.query.specs.Query.{PlainQuery};
 ghost use Rattle.query.specs.Selection.{selection};
-ghost use Rattle.tables.specs.Commands.{PlainCommand, create, append_stream, append_rows, save_as, rename, drop_table};
+ghost use Rattle.tables.specs.Commands.{PlainCommand, create, append_stream, append_rows, save_as, rename, drop_table, all_of, PlainCommands, commands_of};
 ghost use Rattle.tables.specs.Commands.{changed_names, BringsTables, BringTables};
-ghost use Rattle.tables.specs.Verdict.{verdict, step, after, joined, empty_table};
-ghost use Rattle.tables.specs.View.{command_of};
+ghost use Rattle.tables.specs.Verdict.{verdict, refused_line, step, after, joined, empty_table};
+ghost use Rattle.tables.specs.View.{command_of, list_of};
 
 use crate::command::Command;
 use ipc_stream::meaning_is_a_table;
@@ -35,6 +35,16 @@ pub fn a_command_changes_its_names_alone()
 /// Executing a list of commands is executing its first part and then the rest.
 pub fn commands_in_turn()
     ensures { (t : Tables) (cs ds : List PlainCommand) → after t (cs ++ ds) ≡ after (after t cs) ds }
+{}
+
+/// Several commands as one: if each is accepted on the tables that the ones before it leave, the tables after the list are those after all of them
+/// (`accepted`). Otherwise the list is refused with the first refusal (`refused`), at its place (`line`), and as any refused command it changes nothing.
+pub fn a_list_is_its_commands_in_turn()
+    ensures accepted { (t u : Tables) (cs : List PlainCommand) → verdict t (all_of (commands_of cs)) ≡ Ok u → u ≡ after t cs }
+    ensures refused { (t : Tables) (cs : PlainCommands) (r : Refusal) → verdict t (all_of cs) ≡ Err r → (n : ℕ) × (refused_line t (all_of cs) ≡ Some (n, r)) }
+    ensures line { (t : Tables) (cs : List PlainCommand) (n : ℕ) (r : Refusal) → refused_line t (all_of (commands_of cs)) ≡ Some (n, r)
+        → (verdict t (all_of (commands_of cs)) ≡ Err r)
+        × ((c : PlainCommand) × (slice_get cs n ≡ Some c) × (verdict (after t (take n cs)) c ≡ Err r)) }
 {}
 
 /// The weight of joined rows is the sum of their weights.
@@ -65,6 +75,15 @@ pub fn commands_bring_tables(command: &Command)
     match command {
         Command::ImportStream { bytes, .. } => are_bytes(bytes),
         _ => {}
+    }
+}
+
+/// A list of commands satisfies `BringsTables`.
+pub fn lists_bring_tables(commands: &[Command])
+    ensures { BringsTables (list_of commands.now) }
+{
+    for command in commands {
+        commands_bring_tables(command);
     }
 }
 

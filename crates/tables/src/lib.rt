@@ -17,8 +17,9 @@ mod refusal_text;
 
 pub use command::{Command, NewTable};
 pub use laws::{
-    a_command_changes_its_names_alone, a_refused_command_changes_nothing, commands_bring_tables,
-    commands_in_turn, joined_rows_weigh_together, tables_stay_tables, worked_commands,
+    a_command_changes_its_names_alone, a_list_is_its_commands_in_turn,
+    a_refused_command_changes_nothing, commands_bring_tables, commands_in_turn,
+    joined_rows_weigh_together, lists_bring_tables, tables_stay_tables, worked_commands,
 };
 pub use limits::MAX_IMPORT_BYTES;
 pub use refusal::{Limit, QueryRefusal, Refusal};

@@ -1,7 +1,7 @@
 // A device in a file of which one call fails.
 use crate::calls::{fill_sector, filling};
 use crate::faulty_file::{Fault, FaultyFile};
-use sector_dev::{DevError, FileDevice, FileError, SectorDevice};
+use sector_dev::{DevError, FileDevice, FileError, SectorDevice, SystemFile};
 use std::alloc::Global;
 
 // The number of sectors in the file.
@@ -9,72 +9,123 @@ const SMALL: usize = 16;
 
 const BYTES: usize = SMALL * 512;
 
-type Device = FileDevice<FaultyFile<BYTES>>;
+type Faulty = FaultyFile<BYTES>;
 
-// Writes this sector, and syncs every fourth time. Returns how many calls failed, and what the sector must hold.
-fn write_and_sync(device: &mut Device, i: usize, n: u64, had: u8) -> (u64, u8) {
-    let byte = (i % 100) as u8 + 1;
-    let written = fill_sector(device, n, byte).is_ok();
-    let synced = i % 4 != 3 || device.sync().is_ok();
-    let failures = !written as u64 + !synced as u64;
-    (failures, if written { byte } else { had })
+type Device = FileDevice<SystemFile<Faulty>>;
+
+// The sectors that are written, in order. No sector is written twice between two syncs.
+const WRITES: [usize; 13] = [3, 4, 5, 6, 9, 10, 3, 11, 12, 0, 15, 14, 13];
+
+// What each sector must hold.
+#[derive(Clone, Copy)]
+struct Expected {
+    // after the last sync
+    old: [u8; SMALL],
+    // after the last write
+    new: [u8; SMALL],
 }
 
-// Returns whether a sector is read as this byte, or its read fails.
+// Returns whether the device has stopped: each call fails and is counted.
+fn has_stopped(device: &mut Device) -> bool {
+    let before = device.failures();
+    let failed = Err(DevError::Failed);
+    fill_sector(device, 3, 1) == failed
+        && filling(device, 3) == Some(Err(DevError::Failed))
+        && device.sync() == failed
+        && device.failures() == before.wrapping_add(3)
+}
+
+// Returns whether a sector is read as this byte, or its read fails and is counted.
 fn is_read_or_fails(device: &mut Device, n: u64, byte: u8) -> bool {
+    let before = device.failures();
     match filling(device, n) {
         Some(Ok(found)) => found == byte,
-        Some(Err(_)) => true,
+        Some(Err(_)) => device.failures() == before.wrapping_add(1),
         None => false,
     }
 }
 
-// Writes this sector and returns what it must hold, or `None` if a failed call is not counted or the sector holds something else.
-fn written(device: &mut Device, i: usize, n: u64, had: u8) -> Option<u8> {
-    let before = device.failures();
-    let (failures, byte) = write_and_sync(device, i, n, had);
-    let counted = device.failures() == before.wrapping_add(failures);
-    if counted && is_read_or_fails(device, n, byte) {
-        Some(byte)
-    } else {
+// Writes a sector, and syncs every fourth time. Returns `None` if both succeed and the sector is read, and else whether all is as it must be.
+fn write_and_sync(
+    device: &mut Device,
+    expected: &mut Expected,
+    i: usize,
+    n: u64,
+    byte: u8,
+) -> Option<bool> {
+    if fill_sector(device, n, byte).is_err() {
+        return Some(has_stopped(device));
+    }
+    if i % 4 == 3 {
+        if device.sync().is_err() {
+            return Some(has_stopped(device));
+        }
+        expected.old = expected.new;
+    }
+    if is_read_or_fails(device, n, byte) {
         None
+    } else {
+        Some(false)
     }
 }
 
-// The sectors that are written, in order.
-const WRITES: [usize; 13] = [3, 4, 5, 4, 9, 10, 3, 11, 12, 0, 15, 14, 13];
-
-// Makes the writes and some syncs, of which one call of the file fails. Returns what each sector must hold.
-fn run_flaky(device: &mut Device) -> Option<[u8; SMALL]> {
-    let mut want = [0u8; SMALL];
+// Makes the writes and some syncs, of which one call of the file fails. Returns `None` if the device does not stop, and
+// else whether all is as it must be.
+fn run_flaky(device: &mut Device, expected: &mut Expected) -> Option<bool> {
     for (i, n) in WRITES.iter().enumerate() {
-        want[*n] = written(device, i, *n as u64, want[*n])?;
+        let byte = (i % 100) as u8 + 1;
+        expected.new[*n] = byte;
+        if let Some(well) = write_and_sync(device, expected, i, *n as u64, byte) {
+            return Some(well);
+        }
     }
-    Some(want)
+    if device.sync().is_err() {
+        return Some(has_stopped(device));
+    }
+    expected.old = expected.new;
+    None
 }
 
-// Returns whether each sector has the wanted content.
-fn holds(device: &mut Device, want: &[u8; SMALL]) -> bool {
+// Returns whether each sector has its old or its new content.
+fn holds(device: &mut Device, expected: &Expected) -> bool {
     let mut well = true;
-    for (n, byte) in want.iter().enumerate() {
-        well = well && filling(device, n as u64) == Some(Ok(*byte));
+    for (n, (old, new)) in expected.old.iter().zip(expected.new.iter()).enumerate() {
+        let found = filling(device, n as u64);
+        well = well && (found == Some(Ok(*old)) || found == Some(Ok(*new)));
     }
     well
 }
 
-// Returns whether what was written is read, although up to one call of the file fails.
-fn loses_nothing(device: &mut Device) -> bool {
-    let Some(want) = run_flaky(device) else {
-        return false;
+// Returns whether a device that is made of the file anew holds what it must.
+fn is_left(alloc: Global, file: Faulty, expected: &Expected) -> bool {
+    match FileDevice::from_file(alloc, file) {
+        Ok(mut device) => holds(&mut device, expected),
+        Err(_) => false,
+    }
+}
+
+// Uses the device, although up to one call of the file fails. If it stops, the copies of the file were dropped after the call that failed.
+fn loses_nothing(alloc: Global, device: Device) -> bool {
+    let mut device = device;
+    let mut expected = Expected {
+        old: [0; SMALL],
+        new: [0; SMALL],
     };
-    let synced = device.sync().is_ok() || device.sync().is_ok();
-    synced && device.failures() <= 1 && holds(device, &want)
+    let stopped = run_flaky(&mut device, &mut expected);
+    let few = device.failures() <= 1;
+    let mut file = device.into_file().into_file();
+    let well = match stopped {
+        Some(well) => well && file.is_dropped(),
+        None => few,
+    };
+    file.heal();
+    well && is_left(alloc, file, &expected)
 }
 
 // Tests a failure of the call with this number, counted from the opening, which makes one.
 fn survives(alloc: Global, fails_at: u64) -> bool {
-    match FileDevice::from_file(alloc, FaultyFile::<BYTES>::new(Fault::Call(fails_at))) {
-        Ok(mut device) => loses_nothing(&mut device),
+    match FileDevice::from_file(alloc, Faulty::new(Fault::Call(fails_at))) {
+        Ok(device) => loses_nothing(alloc, device),
         Err(error) => error == FileError::Io && fails_at == 1,
     }
 }
@@ -89,23 +140,21 @@ fn wrong_call(alloc: Global) -> Option<u64> {
     None
 }
 
-// Each call of the file fails in turn: no acknowledged write is lost, and each failed call is counted.
+// Each call of the file fails in turn. A failed write or sync stops the device, and a failed read does not; the file that is opened anew has each sector
+// as it was last synced, or as it was written since.
 #[test]
-fn a_delayed_write_that_fails_is_not_lost(rt: HostRuntime) {
+fn a_failed_call_loses_nothing(rt: HostRuntime) {
     assert!(&rt; wrong_call(rt.alloc()).is_none());
 }
 
-// Returns whether the sync fails and is counted, and what was written can still be read.
-fn is_refused(device: &mut Device) -> bool {
-    fill_sector(device, 3, 7).is_ok()
-        && device.sync() == Err(DevError::Failed)
-        && device.failures() == 1
-        && filling(device, 3) == Some(Ok(7))
-}
-
 fn is_sync_refused(alloc: Global) -> bool {
-    match FileDevice::from_file(alloc, FaultyFile::<BYTES>::new(Fault::Syncs)) {
-        Ok(mut device) => is_refused(&mut device),
+    match FileDevice::from_file(alloc, Faulty::new(Fault::Syncs)) {
+        Ok(mut device) => {
+            fill_sector(&mut device, 3, 7).is_ok()
+                && device.sync() == Err(DevError::Failed)
+                && device.failures() == 1
+                && has_stopped(&mut device)
+        }
         Err(_) => false,
     }
 }
@@ -114,4 +163,21 @@ fn is_sync_refused(alloc: Global) -> bool {
 #[test]
 fn a_sync_that_the_system_refuses_fails(rt: HostRuntime) {
     assert!(&rt; is_sync_refused(rt.alloc()));
+}
+
+// Returns whether the copies of the file are dropped after a read.
+fn is_forgotten(alloc: Global) -> bool {
+    let Ok(mut device) = FileDevice::from_file(alloc, Faulty::new(Fault::Nothing)) else {
+        return false;
+    };
+    let read = filling(&mut device, 3) == Some(Ok(0));
+    let all = device.sectors();
+    device.forget(0, all);
+    read && device.into_file().into_file().is_dropped()
+}
+
+// A device passes on that its sectors are to be forgotten.
+#[test]
+fn copies_are_dropped_where_they_are_to_be_forgotten(rt: HostRuntime) {
+    assert!(&rt; is_forgotten(rt.alloc()));
 }

@@ -1,78 +1,66 @@
 // A device in a file that writes the start of a long row, and then fails once.
 use crate::calls::{filling, write_row};
 use crate::faulty_file::{Fault, FaultyFile};
-use sector_dev::{DevError, FileDevice, SectorDevice};
+use sector_dev::{DevError, FileDevice, SectorDevice, SystemFile};
 use std::alloc::Global;
 
 // The file has 400 sectors.
 const BYTES: usize = 204_800;
 
-type Device = FileDevice<FaultyFile<BYTES>>;
+type Faulty = FaultyFile<BYTES>;
+
+type Device = FileDevice<SystemFile<Faulty>>;
 
 fn is_filled(device: &mut Device, n: u64, byte: u8) -> bool {
     filling(device, n) == Some(Ok(byte))
 }
 
-fn write_long_row(device: &mut Device) -> Result<(), DevError> {
-    write_row(device, 150, &[[9; 512]; 200])
+// Some sectors are written, and some that the row overwrites were read ahead. Then the row fails, and from then on each call.
+fn is_cut_short(device: &mut Device) -> bool {
+    write_row(device, 5, &[[3; 512]; 20]).is_ok()
+        && is_filled(device, 160, 0)
+        && write_row(device, 150, &[[9; 512]; 200]) == Err(DevError::Failed)
+        && device.failures() == 1
+        && filling(device, 0) == Some(Err(DevError::Failed))
+        && device.sync() == Err(DevError::Failed)
+        && device.failures() == 3
 }
 
-// Returns whether a sector has its old or its new content, and the same one after other reads.
-fn is_either(device: &mut Device, n: u64) -> bool {
-    let first = filling(device, n);
-    (first == Some(Ok(0)) || first == Some(Ok(9)))
-        && is_filled(device, 0, 0)
-        && is_filled(device, 5, 3)
-        && filling(device, n) == first
-}
-
-fn are_either(device: &mut Device) -> bool {
+// Returns whether the sectors from `start` to `end` have this old or this new content.
+fn are_either(device: &mut Device, start: u64, end: u64, old: u8, new: u8) -> bool {
     let mut well = true;
-    for n in 150..350 {
-        well = well && is_either(device, n);
+    for n in start..end {
+        let found = filling(device, n);
+        well = well && (found == Some(Ok(old)) || found == Some(Ok(new)));
     }
     well
 }
 
-// Some sectors are written, and some that the row overwrites were read ahead. Then the row fails: what was written is not lost, and reads do not
-// change.
-fn is_cut_short(device: &mut Device, is_synced: bool) -> bool {
-    write_row(device, 5, &[[3; 512]; 20]).is_ok()
-        && (!is_synced || device.sync().is_ok())
-        && is_filled(device, 160, 0)
-        && write_long_row(device) == Err(DevError::Failed)
-        && device.failures() == 1
-        && is_either(device, 161)
-        && is_filled(device, 24, 3)
-        && are_either(device)
-}
-
-// The same row is written again, over sectors that were read ahead.
-fn is_written_again(device: &mut Device) -> bool {
-    is_filled(device, 148, 0)
-        && write_long_row(device).is_ok()
-        && is_filled(device, 151, 9)
-        && device.sync().is_ok()
-        && is_filled(device, 150, 9)
-        && is_filled(device, 349, 9)
-        && is_filled(device, 350, 0)
-        && is_filled(device, 24, 3)
-        && device.failures() == 1
-}
-
-fn survives(alloc: Global, is_synced: bool) -> bool {
-    match FileDevice::from_file(alloc, FaultyFile::<BYTES>::new(Fault::LongWrite)) {
-        Ok(mut device) => is_cut_short(&mut device, is_synced) && is_written_again(&mut device),
+// Returns whether a device that is made of the file anew has what was written before the row, and in the row each sector old or new.
+fn is_left(alloc: Global, file: Faulty) -> bool {
+    match FileDevice::from_file(alloc, file) {
+        Ok(mut device) => {
+            is_filled(&mut device, 4, 0)
+                && are_either(&mut device, 5, 25, 3, 3)
+                && are_either(&mut device, 25, 150, 0, 0)
+                && are_either(&mut device, 150, 350, 0, 9)
+                && are_either(&mut device, 350, 400, 0, 0)
+        }
         Err(_) => false,
     }
 }
 
-fn both_survive(alloc: Global) -> bool {
-    survives(alloc, false) && survives(alloc, true)
+fn survives(alloc: Global) -> bool {
+    let Ok(mut device) = FileDevice::from_file(alloc, Faulty::new(Fault::LongWrite)) else {
+        return false;
+    };
+    let cut_short = is_cut_short(&mut device);
+    let file = device.into_file().into_file();
+    cut_short && file.is_dropped() && is_left(alloc, file)
 }
 
-// A long row is written to the file without a copy: if this fails, no acknowledged write is lost, and no outdated sector that was read ahead is left.
+// A long row is written to the file without a copy: if this fails, the device stops, and only sectors of the row may have changed.
 #[test]
-fn a_long_row_that_fails_is_read_the_same_each_time(rt: HostRuntime) {
-    assert!(&rt; both_survive(rt.alloc()));
+fn a_long_row_that_fails_stops_the_device(rt: HostRuntime) {
+    assert!(&rt; survives(rt.alloc()));
 }

@@ -1,4 +1,5 @@
 // A file in memory with scheduled failures. All tests use it, because each type of file costs as much proof time as ten functions.
+use sector_dev::CachedFile;
 use std::cell::Cell;
 use std::fs::{Metadata, OpenFile};
 use std::io::{self, Cursor, ErrorKind, Read, Seek, SeekFrom, Write};
@@ -24,6 +25,8 @@ pub(crate) enum Fault {
 pub(crate) struct FaultyFile<const BYTES: usize> {
     bytes: Cursor<[u8; BYTES]>,
     calls: Cell<u64>,
+    // the copies of the whole file were dropped after the last call
+    is_dropped: Cell<bool>,
     fault: Fault,
 }
 
@@ -32,11 +35,22 @@ impl<const BYTES: usize> FaultyFile<BYTES> {
         FaultyFile {
             bytes: Cursor::new([0; BYTES]),
             calls: Cell::new(0),
+            is_dropped: Cell::new(false),
             fault,
         }
     }
 
+    pub(crate) fn is_dropped(&self) -> bool {
+        self.is_dropped.get()
+    }
+
+    // From now on no call fails.
+    pub(crate) fn heal(&mut self) {
+        self.fault = Fault::Nothing;
+    }
+
     fn begin(&self) -> io::Result<()> {
+        self.is_dropped.set(false);
         let call = self.calls.get().wrapping_add(1);
         self.calls.set(call);
         match self.fault {
@@ -96,9 +110,16 @@ impl<const BYTES: usize> OpenFile for FaultyFile<BYTES> {
     }
 
     fn sync_data(&self) -> io::Result<()> {
+        self.begin()?;
         match self.fault {
             Fault::Syncs => Err(io::Error::from(ErrorKind::Other)),
-            _ => self.begin(),
+            _ => Ok(()),
         }
+    }
+}
+
+impl<const BYTES: usize> CachedFile for FaultyFile<BYTES> {
+    fn drop_copies(&self, offset: u64, length: u64) {
+        self.is_dropped.set(offset == 0 && length >= BYTES as u64);
     }
 }

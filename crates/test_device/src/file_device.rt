@@ -1,6 +1,6 @@
 // A device in a file of the system. Its size limits are tested by the commands of a store (tests/stores).
 use crate::calls::{are_same, filling, read_sector, write_row, write_sector};
-use sector_dev::{FileDevice, FileError, SectorDevice};
+use sector_dev::{FileDevice, FileError, SectorDevice, SystemFile};
 use std::env;
 use std::fs::{self, File};
 
@@ -129,7 +129,7 @@ fn is_used<D: SectorDevice>(device: &mut D) -> bool {
 }
 
 // Creates a device, at the second try if memory is refused once; nothing must be left of the first try.
-fn create_twice(rt: &HostRuntime, path: &str) -> Option<FileDevice<File>> {
+fn create_twice(rt: &HostRuntime, path: &str) -> Option<FileDevice<SystemFile<File>>> {
     match FileDevice::create(rt, path, 6000) {
         Ok(device) => Some(device),
         Err(FileError::Io) if fs::exists(rt, path).ok() == Some(false) => {
@@ -140,7 +140,7 @@ fn create_twice(rt: &HostRuntime, path: &str) -> Option<FileDevice<File>> {
 }
 
 // Opens a device, at the second try if memory is refused once.
-fn open_twice(rt: &HostRuntime, path: &str) -> Option<FileDevice<File>> {
+fn open_twice(rt: &HostRuntime, path: &str) -> Option<FileDevice<SystemFile<File>>> {
     match FileDevice::open(rt, path) {
         Ok(device) => Some(device),
         Err(FileError::Io) => FileDevice::open(rt, path).ok(),

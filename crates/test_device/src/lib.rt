@@ -24,6 +24,8 @@ mod life;
 #[cfg(test)]
 mod model_device;
 #[cfg(test)]
+mod model_file;
+#[cfg(test)]
 mod other_devices;
 #[cfg(test)]
 mod runs;

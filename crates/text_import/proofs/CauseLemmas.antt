@@ -29,7 +29,7 @@ use Rattle.text_import.specs.Cause.{IsNestedColumn, IsOtherName, IsOtherCount, I
 use Rattle.text_import.proofs.NameLemmas.{any_repeated, repeated_there}
 use Rattle.text_import.proofs.ObjectLemmas.{columns_counted}
 use Rattle.text_import.proofs.PartLemmas.{any_unknown, column_nested, column_flat, none_nested}
-use Rattle.text_import.proofs.ExplainedParts.{Explained, Within, mapped_explained, unknown_among, place_explained, name_explained}
+use Rattle.text_import.proofs.ExplainedParts.{Explained, Within, mapped_explained, unknown_among, from_none, place_explained, name_explained}
 
 -- the first of some records that is refused
 record FirstRefused {A : Type 0} (read : A → Result (List Cell) Refusal) (n : ℕ) (xs : List A) (r : Refused) : Type 0 where
@@ -58,29 +58,35 @@ first_refused read n (x ∷ xs) r h = by (read x) refl (rows_from read (n + 1) x
     by (Ok row) is (Ok rows) rest h more = absurd cc
 
 -- a column further on
-later : (null_text : List ℕ) (c : Column) (cs : List Column) (name text : List ℕ) (e : Refusal) → IsRefusedField null_text cs name text e → IsRefusedField null_text (c ∷ cs) name text e
-later null_text c cs name text e h = record { place = suc h.place; column = h.column; stands = h.stands; named = h.named; refused = h.refused }
+later : (null_text : List ℕ) (c : Column) (cs : List Column) (name : List ℕ) (place : ℕ) (text : List ℕ) (e : Refusal) → IsRefusedField null_text cs name place text e
+    → IsRefusedField null_text (c ∷ cs) name (suc place) text e
+later null_text c cs name place text e h = record { column = h.column; stands = h.stands; named = h.named; refused = h.refused }
 
--- why a field is refused that is named
-abbrev FieldCause : List ℕ → List Column → List (List ℕ) → PlainPart → Type 0
-FieldCause null_text cs ts part = (name : List ℕ) × (text : List ℕ) × (part ≡ field name text)
-    × (e : Refusal) × (field_cells null_text cs ts ≡ Err e) × IsRefusedField null_text cs name text e
+-- why a field is refused that is named, where the first column has the place `first`
+abbrev FieldCause : List ℕ → ℕ → List Column → List (List ℕ) → PlainPart → Type 0
+FieldCause null_text first cs ts part = (name : List ℕ) × (place : ℕ) × (text : List ℕ) × (part ≡ field name (first + place) text)
+    × (e : Refusal) × (field_cells null_text cs ts ≡ Err e) × IsRefusedField null_text cs name place text e
 
 -- where a field is named, its refusal is that of the record
-field_cause : (null_text : List ℕ) (cs : List Column) (ts : List (List ℕ)) (part : PlainPart) → refused_field null_text cs ts ≡ Some part → FieldCause null_text cs ts part
+field_cause : (null_text : List ℕ) (first : ℕ) (cs : List Column) (ts : List (List ℕ)) (part : PlainPart) → refused_field null_text first cs ts ≡ Some part → FieldCause null_text first cs ts part
 unfolding refused_field field_cells
-field_cause null_text [] ts part names = absurd cc
-field_cause null_text (c ∷ cs) [] part names = absurd cc
-field_cause null_text (c ∷ cs) (t ∷ ts) part names = by (field_cell null_text c t) refl names (field_cause null_text cs ts part)
+field_cause null_text first [] ts part names = absurd cc
+field_cause null_text first (c ∷ cs) [] part names = absurd cc
+field_cause null_text first (c ∷ cs) (t ∷ ts) part names = by (field_cell null_text c t) refl names (field_cause null_text (first + 1) cs ts part)
   where
-    by : (r : Result Cell Refusal) → field_cell null_text c t ≡ r → (if is_refused r then Some (field (name_of_column c) t) else refused_field null_text cs ts) ≡ Some part
-        → (refused_field null_text cs ts ≡ Some part → FieldCause null_text cs ts part)
-        → (name : List ℕ) × (text : List ℕ) × (part ≡ field name text)
-        × (e : Refusal) × (and_then r (λ x. given (λ xs. x ∷ xs) (field_cells null_text cs ts)) ≡ Err e) × IsRefusedField null_text (c ∷ cs) name text e
-    by (Err q) is names more = (name_of_column c, t, cc, q, refl, record { place = 0; column = c; stands = refl; named = refl; refused = is })
+    by : (r : Result Cell Refusal) → field_cell null_text c t ≡ r
+        → (if is_refused r then Some (field (name_of_column c) first t) else refused_field null_text (first + 1) cs ts) ≡ Some part
+        → (refused_field null_text (first + 1) cs ts ≡ Some part → FieldCause null_text (first + 1) cs ts part)
+        → (name : List ℕ) × (place : ℕ) × (text : List ℕ) × (part ≡ field name (first + place) text)
+        × (e : Refusal) × (and_then r (λ x. given (λ xs. x ∷ xs) (field_cells null_text cs ts)) ≡ Err e) × IsRefusedField null_text (c ∷ cs) name place text e
+    by (Err q) is names more =
+        let here : first ≡ first + 0 = omega arith in
+        let same : field (name_of_column c) first t ≡ part = cc in
+        (name_of_column c, 0, t, sym same ∙ ap (λ n. field (name_of_column c) n t) here, q, refl, record { column = c; stands = refl; named = refl; refused = is })
     by (Ok x) is names more =
-        let (name, text, same, e, cells, cause) = more names in
-        (name, text, same, e, rw cells refl, later null_text c cs name text e cause)
+        let (name, place, text, same, e, cells, cause) = more names in
+        let next : first + 1 + place ≡ first + suc place = omega arith in
+        (name, suc place, text, same ∙ ap (λ n. field name n text) next, e, rw cells refl, later null_text c cs name place text e cause)
 
 -- the numbers that are named differ
 counts_differ : (cs : List Column) (n columns : ℕ) → (n == columns) ≡ false → columns ≡ length cs → IsOtherCount cs n columns
@@ -90,15 +96,16 @@ record_cause : (s : PlainSchema) (null_text : List ℕ) (ts : List (List ℕ)) (
     → IsRecordCause null_text s.columns part e
 record_cause s null_text ts part e names refuses = by (length ts == length s.columns) refl names refuses
   where
-    of_cells : FieldCause null_text s.columns ts part → and_then (field_cells null_text s.columns ts) (accepted s) ≡ Err e → IsRecordCause null_text s.columns part e
-    of_cells (name, text, same, e2, cells, cause) h =
+    of_cells : FieldCause null_text 0 s.columns ts part → and_then (field_cells null_text s.columns ts) (accepted s) ≡ Err e → IsRecordCause null_text s.columns part e
+    of_cells (name, place, text, same, e2, cells, cause) h =
         let told = rw cells at h in
         let one : e2 ≡ e = cc in
-        rw (same, ← one) cause
+        let here : 0 + place ≡ place = omega arith in
+        rw (same, here, ← one) cause
 
-    by : (b : Bool) → (length ts == length s.columns) ≡ b → (if b then refused_field null_text s.columns ts else Some (record_count (length ts) (length s.columns))) ≡ Some part
+    by : (b : Bool) → (length ts == length s.columns) ≡ b → (if b then refused_field null_text 0 s.columns ts else Some (record_count (length ts) (length s.columns))) ≡ Some part
         → and_then (if b then field_cells null_text s.columns ts else Err Width) (accepted s) ≡ Err e → IsRecordCause null_text s.columns part e
-    by true is names h = of_cells (field_cause null_text s.columns ts part names) h
+    by true is names h = of_cells (field_cause null_text 0 s.columns ts part names) h
     by false is names h =
         let same : part ≡ record_count (length ts) (length s.columns) = cc in
         let one : e ≡ Width = cc in
@@ -107,7 +114,7 @@ record_cause s null_text ts part e names refuses = by (length ts == length s.col
 -- what is the cause of a record is that of its text
 of_record : (null_text : List ℕ) (cs : List Column) (t : List ℕ) (part : PlainPart) (e : Refusal) → IsRecordCause null_text cs part e → IsCsvCause null_text cs t part e
 of_record null_text cs t (record_count fields columns) e h = h
-of_record null_text cs t (field name text) e h = h
+of_record null_text cs t (field name place text) e h = h
 of_record null_text cs t _ e h = absurd h
 
 -- a column that is named is a list or a struct
@@ -228,20 +235,29 @@ told s value part e (Err q) (Some p) is names h =
     rw (← same, ← one) is
 
 -- of the items of an array, and of the members of an object
-below_line : (cs : List Column) (value : Data) (p : PlainValuePart) (e : Refusal) → Within [] (columns_of cs) value p e → IsRefusedBelow cs value p e
-below_line cs value p e h = record { place = h.place; column = h.column; path = h.path; stands = rw (columns_listed cs) at h.stands; named = h.leads; refused = h.refused }
+below_line : (cs : List Column) (value : Data) (p : PlainValuePart) (e : Refusal) → Within [] 0 (columns_of cs) value p e → IsRefusedBelow cs value p e
+below_line cs value p e h = record {
+  index = h.index;
+  column = h.column;
+  path = h.path;
+  place = h.place;
+  stands = rw (columns_listed cs) at h.stands;
+  named = h.leads;
+  placed = h.placed ∙ from_none h.index h.place;
+  refused = h.refused;
+}
 
-items_told : (cs : List Column) (ds : Items) → item_count ds ≡ length cs → Explained (IsRefusedBelow cs (json.array ds)) (cells_by_place (columns_of cs) ds) (part_by_place [] (columns_of cs) ds)
+items_told : (cs : List Column) (ds : Items) → item_count ds ≡ length cs → Explained (IsRefusedBelow cs (json.array ds)) (cells_by_place (columns_of cs) ds) (part_by_place [] 0 (columns_of cs) ds)
 items_told cs ds size =
-    mapped_explained (Within [] (columns_of cs) (json.array ds)) (IsRefusedBelow cs (json.array ds)) (cells_by_place (columns_of cs) ds) (part_by_place [] (columns_of cs) ds)
+    mapped_explained (Within [] 0 (columns_of cs) (json.array ds)) (IsRefusedBelow cs (json.array ds)) (cells_by_place (columns_of cs) ds) (part_by_place [] 0 (columns_of cs) ds)
     (below_line cs (json.array ds))
-    (place_explained (columns_of cs) [] ds (size ∙ sym (columns_counted cs)))
+    (place_explained (columns_of cs) [] 0 ds (size ∙ sym (columns_counted cs)))
 
-members_told : (cs : List Column) (ms : Members) → Explained (IsRefusedBelow cs (json.object ms)) (cells_by_name (columns_of cs) ms) (part_by_name [] (columns_of cs) ms)
+members_told : (cs : List Column) (ms : Members) → Explained (IsRefusedBelow cs (json.object ms)) (cells_by_name (columns_of cs) ms) (part_by_name [] 0 (columns_of cs) ms)
 members_told cs ms =
-    mapped_explained (Within [] (columns_of cs) (json.object ms)) (IsRefusedBelow cs (json.object ms)) (cells_by_name (columns_of cs) ms) (part_by_name [] (columns_of cs) ms)
+    mapped_explained (Within [] 0 (columns_of cs) (json.object ms)) (IsRefusedBelow cs (json.object ms)) (cells_by_name (columns_of cs) ms) (part_by_name [] 0 (columns_of cs) ms)
     (below_line cs (json.object ms))
-    (name_explained (columns_of cs) [] ms)
+    (name_explained (columns_of cs) [] 0 ms)
 
 -- the part of the value of a line that is named is why no row is made of it
 value_cause : (s : PlainSchema) (value : Data) (part : PlainLinePart) (e : Refusal) → refused_in_value (columns_of s.columns) value ≡ Some part → value_row s value ≡ Err e
@@ -251,10 +267,10 @@ value_cause s (json.array ds) part e names h = by (item_count ds == column_count
     cs : Columns
     cs = columns_of s.columns
 
-    by : (b : Bool) → (item_count ds == column_count cs) ≡ b → (if b then option_map value_part (part_by_place [] cs ds) else Some (other_count (item_count ds) (column_count cs))) ≡ Some part
+    by : (b : Bool) → (item_count ds == column_count cs) ≡ b → (if b then option_map value_part (part_by_place [] 0 cs ds) else Some (other_count (item_count ds) (column_count cs))) ≡ Some part
         → and_then (given cell_list (if b then cells_by_place cs ds else Err Width)) (accepted s) ≡ Err e → IsLinePartCause s.columns (json.array ds) part e
     by true is names h =
-        told s (json.array ds) part e (cells_by_place cs ds) (part_by_place [] cs ds) (items_told s.columns ds (eqb-true (item_count ds) (column_count cs) is ∙ columns_counted s.columns)) names h
+        told s (json.array ds) part e (cells_by_place cs ds) (part_by_place [] 0 cs ds) (items_told s.columns ds (eqb-true (item_count ds) (column_count cs) is ∙ columns_counted s.columns)) names h
     by false is names h =
         let same : part ≡ other_count (item_count ds) (column_count cs) = cc in
         let one : e ≡ Width = cc in
@@ -264,12 +280,12 @@ value_cause s (json.object ms) part e names h = by (first_repeated (names_of cs)
     cs : Columns
     cs = columns_of s.columns
 
-    key : (o : Option (List ℕ)) → first_unknown (names_of cs) (keys_of ms) ≡ o → option_or (option_map unknown_name o) (option_map value_part (part_by_name [] cs ms)) ≡ Some part
+    key : (o : Option (List ℕ)) → first_unknown (names_of cs) (keys_of ms) ≡ o → option_or (option_map unknown_name o) (option_map value_part (part_by_name [] 0 cs ms)) ≡ Some part
         → and_then (given cell_list (if has_unknown (names_of cs) (keys_of ms) then Err UnknownName else cells_by_name cs ms)) (accepted s) ≡ Err e
         → IsLinePartCause s.columns (json.object ms) part e
     key None is names h =
         let all : has_unknown (names_of cs) (keys_of ms) ≡ false = sym (any_unknown (names_of cs) (keys_of ms)) ∙ ap is_some is in
-        told s (json.object ms) part e (cells_by_name cs ms) (part_by_name [] cs ms) (members_told s.columns ms) names (rw all at h)
+        told s (json.object ms) part e (cells_by_name cs ms) (part_by_name [] 0 cs ms) (members_told s.columns ms) names (rw all at h)
     key (Some name) is names h =
         let some : has_unknown (names_of cs) (keys_of ms) ≡ true = sym (any_unknown (names_of cs) (keys_of ms)) ∙ ap is_some is in
         let told = rw some at h in
@@ -278,7 +294,7 @@ value_cause s (json.object ms) part e names h = by (first_repeated (names_of cs)
         rw same (one, (unknown_among (names_of cs) (keys_of ms) name is).0)
 
     by : (r : Option (List ℕ)) → first_repeated (names_of cs) ≡ r
-        → option_or (option_map repeated_name r) (option_or (option_map unknown_name (first_unknown (names_of cs) (keys_of ms))) (option_map value_part (part_by_name [] cs ms))) ≡ Some part
+        → option_or (option_map repeated_name r) (option_or (option_map unknown_name (first_unknown (names_of cs) (keys_of ms))) (option_map value_part (part_by_name [] 0 cs ms))) ≡ Some part
         → and_then (given cell_list (if repeats (names_of cs) then Err AmbiguousNames else if has_unknown (names_of cs) (keys_of ms) then Err UnknownName else cells_by_name cs ms)) (accepted s) ≡ Err e
         → IsLinePartCause s.columns (json.object ms) part e
     by (Some name) twice names h =

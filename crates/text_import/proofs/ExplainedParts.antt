@@ -29,16 +29,18 @@ Explained why (Err e) (Some p) = why p e
 
 -- why a value of a column, or that there is none, is refused
 abbrev pub Why : Column → Option Data → PlainValuePart → Refusal → Type 0
-Why c v p e = IsRefusedAt e c v p.path p.reason
+Why c v p e = IsRefusedAt e c v p.path p.place p.reason
 
--- why a value is refused for these columns: the path begins with `before` and the name of one of them
-pub record Within (before : List ℕ) (cs : Columns) (value : Data) (p : PlainValuePart) (e : Refusal) : Type 0 where
-  pub place : ℕ
+-- why a value is refused for these columns, the first of which has the index `first`: the path begins with `before` and the name of one of them
+pub record Within (before : List ℕ) (first : ℕ) (cs : Columns) (value : Data) (p : PlainValuePart) (e : Refusal) : Type 0 where
+  pub index : ℕ
   pub column : Column
   pub path : List ℕ
-  pub stands : slice_get (list_of cs) place ≡ Some column
+  pub place : List ℕ
+  pub stands : slice_get (list_of cs) index ≡ Some column
   pub leads : p.path ≡ (before ++ name_of_column column) ++ path
-  pub refused : IsRefusedAt e column (value_at place (name_of_column column) value) path p.reason
+  pub placed : p.place ≡ (first + index) ∷ place
+  pub refused : IsRefusedAt e column (value_at index (name_of_column column) value) path place p.reason
 
 given_explained : {A B : Type 0} (why : PlainValuePart → Refusal → Type 0) (f : A → B) (r : Result A Refusal) (o : Option PlainValuePart) → Explained why r o → Explained why (given f r) o
 given_explained why f (Ok x) None h = tt
@@ -54,15 +56,15 @@ mapped_explained why other (Err e) None f h = absurd h
 mapped_explained why other (Err e) (Some p) f h = f p e h
 
 -- one more cell
-step_explained : (why : PlainValuePart → Refusal → Type 0) (step : List ℕ) (r : Result Cell Refusal) (o : Option PlainValuePart) (rest : Result Cells Refusal) (more : Option PlainValuePart)
-    → Explained (λ p e. why (below step p) e) r o → Explained why rest more → Explained why (and_then r (λ x. given (and_cell x) rest)) (option_or (option_map (below step) o) more)
-step_explained why step (Ok x) None (Ok xs) None h k = tt
-step_explained why step (Ok x) None (Ok xs) (Some p) h k = absurd k
-step_explained why step (Ok x) None (Err e) None h k = absurd k
-step_explained why step (Ok x) None (Err e) (Some p) h k = k
-step_explained why step (Ok x) (Some p) rest more h k = absurd h
-step_explained why step (Err e) None rest more h k = absurd h
-step_explained why step (Err e) (Some p) rest more h k = h
+step_explained : (why : PlainValuePart → Refusal → Type 0) (step : List ℕ) (index : ℕ) (r : Result Cell Refusal) (o : Option PlainValuePart) (rest : Result Cells Refusal) (more : Option PlainValuePart)
+    → Explained (λ p e. why (below step index p) e) r o → Explained why rest more → Explained why (and_then r (λ x. given (and_cell x) rest)) (option_or (option_map (below step index) o) more)
+step_explained why step index (Ok x) None (Ok xs) None h k = tt
+step_explained why step index (Ok x) None (Ok xs) (Some p) h k = absurd k
+step_explained why step index (Ok x) None (Err e) None h k = absurd k
+step_explained why step index (Ok x) None (Err e) (Some p) h k = k
+step_explained why step index (Ok x) (Some p) rest more h k = absurd h
+step_explained why step index (Err e) None rest more h k = absurd h
+step_explained why step index (Err e) (Some p) rest more h k = h
 
 flat_explained : (c : Column) (d : Data) (r : Result Cell Refusal) → ((e : Refusal) → r ≡ Err e → cell_in c d ≡ Err e) → Explained (Why c (Some d)) r (flat_part r)
 flat_explained c d (Ok x) is = tt
@@ -70,11 +72,11 @@ flat_explained c d (Err e) is = is_refused_value c d (is e refl)
 
 -- the items of a list
 items_explained : (why : PlainValuePart → Refusal → Type 0) (f : Data → Result Cell Refusal) (g : Data → Option PlainValuePart) (place : ℕ) (ds : Items)
-    → ((n m : ℕ) (d : Data) → get_item n ds ≡ Some d → m ≡ n + place → Explained (λ p e. why (below (item_step m) p) e) (f d) (g d))
+    → ((n m : ℕ) (d : Data) → get_item n ds ≡ Some d → m ≡ n + place → Explained (λ p e. why (below (item_step m) 0 p) e) (f d) (g d))
     → Explained why (each_item f ds) (items_part place g ds)
 items_explained why f g place no_items each = tt
 items_explained why f g place (item d ds) each =
-    step_explained why (item_step place) (f d) (g d) (each_item f ds) (items_part (place + 1) g ds)
+    step_explained why (item_step place) 0 (f d) (g d) (each_item f ds) (items_part (place + 1) g ds)
     (each 0 place d refl (omega arith))
     (items_explained why f g (place + 1) ds (λ n m x is at. each (suc n) m x is (omega arith)))
 
@@ -83,8 +85,8 @@ all_explained : (c inner : Column) (ds : Items) → item_of_kind (kind_of_column
 all_explained c inner ds is each =
     items_explained (Why c (Some (json.array ds))) (cell_in inner) (cell_part inner) 0 ds (λ n m d there at.
     let here : get_item m ds ≡ Some d = (let same : m ≡ n = omega arith in rw same there) in
-    mapped_explained (Why inner (Some d)) (λ p e. Why c (Some (json.array ds)) (below (item_step m) p) e) (cell_in inner d) (cell_part inner d)
-    (λ p e h. in_item c inner ds d m p.path p.reason is here h)
+    mapped_explained (Why inner (Some d)) (λ p e. Why c (Some (json.array ds)) (below (item_step m) 0 p) e) (cell_in inner d) (cell_part inner d)
+    (λ p e h. in_item c inner ds d m p.path p.place p.reason is here h)
     (each d))
 
 list_explained : (c inner : Column) → item_of_kind (kind_of_column c) ≡ Some inner → ((d : Data) → Explained (Why inner (Some d)) (cell_in inner d) (cell_part inner d)) → (d : Data)
@@ -135,11 +137,11 @@ unknown_among names keys name is = (unknown_is names keys name is, unknown_there
 
 -- a struct
 struct_explained : (c : Column) (cs : Columns) → kind_of_column c ≡ structs cs
-    → ((ds : Items) → item_count ds ≡ column_count cs → Explained (Why c (Some (json.array ds))) (cells_by_place cs ds) (part_by_place dot cs ds))
-    → ((ms : Members) → Explained (Why c (Some (json.object ms))) (cells_by_name cs ms) (part_by_name dot cs ms))
+    → ((ds : Items) → item_count ds ≡ column_count cs → Explained (Why c (Some (json.array ds))) (cells_by_place cs ds) (part_by_place dot 0 cs ds))
+    → ((ms : Members) → Explained (Why c (Some (json.object ms))) (cells_by_name cs ms) (part_by_name dot 0 cs ms))
     → (d : Data) → ((e : Refusal) → cells_in cs d ≡ Err e → cell_in c d ≡ Err e)
     → Explained (Why c (Some d)) (cells_in cs d)
-    (struct_part (sized_part (column_count cs) (part_by_place dot cs)) (λ ms. option_or (names_part (names_of cs) ms) (part_by_name dot cs ms)) d)
+    (struct_part (sized_part (column_count cs) (part_by_place dot 0 cs)) (λ ms. option_or (names_part (names_of cs) ms) (part_by_name dot 0 cs ms)) d)
 struct_explained c cs kind places names json.null same = is_refused_value c json.null (same WrongKind refl)
 struct_explained c cs kind places names (json.boolean b) same = is_refused_value c (json.boolean b) (same WrongKind refl)
 struct_explained c cs kind places names (json.number n) same = is_refused_value c (json.number n) (same WrongKind refl)
@@ -147,14 +149,14 @@ struct_explained c cs kind places names (json.string t) same = is_refused_value 
 struct_explained c cs kind places names (json.array ds) same = by (item_count ds == column_count cs) refl
   where
     by : (b : Bool) → (item_count ds == column_count cs) ≡ b
-        → Explained (Why c (Some (json.array ds))) (if b then cells_by_place cs ds else Err Width) (if b then part_by_place dot cs ds else Some (itself (Count (item_count ds) (column_count cs))))
+        → Explained (Why c (Some (json.array ds))) (if b then cells_by_place cs ds else Err Width) (if b then part_by_place dot 0 cs ds else Some (itself (Count (item_count ds) (column_count cs))))
     by true counted = places ds (eqb-true (item_count ds) (column_count cs) counted)
     by false counted = is_count c ds (column_count cs) (ap size_of_kind kind) (eqb-false (item_count ds) (column_count cs) counted) refl
 struct_explained c cs kind places names (json.object ms) same = by (first_repeated (names_of cs)) refl (first_unknown (names_of cs) (keys_of ms)) refl
   where
     by : (r : Option (List ℕ)) → first_repeated (names_of cs) ≡ r → (o : Option (List ℕ)) → first_unknown (names_of cs) (keys_of ms) ≡ o
         → Explained (Why c (Some (json.object ms))) (if repeats (names_of cs) then Err AmbiguousNames else if has_unknown (names_of cs) (keys_of ms) then Err UnknownName else cells_by_name cs ms)
-        (option_or (option_or (option_map (at_name Repeated) r) (option_map (at_name Unknown) o)) (part_by_name dot cs ms))
+        (option_or (option_or (option_map (at_name Repeated) r) (option_map (at_name Unknown) o)) (part_by_name dot 0 cs ms))
     by (Some name) twice o found =
         let some : repeats (names_of cs) ≡ true = sym (any_repeated (names_of cs)) ∙ ap is_some twice in
         rw some (is_repeated c cs ms name kind (repeated_there (names_of cs) name twice) refl)
@@ -185,26 +187,40 @@ column_explained name true kind i p json.null more = tt
 column_explained name false kind i p json.null more = is_refused_value (column name false kind i p) json.null refl
 column_explained name nullable kind i p _ more = more (λ e h. h)
 
+-- the place of a field, where the first has the index 0
+pub from_none : (index : ℕ) (place : List ℕ) → ((0 + index) ∷ place) ≡ (index ∷ place)
+from_none index place = (let same : 0 + index ≡ index = omega arith in ap (λ (n : ℕ). n ∷ place) same)
+
 -- in a field of a struct
-in_struct : (c : Column) (cs : Columns) (d : Data) (p : PlainValuePart) (e : Refusal) → kind_of_column c ≡ structs cs → Within dot cs d p e → Why c (Some d) p e
-in_struct c cs d p e kind h = rw h.leads (in_field c h.column d h.place h.path p.reason (rw kind h.stands) h.refused)
+in_struct : (c : Column) (cs : Columns) (d : Data) (p : PlainValuePart) (e : Refusal) → kind_of_column c ≡ structs cs → Within dot 0 cs d p e → Why c (Some d) p e
+in_struct c cs d p e kind h = rw (h.leads, h.placed ∙ from_none h.index h.place) (in_field c h.column d h.index h.path h.place p.reason (rw kind h.stands) h.refused)
 
 -- in the first column, from an array and from an object, and in another one
-place_here : (before : List ℕ) (c : Column) (cs : Columns) (d : Data) (ds : Items) (p : PlainValuePart) (e : Refusal) → Why c (Some d) p e
-    → Within before (and_column c cs) (json.array (item d ds)) (below (before ++ name_of_column c) p) e
-place_here before c cs d ds p e h = record { place = 0; column = c; path = p.path; stands = refl; leads = refl; refused = h }
+first_of : (first : ℕ) (place : List ℕ) → (first ∷ place) ≡ ((first + 0) ∷ place)
+first_of first place = (let here : first ≡ first + 0 = omega arith in ap (λ (n : ℕ). n ∷ place) here)
 
-place_later : (before : List ℕ) (c : Column) (cs : Columns) (d : Data) (ds : Items) (p : PlainValuePart) (e : Refusal) → Within before cs (json.array ds) p e
-    → Within before (and_column c cs) (json.array (item d ds)) p e
-place_later before c cs d ds p e h = record { place = suc h.place; column = h.column; path = h.path; stands = h.stands; leads = h.leads; refused = h.refused }
+next_of : (first index : ℕ) (place : List ℕ) → ((first + 1 + index) ∷ place) ≡ ((first + suc index) ∷ place)
+next_of first index place = (let next : first + 1 + index ≡ first + suc index = omega arith in ap (λ (n : ℕ). n ∷ place) next)
 
-name_here : (before : List ℕ) (c : Column) (cs : Columns) (ms : Members) (p : PlainValuePart) (e : Refusal) → Why c (get_member (name_of_column c) ms) p e
-    → Within before (and_column c cs) (json.object ms) (below (before ++ name_of_column c) p) e
-name_here before c cs ms p e h = record { place = 0; column = c; path = p.path; stands = refl; leads = refl; refused = h }
+place_here : (before : List ℕ) (first : ℕ) (c : Column) (cs : Columns) (d : Data) (ds : Items) (p : PlainValuePart) (e : Refusal) → Why c (Some d) p e
+    → Within before first (and_column c cs) (json.array (item d ds)) (below (before ++ name_of_column c) first p) e
+place_here before first c cs d ds p e h =
+    record { index = 0; column = c; path = p.path; place = p.place; stands = refl; leads = refl; placed = first_of first p.place; refused = h }
 
-name_later : (before : List ℕ) (c : Column) (cs : Columns) (ms : Members) (p : PlainValuePart) (e : Refusal) → Within before cs (json.object ms) p e
-    → Within before (and_column c cs) (json.object ms) p e
-name_later before c cs ms p e h = record { place = suc h.place; column = h.column; path = h.path; stands = h.stands; leads = h.leads; refused = h.refused }
+place_later : (before : List ℕ) (first : ℕ) (c : Column) (cs : Columns) (d : Data) (ds : Items) (p : PlainValuePart) (e : Refusal) → Within before (first + 1) cs (json.array ds) p e
+    → Within before first (and_column c cs) (json.array (item d ds)) p e
+place_later before first c cs d ds p e h =
+    record { index = suc h.index; column = h.column; path = h.path; place = h.place; stands = h.stands; leads = h.leads; placed = h.placed ∙ next_of first h.index h.place; refused = h.refused }
+
+name_here : (before : List ℕ) (first : ℕ) (c : Column) (cs : Columns) (ms : Members) (p : PlainValuePart) (e : Refusal) → Why c (get_member (name_of_column c) ms) p e
+    → Within before first (and_column c cs) (json.object ms) (below (before ++ name_of_column c) first p) e
+name_here before first c cs ms p e h =
+    record { index = 0; column = c; path = p.path; place = p.place; stands = refl; leads = refl; placed = first_of first p.place; refused = h }
+
+name_later : (before : List ℕ) (first : ℕ) (c : Column) (cs : Columns) (ms : Members) (p : PlainValuePart) (e : Refusal) → Within before (first + 1) cs (json.object ms) p e
+    → Within before first (and_column c cs) (json.object ms) p e
+name_later before first c cs ms p e h =
+    record { index = suc h.index; column = h.column; path = h.path; place = h.place; stands = h.stands; leads = h.leads; placed = h.placed ∙ next_of first h.index h.place; refused = h.refused }
 
 mutual
   unfolding kind_in cells_by_place cells_by_name kind_part part_by_place part_by_name
@@ -230,33 +246,36 @@ mutual
       given_explained (Why c (Some d)) parts (cells_in cs d) (kind_part (structs cs) d)
       (struct_explained c cs is
       (λ ds size.
-      mapped_explained (Within dot cs (json.array ds)) (Why c (Some (json.array ds))) (cells_by_place cs ds) (part_by_place dot cs ds)
+      mapped_explained (Within dot 0 cs (json.array ds)) (Why c (Some (json.array ds))) (cells_by_place cs ds) (part_by_place dot 0 cs ds)
       (λ p e h. in_struct c cs (json.array ds) p e is h)
-      (place_explained cs dot ds size))
+      (place_explained cs dot 0 ds size))
       (λ ms.
-      mapped_explained (Within dot cs (json.object ms)) (Why c (Some (json.object ms))) (cells_by_name cs ms) (part_by_name dot cs ms)
+      mapped_explained (Within dot 0 cs (json.object ms)) (Why c (Some (json.object ms))) (cells_by_name cs ms) (part_by_name dot 0 cs ms)
       (λ p e h. in_struct c cs (json.object ms) p e is h)
-      (name_explained cs dot ms))
+      (name_explained cs dot 0 ms))
       d
       (λ e h. same e (ap (λ (r : Result Cells Refusal). given parts r) h)))
 
-  pub place_explained : (cs : Columns) (before : List ℕ) (ds : Items) → item_count ds ≡ column_count cs
-      → Explained (Within before cs (json.array ds)) (cells_by_place cs ds) (part_by_place before cs ds)
-  place_explained no_column before ds size = tt
-  place_explained (and_column c cs) before no_items size = absurd (omega arith)
-  place_explained (and_column c cs) before (item d ds) size =
-      let why = Within before (and_column c cs) (json.array (item d ds)) in
-      step_explained why (before ++ name_of_column c) (cell_in c d) (cell_part c d) (cells_by_place cs ds) (part_by_place before cs ds)
-      (mapped_explained (Why c (Some d)) (λ p e. why (below (before ++ name_of_column c) p) e) (cell_in c d) (cell_part c d) (place_here before c cs d ds) (explained c d))
-      (mapped_explained (Within before cs (json.array ds)) why (cells_by_place cs ds) (part_by_place before cs ds) (place_later before c cs d ds) (place_explained cs before ds (omega arith)))
+  pub place_explained : (cs : Columns) (before : List ℕ) (first : ℕ) (ds : Items) → item_count ds ≡ column_count cs
+      → Explained (Within before first cs (json.array ds)) (cells_by_place cs ds) (part_by_place before first cs ds)
+  place_explained no_column before first ds size = tt
+  place_explained (and_column c cs) before first no_items size = absurd (omega arith)
+  place_explained (and_column c cs) before first (item d ds) size =
+      let why = Within before first (and_column c cs) (json.array (item d ds)) in
+      step_explained why (before ++ name_of_column c) first (cell_in c d) (cell_part c d) (cells_by_place cs ds) (part_by_place before (first + 1) cs ds)
+      (mapped_explained (Why c (Some d)) (λ p e. why (below (before ++ name_of_column c) first p) e) (cell_in c d) (cell_part c d) (place_here before first c cs d ds) (explained c d))
+      (mapped_explained (Within before (first + 1) cs (json.array ds)) why (cells_by_place cs ds) (part_by_place before (first + 1) cs ds) (place_later before first c cs d ds)
+      (place_explained cs before (first + 1) ds (omega arith)))
 
-  pub name_explained : (cs : Columns) (before : List ℕ) (ms : Members) → Explained (Within before cs (json.object ms)) (cells_by_name cs ms) (part_by_name before cs ms)
-  name_explained no_column before ms = tt
-  name_explained (and_column c cs) before ms =
-      let why = Within before (and_column c cs) (json.object ms) in
+  pub name_explained : (cs : Columns) (before : List ℕ) (first : ℕ) (ms : Members)
+      → Explained (Within before first cs (json.object ms)) (cells_by_name cs ms) (part_by_name before first cs ms)
+  name_explained no_column before first ms = tt
+  name_explained (and_column c cs) before first ms =
+      let why = Within before first (and_column c cs) (json.object ms) in
       let found = get_member (name_of_column c) ms in
       let cell = member_in (is_nullable_column c) (cell_in c) found in
       let part = member_part (is_nullable_column c) (cell_part c) found in
-      step_explained why (before ++ name_of_column c) cell part (cells_by_name cs ms) (part_by_name before cs ms)
-      (mapped_explained (Why c found) (λ p e. why (below (before ++ name_of_column c) p) e) cell part (name_here before c cs ms) (member_explained c found (λ x. explained c x)))
-      (mapped_explained (Within before cs (json.object ms)) why (cells_by_name cs ms) (part_by_name before cs ms) (name_later before c cs ms) (name_explained cs before ms))
+      step_explained why (before ++ name_of_column c) first cell part (cells_by_name cs ms) (part_by_name before (first + 1) cs ms)
+      (mapped_explained (Why c found) (λ p e. why (below (before ++ name_of_column c) first p) e) cell part (name_here before first c cs ms) (member_explained c found (λ x. explained c x)))
+      (mapped_explained (Within before (first + 1) cs (json.object ms)) why (cells_by_name cs ms) (part_by_name before (first + 1) cs ms) (name_later before first c cs ms)
+      (name_explained cs before (first + 1) ms))

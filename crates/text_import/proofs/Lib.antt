@@ -8,5 +8,6 @@ pub mod AcceptedRows
 pub mod PartLemmas
 pub mod ExplainedParts
 pub mod CauseLemmas
+pub mod PlaceLemmas
 pub mod ValuePartLemmas
 pub mod WeightLemmas

@@ -81,19 +81,19 @@ pub headless : (fs : List Field) (t : List ℕ) → slice_get (records_of t) 0 �
 headless fs t none = rw (none, no_header_names (map column_of fs), length-map fs column_of) refl
 
 -- a field that is refused, one that is not, and the end
-pub field_named : (null_text : List ℕ) (c : Column) (cs : List Column) (t : List ℕ) (ts : List (List ℕ)) → is_refused (field_cell null_text c t) ≡ true
-    → refused_field null_text (c ∷ cs) (t ∷ ts) ≡ Some (field (name_of_column c) t)
+pub field_named : (null_text : List ℕ) (place : ℕ) (c : Column) (cs : List Column) (t : List ℕ) (ts : List (List ℕ)) → is_refused (field_cell null_text c t) ≡ true
+    → refused_field null_text place (c ∷ cs) (t ∷ ts) ≡ Some (field (name_of_column c) place t)
 unfolding refused_field
-field_named null_text c cs t ts e = rw e refl
+field_named null_text place c cs t ts e = rw e refl
 
-pub field_passed : (null_text : List ℕ) (c : Column) (cs : List Column) (t : List ℕ) (ts : List (List ℕ)) → is_refused (field_cell null_text c t) ≡ false
-    → refused_field null_text (c ∷ cs) (t ∷ ts) ≡ refused_field null_text cs ts
+pub field_passed : (null_text : List ℕ) (place : ℕ) (c : Column) (cs : List Column) (t : List ℕ) (ts : List (List ℕ)) → is_refused (field_cell null_text c t) ≡ false
+    → refused_field null_text place (c ∷ cs) (t ∷ ts) ≡ refused_field null_text (place + 1) cs ts
 unfolding refused_field
-field_passed null_text c cs t ts e = rw e refl
+field_passed null_text place c cs t ts e = rw e refl
 
-pub no_field : (null_text : List ℕ) (ts : List (List ℕ)) → refused_field null_text [] ts ≡ None
+pub no_field : (null_text : List ℕ) (place : ℕ) (ts : List (List ℕ)) → refused_field null_text place [] ts ≡ None
 unfolding refused_field
-no_field null_text ts = refl
+no_field null_text place ts = refl
 
 -- the number of items
 pub counted_no : (fs : List Field) (vs : List Value) → (length vs ≡ length fs → ⊥)
@@ -101,7 +101,7 @@ pub counted_no : (fs : List Field) (vs : List Value) → (length vs ≡ length f
 counted_no fs vs h = rw (item_count_is vs, column_count_is fs, ne_eqb (length vs) (length fs) h) refl
 
 pub counted_yes : (fs : List Field) (vs : List Value) → length vs ≡ length fs
-    → refused_in_items (columns_of (map column_of fs)) (items_view vs) ≡ option_map value_part (part_by_place [] (columns_of (map column_of fs)) (items_view vs))
+    → refused_in_items (columns_of (map column_of fs)) (items_view vs) ≡ option_map value_part (part_by_place [] 0 (columns_of (map column_of fs)) (items_view vs))
 counted_yes fs vs h = rw (item_count_is vs, column_count_is fs, eq-eqb (length vs) (length fs) h) refl
 
 pub ruleset counted_rules = (counted_no, counted_yes)
@@ -115,7 +115,7 @@ pub name_unknown : (cs : Columns) (ms : Members) (name : List ℕ) → first_rep
 name_unknown cs ms name e is = rw (e, is) refl
 
 pub names_known : (cs : Columns) (ms : Members) → first_repeated (names_of cs) ≡ None → first_unknown (names_of cs) (keys_of ms) ≡ None
-    → refused_in_members cs ms ≡ option_map value_part (part_by_name [] cs ms)
+    → refused_in_members cs ms ≡ option_map value_part (part_by_name [] 0 cs ms)
 names_known cs ms e is = rw (e, is) refl
 
 pub ruleset named_rules = (name_repeated, name_unknown, names_known)

@@ -27,32 +27,33 @@ sized_yes size f vs h = rw (item_count_is vs, eq-eqb (length vs) size h) refl
 pub ruleset sized_rules = (sized_no, sized_yes, column_count_is)
 
 -- a field with a refused part, one without, and the end
-pub place_named : (before : List ℕ) (c : Column) (cs : Columns) (v : Value) (vs : List Value) (p : PlainValuePart) → cell_part c (view v) ≡ Some p
-    → part_by_place before (and_column c cs) (items_view (v ∷ vs)) ≡ Some (below (before ++ name_of_column c) p)
+pub place_named : (before : List ℕ) (index : ℕ) (c : Column) (cs : Columns) (v : Value) (vs : List Value) (p : PlainValuePart) → cell_part c (view v) ≡ Some p
+    → part_by_place before index (and_column c cs) (items_view (v ∷ vs)) ≡ Some (below (before ++ name_of_column c) index p)
 unfolding part_by_place
-place_named before c cs v vs p e = rw e refl
+place_named before index c cs v vs p e = rw e refl
 
-pub place_passed : (before : List ℕ) (c : Column) (cs : Columns) (v : Value) (vs : List Value) → cell_part c (view v) ≡ None
-    → part_by_place before (and_column c cs) (items_view (v ∷ vs)) ≡ part_by_place before cs (items_view vs)
+pub place_passed : (before : List ℕ) (index : ℕ) (c : Column) (cs : Columns) (v : Value) (vs : List Value) → cell_part c (view v) ≡ None
+    → part_by_place before index (and_column c cs) (items_view (v ∷ vs)) ≡ part_by_place before (index + 1) cs (items_view vs)
 unfolding part_by_place
-place_passed before c cs v vs e = rw e refl
+place_passed before index c cs v vs e = rw e refl
 
-pub no_place : (before : List ℕ) (ds : Items) → part_by_place before no_column ds ≡ None
+pub no_place : (before : List ℕ) (index : ℕ) (ds : Items) → part_by_place before index no_column ds ≡ None
 unfolding part_by_place
-no_place before ds = refl
+no_place before index ds = refl
 
-pub name_named : (before : List ℕ) (c : Column) (cs : Columns) (ms : Members) (p : PlainValuePart) → member_part_of c ms ≡ Some p
-    → part_by_name before (and_column c cs) ms ≡ Some (below (before ++ name_of_column c) p)
+pub name_named : (before : List ℕ) (index : ℕ) (c : Column) (cs : Columns) (ms : Members) (p : PlainValuePart) → member_part_of c ms ≡ Some p
+    → part_by_name before index (and_column c cs) ms ≡ Some (below (before ++ name_of_column c) index p)
 unfolding part_by_name
-name_named before c cs ms p e = rw e refl
+name_named before index c cs ms p e = rw e refl
 
-pub name_passed : (before : List ℕ) (c : Column) (cs : Columns) (ms : Members) → member_part_of c ms ≡ None → part_by_name before (and_column c cs) ms ≡ part_by_name before cs ms
+pub name_passed : (before : List ℕ) (index : ℕ) (c : Column) (cs : Columns) (ms : Members) → member_part_of c ms ≡ None
+    → part_by_name before index (and_column c cs) ms ≡ part_by_name before (index + 1) cs ms
 unfolding part_by_name
-name_passed before c cs ms e = rw e refl
+name_passed before index c cs ms e = rw e refl
 
-pub no_name : (before : List ℕ) (ms : Members) → part_by_name before no_column ms ≡ None
+pub no_name : (before : List ℕ) (index : ℕ) (ms : Members) → part_by_name before index no_column ms ≡ None
 unfolding part_by_name
-no_name before ms = refl
+no_name before index ms = refl
 
 -- names that are not refused
 pub names_pass : (names : List (List ℕ)) (ms : Members) → tested names ms ≡ Ok ms → names_part names ms ≡ None

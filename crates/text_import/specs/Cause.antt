@@ -1,5 +1,5 @@
 -- Why a part of a text is refused.
-use Rattle.std.specs.Prelude.{◌≡◌, ◌≢◌, ◌<◌, ◌++◌, ℕ, true, false, List, [], length, Option, Some, None, IfSome, Ok, Err, slice_get}
+use Rattle.std.specs.Prelude.{◌≡◌, ◌≢◌, ◌<◌, ◌++◌, ℕ, true, false, List, [], ◌∷◌, length, Option, Some, None, IfSome, Ok, Err, slice_get}
 use Rattle.serde_json.specs.Data.{Data, Items, Members}
 use Rattle.serde_json.specs.Data as json
 use Rattle.serde_json.specs.Find.{get_item, get_member}
@@ -47,9 +47,8 @@ pub record IsOtherCount (cs : List Column) (counted columns : ℕ) : Type 0 wher
   pub all : columns ≡ length cs
   pub differs : counted ≢ columns
 
--- the text is refused with this refusal for a column of this name
-pub record IsRefusedField (null_text : List ℕ) (cs : List Column) (name text : List ℕ) (e : Refusal) : Type 0 where
-  pub place : ℕ
+-- the text is refused with this refusal for the column at this place, which has this name
+pub record IsRefusedField (null_text : List ℕ) (cs : List Column) (name : List ℕ) (place : ℕ) (text : List ℕ) (e : Refusal) : Type 0 where
   pub column : Column
   pub stands : slice_get cs place ≡ Some column
   pub named : name_of_column column ≡ name
@@ -58,7 +57,7 @@ pub record IsRefusedField (null_text : List ℕ) (cs : List Column) (name text :
 -- for a record
 abbrev pub IsRecordCause : List ℕ → List Column → PlainPart → Refusal → Type 0
 IsRecordCause null_text cs (record_count fields columns) e = (e ≡ Width) × IsOtherCount cs fields columns
-IsRecordCause null_text cs (field name text) e = IsRefusedField null_text cs name text e
+IsRecordCause null_text cs (field name place text) e = IsRefusedField null_text cs name place text e
 IsRecordCause null_text cs part e = ⊥
 
 -- for a CSV text
@@ -90,37 +89,39 @@ size_of_kind (fixed_lists size below) = Some size
 size_of_kind (structs cs) = Some (column_count cs)
 size_of_kind _ = None
 
--- a value for a column, or that there is none, is refused with this refusal, because of what is at the end of this path
-pub data IsRefusedAt (e : Refusal) : Column → Option Data → (path : List ℕ) → Reason → Type 0 where
+-- a value for a column, or that there is none, is refused with this refusal, because of what is at the end of this path, for the field at this place
+pub data IsRefusedAt (e : Refusal) : Column → Option Data → (path : List ℕ) → (place : List ℕ) → Reason → Type 0 where
   -- the value itself
-  is_refused_value : (c : Column) (d : Data) → cell_in c d ≡ Err e → IsRefusedAt e c (Some d) [] Value
+  is_refused_value : (c : Column) (d : Data) → cell_in c d ≡ Err e → IsRefusedAt e c (Some d) [] [] Value
   -- there is none, where one is wanted
-  is_missing : (c : Column) → is_nullable_column c ≡ false → e ≡ MissingName → IsRefusedAt e c None [] Missing
+  is_missing : (c : Column) → is_nullable_column c ≡ false → e ≡ MissingName → IsRefusedAt e c None [] [] Missing
   -- an array with another number of items
   is_count : (c : Column) (ds : Items) (size : ℕ) → size_of_kind (kind_of_column c) ≡ Some size → item_count ds ≢ size → e ≡ Width
-      → IsRefusedAt e c (Some (json.array ds)) [] (Count (item_count ds) size)
+      → IsRefusedAt e c (Some (json.array ds)) [] [] (Count (item_count ds) size)
   -- a name of an object that is not that of a field
   is_unknown : (c : Column) (cs : Columns) (ms : Members) (name : List ℕ) → kind_of_column c ≡ structs cs → has_name (names_of cs) name ≡ false
-      → has_name (keys_of ms) name ≡ true → e ≡ UnknownName → IsRefusedAt e c (Some (json.object ms)) (dot ++ name) Unknown
+      → has_name (keys_of ms) name ≡ true → e ≡ UnknownName → IsRefusedAt e c (Some (json.object ms)) (dot ++ name) [] Unknown
   -- an object for a struct that has two fields of this name
   is_repeated : (c : Column) (cs : Columns) (ms : Members) (name : List ℕ) → kind_of_column c ≡ structs cs → IsRepeated (names_of cs) name
-      → e ≡ AmbiguousNames → IsRefusedAt e c (Some (json.object ms)) (dot ++ name) Repeated
+      → e ≡ AmbiguousNames → IsRefusedAt e c (Some (json.object ms)) (dot ++ name) [] Repeated
   -- in an item of a list
-  in_item : (c item : Column) (ds : Items) (d : Data) (place : ℕ) (path : List ℕ) (reason : Reason) → item_of_kind (kind_of_column c) ≡ Some item
-      → get_item place ds ≡ Some d → IsRefusedAt e item (Some d) path reason → IsRefusedAt e c (Some (json.array ds)) (item_step place ++ path) reason
+  in_item : (c item : Column) (ds : Items) (d : Data) (at : ℕ) (path place : List ℕ) (reason : Reason) → item_of_kind (kind_of_column c) ≡ Some item
+      → get_item at ds ≡ Some d → IsRefusedAt e item (Some d) path place reason → IsRefusedAt e c (Some (json.array ds)) (item_step at ++ path) (0 ∷ place) reason
   -- in a field of a struct
-  in_field : (c field : Column) (d : Data) (place : ℕ) (path : List ℕ) (reason : Reason) → slice_get (fields_of_kind (kind_of_column c)) place ≡ Some field
-      → IsRefusedAt e field (value_at place (name_of_column field) d) path reason
-      → IsRefusedAt e c (Some d) ((dot ++ name_of_column field) ++ path) reason
+  in_field : (c field : Column) (d : Data) (index : ℕ) (path place : List ℕ) (reason : Reason) → slice_get (fields_of_kind (kind_of_column c)) index ≡ Some field
+      → IsRefusedAt e field (value_at index (name_of_column field) d) path place reason
+      → IsRefusedAt e c (Some d) ((dot ++ name_of_column field) ++ path) (index ∷ place) reason
 
 -- the value of a line for a column, or that there is none, is refused with this refusal, because of what is at the end of this path
 pub record IsRefusedBelow (cs : List Column) (value : Data) (part : PlainValuePart) (e : Refusal) : Type 0 where
-  pub place : ℕ
+  pub index : ℕ
   pub column : Column
   pub path : List ℕ
-  pub stands : slice_get cs place ≡ Some column
+  pub place : List ℕ
+  pub stands : slice_get cs index ≡ Some column
   pub named : part.path ≡ name_of_column column ++ path
-  pub refused : IsRefusedAt e column (value_at place (name_of_column column) value) path part.reason
+  pub placed : part.place ≡ index ∷ place
+  pub refused : IsRefusedAt e column (value_at index (name_of_column column) value) path place part.reason
 
 -- for a part of a line, by the value of the line
 abbrev pub IsLinePartCause : List Column → Data → PlainLinePart → Refusal → Type 0

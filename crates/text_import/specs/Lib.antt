@@ -8,6 +8,7 @@ pub mod Objects
 pub mod Form
 pub mod ValuePart
 pub mod Part
+pub mod Place
 pub mod Cause
 pub mod inner
 pub mod laws

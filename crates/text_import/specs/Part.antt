@@ -1,5 +1,5 @@
 -- The part of a text that is refused: the first one in a header or a record that is refused by itself, or a line with its refused part.
-use Rattle.std.specs.Prelude.{ℕ, ◌-◌, ◌==◌, bytes_eq, List, [], ◌∷◌, length, Option, Some, None, option_map, unwrap_or, Result, Ok, Err, string_bytes, slice_get, if◌then◌else◌}
+use Rattle.std.specs.Prelude.{ℕ, ◌+◌, ◌-◌, ◌==◌, bytes_eq, List, [], ◌∷◌, length, Option, Some, None, option_map, unwrap_or, Result, Ok, Err, string_bytes, slice_get, if◌then◌else◌}
 use Rattle.std.specs.Option.{option_and_then, option_or}
 use Rattle.serde_json.specs.Data.{Data, Items, Members}
 use Rattle.serde_json.specs.Data as json
@@ -26,13 +26,13 @@ pub data PlainLinePart : Type 0 where
   repeated_name : (name : List ℕ) → PlainLinePart
 
 -- for CSV, a column that is a list or a struct; in its header, a name and the one that is wanted at its place, or the number of names; in a record, the
--- number of fields, or a field with its text; or a line with its refused part
+-- number of fields, or a field with its place and its text; or a line with its refused part
 pub data PlainPart : Type 0 where
   nested_column : (name : List ℕ) → PlainPart
   header_name : (found wanted : List ℕ) → PlainPart
   header_count : (names columns : ℕ) → PlainPart
   record_count : (fields columns : ℕ) → PlainPart
-  field : (name text : List ℕ) → PlainPart
+  field : (name : List ℕ) → (place : ℕ) → (text : List ℕ) → PlainPart
   line : (part : Option PlainLinePart) (text : List ℕ) → PlainPart
 
 abbrev pub line_part_of : LinePart → PlainLinePart
@@ -46,7 +46,7 @@ part_of (parts.NestedColumn name) = nested_column (string_bytes name)
 part_of (parts.HeaderName found wanted) = header_name found.items (string_bytes wanted)
 part_of (parts.HeaderCount names columns) = header_count names columns
 part_of (parts.RecordCount fields columns) = record_count fields columns
-part_of (parts.Field name text) = field (string_bytes name) text.items
+part_of (parts.Field name place text) = field (string_bytes name) place text.items
 part_of (parts.Line part text) = line (option_map line_part_of part) text.items
 
 -- the first column that is a list or a struct
@@ -72,26 +72,27 @@ header_of t = unwrap_or (slice_get (records_of t) 0) []
 abbrev pub refused_header : List Column → List ℕ → Option PlainPart
 refused_header cs t = option_or (nested_part cs) (refused_names cs (header_of t))
 
--- the first field whose text is refused for its column
-unfoldable pub refused_field : List ℕ → List Column → List (List ℕ) → Option PlainPart
-refused_field null_text [] ts = None
-refused_field null_text (c ∷ cs) [] = None
-refused_field null_text (c ∷ cs) (t ∷ ts) = if is_refused (field_cell null_text c t) then Some (field (name_of_column c) t) else refused_field null_text cs ts
+-- the first field whose text is refused for its column; the first column has this place
+unfoldable pub refused_field : List ℕ → (place : ℕ) → List Column → List (List ℕ) → Option PlainPart
+refused_field null_text place [] ts = None
+refused_field null_text place (c ∷ cs) [] = None
+refused_field null_text place (c ∷ cs) (t ∷ ts) =
+    if is_refused (field_cell null_text c t) then Some (field (name_of_column c) place t) else refused_field null_text (place + 1) cs ts
 
 -- the number of fields is tested before any field
 abbrev pub refused_in_record : List ℕ → List Column → List (List ℕ) → Option PlainPart
-refused_in_record null_text cs ts = if length ts == length cs then refused_field null_text cs ts else Some (record_count (length ts) (length cs))
+refused_in_record null_text cs ts = if length ts == length cs then refused_field null_text 0 cs ts else Some (record_count (length ts) (length cs))
 
 -- the number of items is tested before any item; a path begins with the name of a column
 abbrev pub refused_in_items : Columns → Items → Option PlainLinePart
 refused_in_items cs ds =
-    if item_count ds == column_count cs then option_map value_part (part_by_place [] cs ds) else Some (other_count (item_count ds) (column_count cs))
+    if item_count ds == column_count cs then option_map value_part (part_by_place [] 0 cs ds) else Some (other_count (item_count ds) (column_count cs))
 
 -- names are tested before any member, first those of the columns
 abbrev pub refused_in_members : Columns → Members → Option PlainLinePart
 refused_in_members cs ms =
     option_or (option_map repeated_name (first_repeated (names_of cs)))
-    (option_or (option_map unknown_name (first_unknown (names_of cs) (keys_of ms))) (option_map value_part (part_by_name [] cs ms)))
+    (option_or (option_map unknown_name (first_unknown (names_of cs) (keys_of ms))) (option_map value_part (part_by_name [] 0 cs ms)))
 
 abbrev pub refused_in_value : Columns → Data → Option PlainLinePart
 refused_in_value cs (json.array ds) = refused_in_items cs ds

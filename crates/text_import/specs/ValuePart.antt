@@ -13,13 +13,15 @@ use Rattle.text_import.specs.declared.value_part.Reason.TheVariants.{Value, Miss
 use Rattle.text_import.specs.declared.value_part.ValuePart.{ValuePart}
 use Rattle.text_import.specs.Objects.{item_count, column_count, first_item, other_items, kind_in, has_name, names_of, keys_of}
 
--- the refused part of a value: the path to it, which is empty for the value itself, and what is refused there
+-- the refused part of a value: the path to it, which is empty for the value itself; the place of its field, by index at each step from the field of the
+-- value; and what is refused there
 pub record PlainValuePart : Type 0 where
   pub path : List ℕ
+  pub place : List ℕ
   pub reason : Reason
 
 abbrev pub value_part_of : ValuePart → PlainValuePart
-value_part_of part = record { path = string_bytes part.path; reason = part.reason }
+value_part_of part = record { path = string_bytes part.path; place = part.place.items; reason = part.reason }
 
 -- the step of a path to the item at a place, counted from 0
 abbrev pub item_step : ℕ → List ℕ
@@ -29,13 +31,13 @@ item_step place = codes "[" ++ decimal place ++ codes "]"
 abbrev pub dot : List ℕ
 dot = codes "."
 
--- the part of a value from which this step leads to the part
-abbrev pub below : List ℕ → PlainValuePart → PlainValuePart
-below step part = record { path = step ++ part.path; reason = part.reason }
+-- the part of a value from which this step, to the field of this index, leads to the part
+abbrev pub below : List ℕ → (index : ℕ) → PlainValuePart → PlainValuePart
+below step index part = record { path = step ++ part.path; place = index ∷ part.place; reason = part.reason }
 
 -- the value itself, or that there is none
 abbrev pub itself : Reason → PlainValuePart
-itself reason = record { path = []; reason = reason }
+itself reason = record { path = []; place = []; reason = reason }
 
 abbrev pub is_refused : Result Cell Refusal → Bool
 is_refused (Ok c) = false
@@ -48,7 +50,7 @@ flat_part read = if is_refused read then Some (itself Value) else None
 -- the items of an array, the first of which has this place
 abbrev pub items_part : ℕ → (Data → Option PlainValuePart) → Items → Option PlainValuePart
 items_part place f no_items = None
-items_part place f (item d ds) = option_or (option_map (below (item_step place)) (f d)) (items_part (place + 1) f ds)
+items_part place f (item d ds) = option_or (option_map (below (item_step place) 0) (f d)) (items_part (place + 1) f ds)
 
 abbrev pub list_part : (Data → Option PlainValuePart) → Data → Option PlainValuePart
 list_part f (json.array ds) = items_part 0 f ds
@@ -82,7 +84,7 @@ first_repeated (name ∷ names) = if has_name names name then Some name else fir
 
 -- a name in an object or of a field of its struct
 abbrev pub at_name : Reason → List ℕ → PlainValuePart
-at_name reason name = record { path = dot ++ name; reason = reason }
+at_name reason name = record { path = dot ++ name; place = []; reason = reason }
 
 -- names are tested before any member, first those of the fields
 abbrev pub names_part : List (List ℕ) → Members → Option PlainValuePart
@@ -104,19 +106,19 @@ unfoldable mutual
   kind_part (large_lists inner) = list_part (cell_part inner)
   kind_part (fixed_lists size inner) = fixed_list_part size (cell_part inner)
   kind_part (structs columns) =
-      struct_part (sized_part (column_count columns) (part_by_place dot columns)) (λ ms. option_or (names_part (names_of columns) ms) (part_by_name dot columns ms))
+      struct_part (sized_part (column_count columns) (part_by_place dot 0 columns)) (λ ms. option_or (names_part (names_of columns) ms) (part_by_name dot 0 columns ms))
   kind_part kind = λ d. flat_part (kind_in kind d)
 
-  -- of as many items as columns, in order; `before` stands before the name of each
-  pub part_by_place : (before : List ℕ) → Columns → Items → Option PlainValuePart
-  part_by_place before no_column = λ ds. None
-  part_by_place before (and_column c cs) = λ ds.
-      option_or (option_map (below (before ++ name_of_column c)) (cell_part c (first_item ds))) (part_by_place before cs (other_items ds))
+  -- of as many items as columns, in order; `before` stands before the name of each, and the first column has this index
+  pub part_by_place : (before : List ℕ) → (index : ℕ) → Columns → Items → Option PlainValuePart
+  part_by_place before index no_column = λ ds. None
+  part_by_place before index (and_column c cs) = λ ds.
+      option_or (option_map (below (before ++ name_of_column c) index) (cell_part c (first_item ds))) (part_by_place before (index + 1) cs (other_items ds))
 
   -- of the members with the names of the columns, in the order of the columns
-  pub part_by_name : (before : List ℕ) → Columns → Members → Option PlainValuePart
-  part_by_name before no_column = λ ms. None
-  part_by_name before (and_column c cs) = λ ms.
+  pub part_by_name : (before : List ℕ) → (index : ℕ) → Columns → Members → Option PlainValuePart
+  part_by_name before index no_column = λ ms. None
+  part_by_name before index (and_column c cs) = λ ms.
       option_or
-      (option_map (below (before ++ name_of_column c)) (member_part (is_nullable_column c) (cell_part c) (get_member (name_of_column c) ms)))
-      (part_by_name before cs ms)
+      (option_map (below (before ++ name_of_column c) index) (member_part (is_nullable_column c) (cell_part c) (get_member (name_of_column c) ms)))
+      (part_by_name before (index + 1) cs ms)

@@ -11,6 +11,7 @@ ghost use Rattle.text_import.specs.Objects.{jsonl_rows_of};
 ghost use Rattle.text_import.specs.Form.{rows_of_text};
 ghost use Rattle.text_import.specs.Part.{PlainPart, refused_part};
 ghost use Rattle.text_import.specs.Cause.{IsCause};
+ghost use Rattle.text_import.specs.Place.{IsAtItsPlace};
 
 /// The rows of a text are rows that a table of the schema accepts, each by itself: every cell fits, no row is too heavy, and none fills a dictionary.
 pub fn rows_of_texts_are_rows()
@@ -22,8 +23,11 @@ pub fn rows_of_texts_are_rows()
 /// The part of a refused text is the cause of the refusal: for CSV a column of this name is a list or a struct; a name in the header differs from that of
 /// the table's column, or their numbers differ; the record has another number of fields, or the text of a field is refused for a column of its name; or
 /// the line is refused, and if a part of it is named, that is the cause: another number of items, a name that two columns have, an unknown name, or what
-/// is at the end of a path through its lists and structs.
+/// is at the end of a path through its lists and structs. The place that the part names is the place where it is: the field there, by index, is the one
+/// for which a text or a value is refused with this refusal.
 pub fn refused_parts_are_causes()
-    ensures { (form : TextForm) (s : PlainSchema) (text : List ℕ) (r : Refused) (part : PlainPart) → rows_of_text form s text ≡ Err r
+    ensures cause { (form : TextForm) (s : PlainSchema) (text : List ℕ) (r : Refused) (part : PlainPart) → rows_of_text form s text ≡ Err r
         → refused_part form s text r.number ≡ Some part → IsCause form s text part r.refusal }
+    ensures place { (form : TextForm) (s : PlainSchema) (text : List ℕ) (r : Refused) (part : PlainPart) → rows_of_text form s text ≡ Err r
+        → refused_part form s text r.number ≡ Some part → IsAtItsPlace form s.columns part r.refusal }
 {}

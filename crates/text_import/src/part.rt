@@ -60,9 +60,10 @@ pub enum RefusedPart {
         fields: usize,
         columns: usize,
     },
-    /// A field of a CSV record, and its text.
+    /// A field of a CSV record, the place of its column, and its text.
     Field {
         name: String,
+        place: usize,
         text: Vec<u8>,
     },
     /// A line of JSON Lines, and the part of it that is refused, if it is a part.
@@ -173,12 +174,17 @@ fn refused_header(
     }
 }
 
-fn field_part(alloc: Global, field: &Field, text: &[u8]) -> Result<RefusedPart, AllocError>
-    ensures { IfOk result (λ part. part_of part ≡ plain.field (name_of_column (column_of field.now)) text.now) }
+fn field_part(
+    alloc: Global,
+    field: &Field,
+    place: usize,
+    text: &[u8],
+) -> Result<RefusedPart, AllocError>
+    ensures { IfOk result (λ part. part_of part ≡ plain.field (name_of_column (column_of field.now)) place text.now) }
 {
     let name = String::from_str(alloc, name_of(field))?;
     let text = Vec::from_slice(alloc, text)?;
-    Ok(RefusedPart::Field { name, text })
+    Ok(RefusedPart::Field { name, place, text })
 }
 
 // Returns the first field whose text is refused.
@@ -189,12 +195,12 @@ fn refused_field(
     row: &ByteRecord,
 ) -> Result<Option<RefusedPart>, AllocError>
     requires { length (fields_of row.now) ≡ length fields.now }
-    ensures { IfOk result (λ part. option_map part_of part ≡ refused_field null_text.now (map column_of fields.now) (fields_of row.now)) }
+    ensures { IfOk result (λ part. option_map part_of part ≡ refused_field null_text.now 0 (map column_of fields.now) (fields_of row.now)) }
 {
     for (i, field) in fields.iter().enumerate() {
         let text = record_field(row, i);
         if is_refused(field_cell(alloc, field, null_text, text))? {
-            return Ok(Some(field_part(alloc, field, text)?));
+            return Ok(Some(field_part(alloc, field, i, text)?));
         }
     }
     Ok(None)

@@ -1,5 +1,5 @@
 // Finds the part of a JSON value that is refused for a column.
-ghost use Rattle.std.specs.Prelude.{◌≡◌, ◌++◌, [], length, map, option_map, IfOk, Result};
+ghost use Rattle.std.specs.Prelude.{◌≡◌, ◌++◌, [], ◌∷◌, length, map, option_map, IfOk, Result};
 ghost use Rattle.std.specs.Option.{option_or};
 ghost use Rattle.serde_json.specs.View.{view, items_view, members_view};
 ghost use Rattle.arrow_schema.specs.Column.{columns_of};
@@ -42,6 +42,8 @@ pub enum Reason {
 pub struct ValuePart {
     /// The path to it: the names of fields with dots between them, and the places of items in brackets, counted from 0, as in `p.x[3]`.
     pub path: String,
+    /// The place of its field: at each step from the field of the value, the index of a field of the struct, or 0 for the item of a list.
+    pub place: Vec<usize>,
     pub reason: Reason,
 }
 
@@ -61,6 +63,7 @@ fn itself(alloc: Global, reason: Reason) -> ValuePart
 {
     ValuePart {
         path: String::new(alloc),
+        place: Vec::new(alloc),
         reason,
     }
 }
@@ -70,33 +73,47 @@ fn at_name(alloc: Global, reason: Reason, name: &str) -> Result<ValuePart, Alloc
 {
     Ok(ValuePart {
         path: format!(in alloc; ".{name}")?,
+        place: Vec::new(alloc),
         reason,
     })
 }
 
+// Puts an index before a place.
+fn place_below(alloc: Global, index: usize, place: &[usize]) -> Result<Vec<usize>, AllocError>
+    ensures { IfOk result (λ v. v.items ≡ index ∷ place.now) }
+{
+    let mut longer = Vec::new(alloc);
+    longer.push(index)?;
+    longer.extend_from_slice(place)?;
+    Ok(longer)
+}
+
 // Puts the step to the item at this place before the path.
 fn below_item(alloc: Global, place: usize, part: &ValuePart) -> Result<ValuePart, AllocError>
-    ensures { IfOk result (λ found. value_part_of found ≡ below (item_step place) (value_part_of part.now)) }
+    ensures { IfOk result (λ found. value_part_of found ≡ below (item_step place) 0 (value_part_of part.now)) }
 {
     let path = part.path.as_str();
     Ok(ValuePart {
         path: format!(in alloc; "[{place}]{path}")?,
+        place: place_below(alloc, 0, &part.place)?,
         reason: part.reason,
     })
 }
 
-// Puts the step to the field with this name before the path.
+// Puts the step to the field with this name and index before the path.
 fn below_name(
     alloc: Global,
     before: &str,
     name: &str,
+    index: usize,
     part: &ValuePart,
 ) -> Result<ValuePart, AllocError>
-    ensures { IfOk result (λ found. value_part_of found ≡ below (before.now ++ name.now) (value_part_of part.now)) }
+    ensures { IfOk result (λ found. value_part_of found ≡ below (before.now ++ name.now) index (value_part_of part.now)) }
 {
     let path = part.path.as_str();
     Ok(ValuePart {
         path: format!(in alloc; "{before}{name}{path}")?,
+        place: place_below(alloc, index, &part.place)?,
         reason: part.reason,
     })
 }
@@ -208,8 +225,8 @@ fn struct_part(
     value: &Json,
 ) -> Result<Option<ValuePart>, AllocError>
     ensures { IfOk result (λ part. option_map value_part_of part
-        ≡ struct_part (sized_part (column_count (columns_of (map column_of fields.now))) (part_by_place dot (columns_of (map column_of fields.now))))
-        (λ ms. option_or (names_part (names_of (columns_of (map column_of fields.now))) ms) (part_by_name dot (columns_of (map column_of fields.now)) ms))
+        ≡ struct_part (sized_part (column_count (columns_of (map column_of fields.now))) (part_by_place dot 0 (columns_of (map column_of fields.now))))
+        (λ ms. option_or (names_part (names_of (columns_of (map column_of fields.now))) ms) (part_by_name dot 0 (columns_of (map column_of fields.now)) ms))
         (view value.now)) }
 {
     match value {
@@ -227,7 +244,7 @@ fn placed_part(
     values: &[Json],
 ) -> Result<Option<ValuePart>, AllocError>
     ensures { IfOk result (λ part. option_map value_part_of part
-        ≡ sized_part (column_count (columns_of (map column_of fields.now))) (part_by_place dot (columns_of (map column_of fields.now))) (items_view values.now)) }
+        ≡ sized_part (column_count (columns_of (map column_of fields.now))) (part_by_place dot 0 (columns_of (map column_of fields.now))) (items_view values.now)) }
 {
     if values.len() != fields.len() {
         let (items, wanted) = (values.len(), fields.len());
@@ -244,7 +261,7 @@ fn named_part(
 ) -> Result<Option<ValuePart>, AllocError>
     ensures { IfOk result (λ part. option_map value_part_of part
         ≡ option_or (names_part (names_of (columns_of (map column_of fields.now))) (members_view members.now.entries))
-        (part_by_name dot (columns_of (map column_of fields.now)) (members_view members.now.entries))) }
+        (part_by_name dot 0 (columns_of (map column_of fields.now)) (members_view members.now.entries))) }
 {
     if let Some(part) = names_part(alloc, fields, members)? {
         return Ok(Some(part));
@@ -294,11 +311,11 @@ pub(crate) fn part_by_place(
     values: &[Json],
 ) -> Result<Option<ValuePart>, AllocError>
     requires { length values.now ≡ length fields.now }
-    ensures { IfOk result (λ part. option_map value_part_of part ≡ part_by_place before.now (columns_of (map column_of fields.now)) (items_view values.now)) }
+    ensures { IfOk result (λ part. option_map value_part_of part ≡ part_by_place before.now 0 (columns_of (map column_of fields.now)) (items_view values.now)) }
 {
     for (i, field) in fields.iter().enumerate() {
         if let Some(part) = cell_part(alloc, field, &values[i])? {
-            return Ok(Some(below_name(alloc, before, name_of(field), &part)?));
+            return Ok(Some(below_name(alloc, before, name_of(field), i, &part)?));
         }
     }
     Ok(None)
@@ -313,11 +330,11 @@ pub(crate) fn part_by_name(
     members: &Map<String, Json>,
 ) -> Result<Option<ValuePart>, AllocError>
     ensures { IfOk result (λ part. option_map value_part_of part
-        ≡ part_by_name before.now (columns_of (map column_of fields.now)) (members_view members.now.entries)) }
+        ≡ part_by_name before.now 0 (columns_of (map column_of fields.now)) (members_view members.now.entries)) }
 {
-    for field in fields {
+    for (i, field) in fields.iter().enumerate() {
         if let Some(part) = member_part(alloc, field, members)? {
-            return Ok(Some(below_name(alloc, before, name_of(field), &part)?));
+            return Ok(Some(below_name(alloc, before, name_of(field), i, &part)?));
         }
     }
     Ok(None)

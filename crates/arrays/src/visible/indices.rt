@@ -48,7 +48,31 @@ fn has_no_entry<const SIZE: usize, const SIGNED: bool>(
     }
 }
 
-// A valid slot of a span has such an index, of n bytes, with a sign or without.
+// The indices of a span, those of nulls included, are numbers below a limit. No branch depends on an index, so that
+// several are compared at once.
+fn are_below<const SIZE: usize, const SIGNED: bool>(
+    slots: CodedSlots<'_>,
+    limit: u64,
+    from: usize,
+    count: usize,
+) -> bool
+    requires size { SIZE ≡ (index_of slots.spec).bits / 8 }
+    requires signed { SIGNED ≡ (index_of slots.spec).signed }
+    requires within { from + count ≤ slots_in (view_array slots.view) }
+    ensures { let a = view_array slots.entry.view in result ≡ true → (cells : List Cell) → limit ≤ length cells
+        → list_any (λ i. is_past (index_at (index_of slots.entry.spec) a i) cells) (range_with_len from count) ≡ false }
+{
+    // a number of the code is below 2^64, so that the end is too
+    let _slots = slots.view.slots();
+    let mut below = true;
+    for i in from..from + count {
+        let number = slots.number_below::<SIZE, SIGNED>(i, limit);
+        below = below & number.is_some();
+    }
+    below
+}
+
+// A valid slot of a span has an index that names no entry, of n bytes, with a sign or without.
 fn any_sized_past<const SIZE: usize, const SIGNED: bool>(
     slots: CodedSlots<'_>,
     from: usize,
@@ -65,6 +89,9 @@ fn any_sized_past<const SIZE: usize, const SIGNED: bool>(
     let _slots = slots.view.slots();
     let entries = entry_count(slots.view.dictionary());
     let limit = entries.min(u128::from(u64::MAX)) as u64;
+    if are_below::<SIZE, SIGNED>(slots, limit, from, count) {
+        return false;
+    }
     for i in from..from + count {
         if has_no_entry::<SIZE, SIGNED>(slots, limit, entries, i) {
             return true;
@@ -73,8 +100,8 @@ fn any_sized_past<const SIZE: usize, const SIGNED: bool>(
     false
 }
 
-// The same, by a loop for each kind of index.
-fn any_past(slots: CodedSlots<'_>, from: usize, count: usize) -> bool
+/// The same, by a loop for each kind of index.
+pub(crate) fn any_past(slots: CodedSlots<'_>, from: usize, count: usize) -> bool
     requires { from + count ≤ slots_in (view_array slots.view) }
     ensures { let a = view_array slots.entry.view in (kind : Kind)
         → let past : ℕ → Bool = λ i. is_valid a i && is_past (index_at (index_of slots.entry.spec) a i) (entries_of_kind kind (dictionary_in a)) in

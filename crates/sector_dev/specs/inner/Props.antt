@@ -1,12 +1,13 @@
 -- The proof that a story has only whole contents is unique.
-use Rattle.std.specs.Prelude.{ℕ, List, [], ◌∷◌, length, Option, Some, None, IfSome}
-use Rattle.std.specs.Coded.{Coded-set, coded_ℕ, ×_prop, Π_prop, Unit-prop, le_prop}
+use Rattle.std.specs.Prelude.{ℕ, List, [], ◌∷◌, length, get_or, Option, Some, None, IfSome}
+use Rattle.std.specs.Coded.{Coded-set, coded_ℕ, coded_list, coded_option, ×_prop, Π_prop, Unit-prop, le_prop}
 use Rattle.sector_dev.specs.Disk.{Disk, Sector, Story, IsContent, AreContents, HoldsContents, IsWhole, Each}
+use Rattle.sector_dev.specs.Behind.{ReadsAs}
 
 content_prop : (c : List ℕ) → IsProp (IsContent c)
 content_prop c = ×_prop (Coded-set coded_ℕ (length c) 512) (Π_prop (λ k. le_prop))
 
-contents_prop : (cs : List (List ℕ)) → IsProp (AreContents cs)
+pub contents_prop : (cs : List (List ℕ)) → IsProp (AreContents cs)
 contents_prop [] = Unit-prop
 contents_prop (c ∷ cs) = ×_prop (content_prop c) (contents_prop cs)
 
@@ -24,3 +25,6 @@ whole_prop d = Π_prop (λ n. holds_prop (d.at n))
 pub each_prop : (s : Story) → IsProp (Each IsWhole s)
 each_prop [] = Unit-prop
 each_prop (d ∷ ds) = ×_prop (whole_prop d) (each_prop ds)
+
+pub reads_prop : (d : Disk) (start : ℕ) (cs : List (List ℕ)) → IsProp (ReadsAs d start cs)
+reads_prop d start cs = Π_prop (λ n. Π_prop (λ c. Π_prop (λ here. Coded-set (coded_option (coded_list coded_ℕ)) (d.at n).shown (Some c))))

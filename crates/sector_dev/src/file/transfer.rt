@@ -1,68 +1,45 @@
-// Reads and writes of a device in a file.
-ghost use Rattle.std.specs.Prelude.{◌≡◌, ◌<◌, ◌≤◌, ◌+◌, ◌⊎◌, ◌*◌, [], length, IfErr, OnOk, OnErr, Some, None, IfSome, is_ok, true};
+// Reads and writes of a device over a file.
+ghost use Rattle.std.specs.Prelude.{◌≡◌, ◌<◌, ◌≤◌, ◌+◌, ◌⊎◌, [], length, OnOk, OnErr, Some, None, true, false};
 ghost use Rattle.std.specs.Bool.{OnTrue, OnFalse};
 ghost use Rattle.std.specs.Option.{option_copied, option_or};
 ghost use Rattle.sector_dev.specs.Buffer.{content_in};
-ghost use Rattle.sector_dev.specs.Disk.{Counts};
-ghost use Rattle.sector_dev.specs.declared.file.TheConstants.{MOST_SECTORS};
-ghost use Rattle.sector_dev.specs.Written.{Writes, buffered, IsEmpty, Empties, Buffers, BuffersAnew, LosesNone};
+ghost use Rattle.sector_dev.specs.Disk.{now, Passes, Flushes};
+ghost use Rattle.sector_dev.specs.Rows.{row_from, grown};
+ghost use Rattle.sector_dev.specs.Behind.{ReadsAs};
+ghost use Rattle.sector_dev.specs.View.{story_over};
 
 use super::FileDevice;
 use crate::buffer::SectorBuffer;
-use crate::{DevError, SECTOR_BYTES};
-use std::fs::OpenFile;
-use std::io::{self, Read, Seek, SeekFrom, Write};
+use crate::contents::have_bytes;
+use crate::{FileFault, SECTOR_BYTES, SectorFile};
 use std::slice;
 
-fn read_at<F: Read + Seek>(
-    file: &mut F,
-    start: u64,
-    contents: &mut [[u8; SECTOR_BYTES]],
-) -> io::Result<()>
-    requires { start < MOST_SECTORS }
+// Fills the buffer with this sector and some after it. Returns `false` if memory or the file did not allow it.
+fn fill<F: SectorFile>(file: &mut F, ahead: &mut SectorBuffer, n: u64) -> bool
+    requires inside { n < F.size file.old }
+    ensures size { F.size file.new ≡ F.size file.old }
+    ensures sound { F.sound file.new ≡ F.sound file.old }
+    ensures story { F.tells ≡ true → F.story file.new ≡ F.story file.old }
+    ensures reads { OnTrue result (F.sound file.old ≡ true → F.tells ≡ true → ReadsAs (now (F.story file.old)) ahead.new.start ahead.new.contents.items) }
 {
-    file.seek(SeekFrom::Start(start * SECTOR_BYTES as u64))?;
-    file.read_exact(contents.as_flattened_mut())
-}
-
-fn write_at<F: Write + Seek>(
-    file: &mut F,
-    start: u64,
-    contents: &[[u8; SECTOR_BYTES]],
-) -> io::Result<()>
-    requires { start ≤ MOST_SECTORS }
-    ensures { OnOk result (Writes ⟦<F as Write>⟧ ⟦<F as Seek>⟧ (start * 512) contents.now file.old file.new) }
-{
-    file.seek(SeekFrom::Start(start * SECTOR_BYTES as u64))?;
-    file.write_all(contents.as_flattened())
-}
-
-// Writes a buffer to the file and clears it. On an error the buffer is unchanged.
-fn write_buffer<F: Write + Seek>(file: &mut F, buffer: &mut SectorBuffer) -> io::Result<()>
-    requires { buffer.old.start ≤ MOST_SECTORS }
-    ensures start { buffer.new.start ≡ buffer.old.start }
-    ensures stays { OnErr result (buffer.new ≡ buffer.old) }
-    ensures written { OnOk result (Writes ⟦<F as Write>⟧ ⟦<F as Seek>⟧ (buffer.old.start * 512) buffer.old.contents.items file.old file.new) }
-    ensures none { OnOk result (buffer.new.contents.items ≡ []) }
-{
-    match write_at(file, buffer.start, &buffer.contents) {
-        Ok(()) => {
-            buffer.clear();
-            Ok(())
-        }
-        Err(e) => Err(e),
-    }
-}
-
-// Reads this sector and some after it, at most `most` in all, as far as memory and the file allow.
-fn read_ahead<F: Read + Seek>(file: &mut F, ahead: &mut SectorBuffer, n: u64, most: u64)
-    requires { n < MOST_SECTORS }
-{
+    let most = file.sectors() - n;
     let count = ahead.count_from(n).min(most as usize);
     ahead.start = n;
-    if ahead.contents.resize(count, [0; SECTOR_BYTES]).is_err()
-        || read_at(file, n, &mut ahead.contents).is_err()
-    {
+    if ahead.contents.resize(count, [0; SECTOR_BYTES]).is_err() {
+        return false;
+    }
+    file.read_at(n, &mut ahead.contents).is_ok()
+}
+
+// Reads this sector and some after it, as far as memory and the file allow.
+fn read_ahead<F: SectorFile>(file: &mut F, ahead: &mut SectorBuffer, n: u64)
+    requires inside { n < F.size file.old }
+    ensures size { F.size file.new ≡ F.size file.old }
+    ensures sound { F.sound file.new ≡ F.sound file.old }
+    ensures story { F.tells ≡ true → F.story file.new ≡ F.story file.old }
+    ensures reads { F.sound file.old ≡ true → F.tells ≡ true → ReadsAs (now (F.story file.old)) ahead.new.start ahead.new.contents.items }
+{
+    if !fill(file, ahead, n) {
         ahead.clear();
     }
 }
@@ -97,85 +74,163 @@ fn copy_from_memory(
     }
 }
 
-impl<F: Read + Write + Seek + OpenFile + Drop> FileDevice<F> {
-    // Writes the buffered writes to the file. On an error they stay buffered.
-    fn flush(&mut self) -> io::Result<()>
-        ensures sectors { self.new.sectors ≡ self.old.sectors }
+// Stops the device: whoever opens the file next is to read the disk, and not what the system keeps of a write that did not reach it.
+fn stop<F: SectorFile>(file: &mut F, stopped: &mut bool)
+    ensures size { F.size file.new ≡ F.size file.old }
+    ensures story { F.tells ≡ true → F.story file.new ≡ F.story file.old }
+    ensures stopped { stopped.new ≡ true }
+    ensures forgotten { F.forgotten file.new ≡ true }
+{
+    let all = file.sectors();
+    file.forget(0, all);
+    *stopped = true;
+}
+
+// Writes sectors to the file. If that fails after it began, the device has stopped.
+fn write_through<F: SectorFile>(
+    file: &mut F,
+    stopped: &mut bool,
+    start: u64,
+    contents: &[[u8; SECTOR_BYTES]],
+) -> Result<(), FileFault>
+    requires { start + length contents.now ≤ F.size file.old }
+    ensures size { F.size file.new ≡ F.size file.old }
+    ensures ok { OnOk result ((stopped.new ≡ stopped.old) × (F.sound file.new ≡ F.sound file.old)) }
+    ensures written { OnOk result (F.tells ≡ true → F.story file.new ≡ grown (row_from start contents.now) (F.story file.old)) }
+    ensures err { OnErr result (((stopped.new ≡ stopped.old) × (F.sound file.new ≡ F.sound file.old) × (F.tells ≡ true → F.story file.new ≡ F.story file.old))
+        ⊎ ((stopped.new ≡ true) × (F.tells ≡ true → F.story file.new ≡ grown (row_from start contents.now) (F.story file.old)) × (F.forgotten file.new ≡ true))) }
+{
+    match file.write_at(start, contents) {
+        Ok(()) => Ok(()),
+        Err(FileFault::NotBegun) => Err(FileFault::NotBegun),
+        Err(FileFault::Failed) => {
+            stop(file, stopped);
+            Err(FileFault::Failed)
+        }
+    }
+}
+
+impl<F: SectorFile + Drop> FileDevice<F> {
+    // Writes the buffered writes to the file.
+    fn flush(&mut self) -> Result<(), FileFault>
+        requires running { self.old.stopped ≡ false }
+        ensures size { F.size self.new.file ≡ F.size self.old.file }
         ensures failed { self.new.failed ≡ self.old.failed }
-        ensures buffer { OnErr result (self.new.writes ≡ self.old.writes) }
-        ensures written { OnOk result (Empties self.old self.new.file) }
-        ensures emptied { OnOk result (IsEmpty self.new) }
+        ensures story { F.tells ≡ true → story_over self.new ≡ story_over self.old }
+        ensures running { OnOk result (self.new.stopped ≡ false) }
         ensures none { OnOk result (self.new.writes.contents.items ≡ []) }
     {
         if self.writes.contents.is_empty() {
             return Ok(());
         }
         self.ahead.clear();
-        write_buffer(&mut self.file, &mut self.writes)
+        match write_through(
+            &mut self.file,
+            &mut self.stopped,
+            self.writes.start,
+            &self.writes.contents,
+        ) {
+            Ok(()) => {
+                self.writes.clear();
+                Ok(())
+            }
+            Err(fault) => Err(fault),
+        }
+    }
+
+    // Writes sectors to the file, with nothing buffered.
+    fn write_now(&mut self, start: u64, contents: &[[u8; SECTOR_BYTES]]) -> Result<(), FileFault>
+        requires inside { start + length contents.now ≤ F.size self.old.file }
+        requires running { self.old.stopped ≡ false }
+        requires none { self.old.writes.contents.items ≡ [] }
+        ensures size { F.size self.new.file ≡ F.size self.old.file }
+        ensures failed { self.new.failed ≡ self.old.failed }
+        ensures ok { OnOk result (F.tells ≡ true → story_over self.new ≡ grown (row_from start contents.now) (story_over self.old)) }
+        ensures err { OnErr result (F.tells ≡ true → (story_over self.new ≡ story_over self.old)
+            ⊎ (story_over self.new ≡ grown (row_from start contents.now) (story_over self.old))) }
+    {
+        self.ahead.clear();
+        write_through(&mut self.file, &mut self.stopped, start, contents)
+    }
+
+    // Buffers these sectors, or returns `false`.
+    fn hold(&mut self, start: u64, contents: &[[u8; SECTOR_BYTES]]) -> bool
+        requires inside { start + length contents.now ≤ F.size self.old.file }
+        requires running { self.old.stopped ≡ false }
+        ensures file { self.new.file ≡ self.old.file }
+        ensures failed { self.new.failed ≡ self.old.failed }
+        ensures running { self.new.stopped ≡ false }
+        ensures held { OnTrue result (story_over self.new ≡ grown (row_from start contents.now) (story_over self.old)) }
+        ensures same { OnFalse result (story_over self.new ≡ story_over self.old) }
+        ensures items { OnFalse result (self.new.writes.contents.items ≡ self.old.writes.contents.items) }
+    {
+        have_bytes(contents);
+        self.writes.append(start, contents)
     }
 
     // Buffers these sectors, or writes them after the buffered ones.
-    pub(super) fn put(&mut self, start: u64, contents: &[[u8; SECTOR_BYTES]]) -> io::Result<()>
-        requires { start + length contents.now ≤ self.old.sectors }
-        ensures sectors { self.new.sectors ≡ self.old.sectors }
+    pub(super) fn put(
+        &mut self,
+        start: u64,
+        contents: &[[u8; SECTOR_BYTES]],
+    ) -> Result<(), FileFault>
+        requires inside { start + length contents.now ≤ F.size self.old.file }
+        requires running { self.old.stopped ≡ false }
+        ensures size { F.size self.new.file ≡ F.size self.old.file }
         ensures failed { self.new.failed ≡ self.old.failed }
-        ensures ok { OnOk result (Buffers self.old start contents.now self.new ⊎ BuffersAnew self.old start contents.now self.new) }
-        ensures err { OnErr result (LosesNone self.old self.new) }
+        ensures ok { OnOk result (F.tells ≡ true → story_over self.new ≡ grown (row_from start contents.now) (story_over self.old)) }
+        ensures err { OnErr result (F.tells ≡ true → (story_over self.new ≡ story_over self.old)
+            ⊎ (story_over self.new ≡ grown (row_from start contents.now) (story_over self.old))) }
     {
-        if self.writes.append(start, contents) {
+        if self.hold(start, contents) {
             return Ok(());
         }
-        self.flush()?;
-        if self.writes.append(start, contents) {
+        match self.flush() {
+            Ok(()) => {}
+            Err(fault) => return Err(fault),
+        }
+        if self.hold(start, contents) {
             return Ok(());
         }
         // there are too many to buffer, or no memory for them
-        self.ahead.clear();
-        write_at(&mut self.file, start, contents)
+        self.write_now(start, contents)
     }
 
-    pub(super) fn get(&mut self, n: u64, to: &mut [u8; SECTOR_BYTES]) -> io::Result<()>
-        requires { n < self.old.sectors }
-        ensures sectors { self.new.sectors ≡ self.old.sectors }
+    pub(super) fn get(&mut self, n: u64, to: &mut [u8; SECTOR_BYTES]) -> Result<(), FileFault>
+        requires inside { n < F.size self.old.file }
+        requires running { self.old.stopped ≡ false }
+        ensures size { F.size self.new.file ≡ F.size self.old.file }
         ensures failed { self.new.failed ≡ self.old.failed }
-        ensures writes { self.new.writes ≡ self.old.writes }
-        ensures buffered { IfSome (buffered self.old n) (λ c. (is_ok result ≡ true) × (to.new ≡ c) × (self.new.file ≡ self.old.file)) }
+        ensures story { F.tells ≡ true → story_over self.new ≡ story_over self.old }
+        ensures content { OnOk result (F.tells ≡ true → ((now (story_over self.old)).at n).shown ≡ Some to.new) }
     {
         if copy_from_memory(&self.writes, &self.ahead, n, to) {
             return Ok(());
         }
-        read_ahead(&mut self.file, &mut self.ahead, n, self.sectors - n);
+        read_ahead(&mut self.file, &mut self.ahead, n);
         if copy_from_memory(&self.writes, &self.ahead, n, to) {
             return Ok(());
         }
-        read_at(&mut self.file, n, slice::from_mut(to))
+        self.file.read_at(n, slice::from_mut(to))
     }
 
     // Writes everything to the file and syncs it.
-    pub(super) fn sync_file(&mut self) -> io::Result<()>
-        ensures sectors { self.new.sectors ≡ self.old.sectors }
+    pub(super) fn sync_file(&mut self) -> Result<(), FileFault>
+        requires running { self.old.stopped ≡ false }
+        ensures size { F.size self.new.file ≡ F.size self.old.file }
         ensures failed { self.new.failed ≡ self.old.failed }
-        ensures written { OnOk result (Empties self.old self.new.file) }
-        ensures emptied { OnOk result (IsEmpty self.new) }
-        ensures err { OnErr result (LosesNone self.old self.new) }
+        ensures ok { OnOk result (F.tells ≡ true → Flushes (story_over self.old) (story_over self.new)) }
+        ensures err { OnErr result (F.tells ≡ true → Passes (story_over self.old) (story_over self.new)) }
     {
-        self.flush()?;
-        self.file.sync_data()
-    }
-
-    pub(super) fn counted(&mut self, done: io::Result<()>) -> Result<(), DevError>
-        ensures sectors { self.new.sectors ≡ self.old.sectors }
-        ensures writes { self.new.writes ≡ self.old.writes }
-        ensures file { self.new.file ≡ self.old.file }
-        ensures ok { is_ok result ≡ is_ok done }
-        ensures count { Counts self.old.failed self.new.failed result }
-        ensures error { IfErr result (λ e. e ≡ DevError.Failed) }
-    {
-        match done {
+        match self.flush() {
+            Ok(()) => {}
+            Err(fault) => return Err(fault),
+        }
+        match self.file.sync_data() {
             Ok(()) => Ok(()),
-            Err(_) => {
-                self.failed = self.failed.saturating_add(1);
-                Err(DevError::Failed)
+            Err(fault) => {
+                stop(&mut self.file, &mut self.stopped);
+                Err(fault)
             }
         }
     }

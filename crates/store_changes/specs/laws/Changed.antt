@@ -26,7 +26,7 @@ use Rattle.tables.specs.Tables.{Tables, no_tables, table_at, with_table, without
 use Rattle.tables.specs.Verdict.{joined}
 use Rattle.tables.specs.laws.Maps.{put_apart, put_over, put_and_taken, put_not_taken, none_taken}
 use Rattle.store_runs.specs.Held.{rows_in_bytes, rows_in_segment, segment_rows, joined_rows, rows_held, table_where, table_of_rows, table_held, with_held, tables_held, held_entry, each_held}
-use Rattle.store_runs.specs.Changes.{PlainEdit, put, extend, move, remove, exchange, digest, PlainChange, new_entry, page_instead, edited, placed_segments, HasEntry, stream_rows, rows_under, Makes, MakesOf, HoldsStreams}
+use Rattle.store_runs.specs.Changes.{PlainEdit, put, extend, move, remove, exchange, digest, rebuild, PlainChange, new_entry, page_instead, edited, placed_segments, HasEntry, stream_rows, rows_under, Makes, IsOfCatalogue, MakesOf, HoldsStreams}
 use Rattle.store_runs.specs.Carrying.{placed}
 use Rattle.store_changes.specs.laws.Digests.{rows_undamaged}
 use Rattle.store_changes.specs.laws.Named.{entry_has, entry_lacks, held_has}
@@ -232,22 +232,23 @@ module _ (image : Image) where
       ∙ ap Some (sym becomes)
 
   -- an image that holds the tables of a catalogue and the streams of a change holds the tables that the change makes
-  pub edited_held : (c : PlainCatalogue) (change : PlainChange) (t new : Tables) (segments : List Segment) → IsCatalogue c → tables_held image c ≡ Some t → MakesOf t change new
+  pub edited_held : (c : PlainCatalogue) (change : PlainChange) (t new : Tables) (segments : List Segment) → IsCatalogue c → IsOfCatalogue c change.edit → tables_held image c ≡ Some t → MakesOf t change new
       → HoldsStreams image segments change.streams change.counts → tables_held image (edited c change.edit segments) ≡ Some new
-  edited_held c change t new segments catalogue is makes holds = by_edit change.edit makes
+  edited_held c change t new segments catalogue own is makes holds = by_edit change.edit own makes
     where
       -- a table that is there has an entry
       has_entry : (name : List ℕ) (table : PlainTable) (o : Option PlainEntry) → entry_of c name ≡ o → table_at t name ≡ Some table → HasEntry c name
       has_entry name table None none at = let both : None ≡ Some table = sym (entry_lacks image c t is name none) ∙ at in absurd (cc both)
       has_entry name table (Some e) found at = (e, found)
 
-      by_edit : (edit : PlainEdit) → Makes t edit change.streams change.counts new → tables_held image (edited c edit segments) ≡ Some new
-      by_edit (put name schema) made = held_put c t new name schema segments change.streams change.counts is made holds
-      by_edit (extend name) made = held_extended c t new name segments change.streams change.counts is (has_entry name made.0 (entry_of c name) refl made.1) made holds
-      by_edit (move from to) made = held_moved c t new from to catalogue.order is (has_entry from made.0 (entry_of c from) refl made.1) made
-      by_edit (remove name) made = held_without c t name catalogue.order is ∙ ap Some (sym made)
-      by_edit (exchange name place count) made = absurd made
-      by_edit (digest ds) made = absurd made
+      by_edit : (edit : PlainEdit) → IsOfCatalogue c edit → Makes t edit change.streams change.counts new → tables_held image (edited c edit segments) ≡ Some new
+      by_edit (put name schema) of made = held_put c t new name schema segments change.streams change.counts is made holds
+      by_edit (extend name) of made = held_extended c t new name segments change.streams change.counts is (has_entry name made.0 (entry_of c name) refl made.1) made holds
+      by_edit (move from to) of made = held_moved c t new from to catalogue.order is (has_entry from made.0 (entry_of c from) refl made.1) made
+      by_edit (remove name) of made = held_without c t name catalogue.order is ∙ ap Some (sym made)
+      by_edit (exchange name place count) of made = absurd made
+      by_edit (digest ds) of made = absurd made
+      by_edit (rebuild old from others gone) of made = made image segments (ap (tables_held image) of ∙ is) holds
 
 -- ---- pages make no difference to what a table is
 

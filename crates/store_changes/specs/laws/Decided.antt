@@ -1,5 +1,5 @@
 -- What is decided by the catalogue, as its tests go.
-use Rattle.std.proofs.Common.{◌≡◌, ℕ, Bool, true, List, Option, None, Result, Ok, Err, inl, inr, refl, sym, ap, subst}
+use Rattle.std.proofs.Common.{◌≡◌, ◌++◌, ℕ, Bool, true, List, Option, Some, None, Result, Ok, Err, inl, inr, refl, sym, ap, subst}
 use Rattle.facts.specs.Checks.{unless}
 use Rattle.sector_dev.specs.Disk.{Image}
 use Rattle.arrow_schema.specs.Column.{PlainSchema}
@@ -12,11 +12,18 @@ use Rattle.ipc_message.specs.Outcome.{Fails}
 use Rattle.ipc_stream.specs.Meaning.{meaning}
 use Rattle.catalogue.specs.Entries.{PlainCatalogue}
 use Rattle.tables.specs.declared.refusal.Refusal.{Refusal}
-use Rattle.tables.specs.Commands.{PlainCommand, create, import_stream, rename, drop_table}
+use Rattle.tables.specs.declared.refusal.Refusal.TheVariants as refusals
+use Rattle.tables.specs.declared.refusal.Limit.TheVariants as limits
+use Rattle.tables.specs.Commands.{PlainCommand, create, import_stream, rename, append_stream, append_rows, save_as, drop_table, all_of, PlainCommands, no_command, and_command}
 use Rattle.tables.specs.Refusals.{import_refusal}
-use Rattle.tables.specs.Verdict.{of_meaning, import_tests}
-use Rattle.store_runs.specs.Changes.{put, move, remove, PlainChange}
-use Rattle.store_runs.specs.Deciding.{missing_in, full_in, create_tests, rename_tests, names_changed, pieces_put, decided_table, IsDecided, IsAnswered}
+use Rattle.tables.specs.Verdict.{of_meaning, of_query, import_tests, too_heavy}
+use Rattle.store_runs.specs.Changes.{PlainEdit, put, extend, move, remove, rebuild, PlainChange, rows_under, IsOfCatalogue}
+use Rattle.catalogue.specs.Edits.{entry_of}
+use Rattle.catalogue.specs.Entries.{PlainEntry}
+use Rattle.query.specs.Bound.{SelectionRefusal}
+use Rattle.query.specs.Query.{PlainQuery}
+use Rattle.query.specs.Selection.{selection}
+use Rattle.store_runs.specs.Deciding.{missing_in, full_in, create_tests, rename_tests, names_changed, pieces_put, decided_table, of_entry, Addition, given_rows, streamed_rows, selected_entry, IsAdded, IsSaved, Leaves, IsDecided, IsDecidedInTurn, Stops, StopsInTurn, IsAnswered}
 
 -- ---- commands that bring no rows
 
@@ -49,9 +56,93 @@ module _ (tells : Bool) (image : Image) (c : PlainCatalogue) (name bytes : List 
 
 -- ---- what was answered
 
+-- what ends a decision before it is made is a refusal
+mutual
+  pub stops_refused : (tells : Bool) (image : Image) (c : PlainCatalogue) (command : PlainCommand) (answer : Result PlainChange Refusal) → Stops tells image c command answer → (r : Refusal) × (answer ≡ Err r)
+  stops_refused tells image c (all_of cs) answer stops = in_turn_refused tells stops.0 image c cs answer stops.2
+  stops_refused tells image c _ answer stops = (stops.refusal, stops.told)
+
+  in_turn_refused : (tells : Bool) (next : ℕ) (image : Image) (c : PlainCatalogue) (cs : PlainCommands) (answer : Result PlainChange Refusal) → StopsInTurn tells next image c cs answer → (r : Refusal) × (answer ≡ Err r)
+  in_turn_refused tells next image c no_command answer stops = absurd stops
+  in_turn_refused tells next image c (and_command x xs) answer (inl stops) = stops_refused tells image c x answer stops
+  in_turn_refused tells next image c (and_command x xs) answer (inr (change, is, inl told)) = (refusals.TooMany limits.Segments, told.0)
+  in_turn_refused tells next image c (and_command x xs) answer (inr (change, is, inr (next', image', c', leaves, more))) = in_turn_refused tells next' image' c' xs answer more
+
 -- an answer that is a change is what is decided
 pub is_change : (tells : Bool) (image : Image) (c : PlainCatalogue) (command : PlainCommand) (change : PlainChange) → tells ≡ true → IsAnswered tells image c command (Ok change)
     → IsDecided true image c command (Ok change)
 is_change tells image c command change told (inl memory) = absurd (cc memory)
-is_change tells image c command change told (inr (inl fails)) = let both : Ok change ≡ Err fails.refusal = fails.told in absurd (cc both)
+is_change tells image c command change told (inr (inl stops)) = let fails = stops_refused tells image c command (Ok change) stops in let both = fails.1 in absurd (cc both)
 is_change tells image c command change told (inr (inr decided)) = subst (λ (b : Bool). IsDecided b image c command (Ok change)) told decided
+
+-- ---- the catalogue of an edit
+
+-- an edit that does not rebuild the catalogue
+abbrev IsPlainEdit : PlainEdit → Type 0
+IsPlainEdit (rebuild old from made gone) = ⊥
+IsPlainEdit _ = Unit {0}
+
+plain_of : (c : PlainCatalogue) (edit : PlainEdit) → IsPlainEdit edit → IsOfCatalogue c edit
+plain_of c (rebuild old from made gone) plain = absurd plain
+plain_of c _ plain = tt
+
+-- the change behind a test
+tested_plain : (o : Option Refusal) (r : Result PlainChange Refusal) (change : PlainChange) → (r ≡ Ok change → IsPlainEdit change.edit) → unless o r ≡ Ok change → IsPlainEdit change.edit
+tested_plain None r change plain is = plain is
+tested_plain (Some e) r change plain is = absurd (cc is)
+
+same_plain : (made change : PlainChange) → IsPlainEdit made.edit → ◌≡◌ {A = Result PlainChange Refusal} (Ok made) (Ok change) → IsPlainEdit change.edit
+same_plain made change plain is = let same : made ≡ change = cc is in subst (λ (x : PlainChange). IsPlainEdit x.edit) same plain
+
+means_plain : (c : PlainCatalogue) (name : List ℕ) (m : Result PlainTable Fault) (change : PlainChange) → of_meaning m (decided_table c name) ≡ Ok change → IsPlainEdit change.edit
+means_plain c name (Err fault) change is = absurd (cc is)
+means_plain c name (Ok table) change is = tested_plain (full_in c name) (Ok (pieces_put (put name table.schema) table)) change (same_plain (pieces_put (put name table.schema) table) change tt) is
+
+added_plain : (image : Image) (name : List ℕ) (tested : Result Addition Refusal) (change : PlainChange) → IsAdded true image name tested (Ok change) → IsPlainEdit change.edit
+added_plain image name (Err r) change is = absurd (cc is)
+added_plain image name (Ok a) change (inr (light, is)) = same_plain (pieces_put (extend name) (rows_under a.entry.schema a.rows)) change tt (sym is)
+added_plain image name (Ok a) change (inl (standing, read, is)) =
+    let made = pieces_put (extend name) (rows_under a.entry.schema a.rows) in
+    tested_plain (too_heavy a.entry.schema (standing.rows ++ a.rows)) (Ok made) change (same_plain made change tt) (sym is)
+
+selected_plain : (to : List ℕ) (s : Result PlainTable SelectionRefusal) (change : PlainChange) → of_query s (λ (table : PlainTable). Ok (pieces_put (put to table.schema) table)) ≡ Ok change → IsPlainEdit change.edit
+selected_plain to (Err r) change is = absurd (cc is)
+selected_plain to (Ok table) change is = same_plain (pieces_put (put to table.schema) table) change tt is
+
+saved_plain : (image : Image) (to : List ℕ) (query : PlainQuery) (tested : Result PlainEntry Refusal) (change : PlainChange) → IsSaved true image to query tested (Ok change) → IsPlainEdit change.edit
+saved_plain image to query (Err r) change is = absurd (cc is)
+saved_plain image to query (Ok e) change (standing, read, is) = selected_plain to (selection standing query) change (sym is)
+
+-- what is decided behind the first command of a list
+abbrev Following : (tells : Bool) (from : ℕ) (old : PlainCatalogue) (next : ℕ) → Image → PlainCatalogue → PlainCommands → Result PlainChange Refusal → Result PlainChange Refusal → Type 0
+Following tells from old next image c xs d (Err r) = d ≡ Err r
+Following tells from old next image c xs d (Ok first) =
+    (next' : ℕ) × (image' : Image) × (c' : PlainCatalogue) × Leaves next image c first next' image' c' × IsDecidedInTurn tells from old next' image' c' xs d
+
+-- the rest of a list rebuilds the old catalogue
+in_turn_of : (tells : Bool) (from : ℕ) (old : PlainCatalogue) (next : ℕ) (image : Image) (c : PlainCatalogue) (cs : PlainCommands) (change : PlainChange) → IsDecidedInTurn tells from old next image c cs (Ok change)
+    → IsOfCatalogue old change.edit
+in_turn_of tells from old next image c no_command change (made, whole, is) =
+    let same : change ≡ made = cc is in
+    subst (λ (x : PlainChange). IsOfCatalogue old x.edit) (sym same) (subst (IsOfCatalogue old) (sym whole.edit) refl)
+in_turn_of tells from old next image c (and_command x xs) change (one, decides, rest) = by_first one rest (λ next' image' c' more. in_turn_of tells from old next' image' c' xs change more)
+  where
+    by_first : (d : Result PlainChange Refusal) → Following tells from old next image c xs (Ok change) d
+        → ((next' : ℕ) (image' : Image) (c' : PlainCatalogue) → IsDecidedInTurn tells from old next' image' c' xs (Ok change) → IsOfCatalogue old change.edit) → IsOfCatalogue old change.edit
+    by_first (Err r) is later = absurd (cc is)
+    by_first (Ok first) (next', image', c', leaves, more) later = later next' image' c' more
+
+-- a change that was decided was decided for this catalogue
+pub of_decided : (image : Image) (c : PlainCatalogue) (command : PlainCommand) (change : PlainChange) → IsDecided true image c command (Ok change) → IsOfCatalogue c change.edit
+of_decided image c (create name schema) change is =
+    plain_of c change.edit (tested_plain (create_tests c name) (Ok (names_changed (put name schema))) change (same_plain (names_changed (put name schema)) change tt) (sym is))
+of_decided image c (import_stream name bytes) change is =
+    plain_of c change.edit (tested_plain (import_tests name bytes) (of_meaning (meaning supported_codes bytes) (decided_table c name)) change (means_plain c name (meaning supported_codes bytes) change) (sym is))
+of_decided image c (append_stream name bytes) change is = plain_of c change.edit (added_plain image name (of_entry (entry_of c name) (streamed_rows bytes)) change is)
+of_decided image c (append_rows name rows) change is = plain_of c change.edit (added_plain image name (of_entry (entry_of c name) (given_rows rows)) change is)
+of_decided image c (save_as from to query) change is = plain_of c change.edit (saved_plain image to query (of_entry (entry_of c from) (selected_entry c to query)) change is)
+of_decided image c (rename from to) change is =
+    plain_of c change.edit (tested_plain (rename_tests c from to) (Ok (names_changed (move from to))) change (same_plain (names_changed (move from to)) change tt) (sym is))
+of_decided image c (drop_table name) change is =
+    plain_of c change.edit (tested_plain (missing_in c name) (Ok (names_changed (remove name))) change (same_plain (names_changed (remove name)) change tt) (sym is))
+of_decided image c (all_of cs) change is = in_turn_of true is.0 c is.0 image c cs change is.2

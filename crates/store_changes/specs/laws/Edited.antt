@@ -22,8 +22,9 @@ use Rattle.catalogue.specs.laws.Digests.{digests_runs, digested_stands}
 use Rattle.catalogue.specs.laws.Changed.{put_stands, removed_stands, none_without, renamed_is, renamed_stands, more_is, more_none, more_stands, parted, found_passes, exchanged_none, exchanged_is, exchanged_stands}
 use Rattle.commit.specs.Placing.{is_among, times_among}
 use Rattle.commit.specs.laws.Fit.{times_both, times_some, some_times}
-use Rattle.store_runs.specs.Changes.{PlainEdit, PlainChange, put, extend, move, remove, exchange, digest, new_entry, page_over, page_instead, edited, page_lost, given_by, lost_page, name_edited, given_from, given_of, given_up, IsEdit, IsChange}
+use Rattle.store_runs.specs.Changes.{PlainEdit, PlainChange, put, extend, move, remove, exchange, digest, rebuild, new_entry, page_over, page_instead, edited, page_lost, given_by, given_by_all, lost_page, name_edited, given_from, given_of, given_up, IsEdit, IsChange}
 use Rattle.store_changes.specs.laws.ExchangedRuns.{run_of, exchanged_times, exchanged_count}
+use Rattle.store_changes.specs.laws.Filled.{filled_shapes, filled_times, filled_stands}
 
 -- ---- what doesn't depend on the places of the new segments
 
@@ -98,6 +99,7 @@ edited_shapes c (move from to) a b same = refl
 edited_shapes c (remove name) a b same = refl
 edited_shapes c (exchange name place count) a b same = exchanged_shapes c name place count a b same
 edited_shapes c (digest ds) a b same = refl
+edited_shapes c (rebuild old from made gone) a b same = filled_shapes from made a b same
 
 pub edited_count : (c : PlainCatalogue) (edit : PlainEdit) (a b : List Segment) → sizes_in a ≡ sizes_in b → segment_count (edited c edit a) ≡ segment_count (edited c edit b)
 edited_count c edit a b same = count_alike (edited c edit a) (edited c edit b) (edited_shapes c edit a b same)
@@ -178,6 +180,7 @@ module _ (run : Run) where
       ∙ ap (λ (rs : List Run). times_among rs run) (map-append run_of front (gone ++ rest)) ∙ times_both (map run_of front) (map run_of (gone ++ rest)) run
       ∙ ap (λ (n : ℕ). times_among (map run_of front) run + n) (ap (λ (rs : List Run). times_among rs run) (map-append run_of gone rest) ∙ times_both (map run_of gone) (map run_of rest) run) in
       omega (arith, in_times e, parts, times_both (page_runs e.page) (map run_of gone) run)
+  given_times (rebuild old from made gone) segments e = omega arith
   given_times (digest ds) segments e = let page = page_behind e.segments e.page in omega (arith, in_times e, lost_times e.page page (behind_or e.segments e.page))
 
   -- a table that gets digests has the runs that it had, but for a page that is given up
@@ -279,10 +282,21 @@ edited_times_are c (exchange name place count) streams segments run k can same =
 edited_times_are c (digest ds) streams segments run k can same =
     let none : times_among (map run_of segments) run ≡ 0 = ap (λ (ss : List Segment). times_among (map run_of ss) run) (no_segments streams segments can.2 same) in
     omega (arith, none, digested_times run c ds)
+edited_times_are c (rebuild old from made gone) streams segments run k can same =
+    let new = can.new in
+    let old_runs = can.runs run in
+    omega (arith, old_runs, filled_times from run made segments (same ∙ sym new))
+
+-- those that an edit of all tables gives up were listed
+given_by_all_times : (c : PlainCatalogue) (edit : PlainEdit) (streams : List (List ℕ)) (run : Run) → IsEdit c edit streams → times_among (given_by_all c edit) run ≤ times_among (runs_of c) run
+given_by_all_times c (digest ds) streams run can = omega (arith, digested_times run c [])
+given_by_all_times c (rebuild old from made gone) streams run can = let old_runs = can.runs run in omega (arith, old_runs)
+given_by_all_times c _ streams run can = omega arith
 
 -- those that are given up were listed
-pub given_up_times : (c : PlainCatalogue) (edit : PlainEdit) (segments : List Segment) (run : Run) → times_among (given_up c edit segments) run ≤ times_among (runs_of c) run
-given_up_times c edit segments run = by_name (name_edited edit) refl
+pub given_up_times : (c : PlainCatalogue) (edit : PlainEdit) (streams : List (List ℕ)) (segments : List Segment) (run : Run) → IsEdit c edit streams
+    → times_among (given_up c edit segments) run ≤ times_among (runs_of c) run
+given_up_times c edit streams segments run can = by_name (name_edited edit) refl
   where
     by_entry : (name : List ℕ) → name_edited edit ≡ Some name → (o : Option PlainEntry) → entry_of c name ≡ o → times_among (given_up c edit segments) run ≤ times_among (runs_of c) run
     by_entry name named None h = let none : times_among (given_up c edit segments) run ≡ 0 = ap (λ (rs : List Run). times_among rs run) (none_given c edit segments name named h) in omega (arith, none)
@@ -292,8 +306,8 @@ given_up_times c edit segments run = by_name (name_edited edit) refl
 
     by_name : (o : Option (List ℕ)) → name_edited edit ≡ o → times_among (given_up c edit segments) run ≤ times_among (runs_of c) run
     by_name None named =
-        let gone : times_among (given_up c edit segments) run ≡ times_among (flat_map lost_page c) run = ap (λ (o : Option (List ℕ)). times_among (given_of c edit segments o) run) named in
-        omega (arith, gone, digested_times run c [])
+        let gone : times_among (given_up c edit segments) run ≡ times_among (given_by_all c edit) run = ap (λ (o : Option (List ℕ)). times_among (given_of c edit segments o) run) named in
+        omega (arith, gone, given_by_all_times c edit streams run can)
     by_name (Some name) named = by_entry name named (entry_of c name) refl
 
 -- whether a run is listed, by how often it is
@@ -388,23 +402,24 @@ instead_sound c name schema segments k = by_entry (entry_of c name) refl
         ⊎_elim (λ (none : page_over old schema segments ≡ None). ap is_page none)
         (λ (same : page_over old schema segments ≡ old.page). ap is_page same ∙ (entry_is old (found_passes is_entry c name old k.entries h)).page) (over_or old schema segments)
 
-pub edit_stands : (c : PlainCatalogue) (edit : PlainEdit) (streams : List (List ℕ)) (segments : List Segment) → IsCatalogue c → IsEdit c edit streams → list_all is_segment segments ≡ true
+pub edit_stands : (c : PlainCatalogue) (edit : PlainEdit) (streams : List (List ℕ)) (segments : List Segment) → IsCatalogue c → IsEdit c edit streams → length segments ≡ length streams → list_all is_segment segments ≡ true
     → segment_count (edited c edit segments) ≤ MAX_SEGMENTS → IsCatalogue (edited c edit segments)
-edit_stands c (put name schema) streams segments k can each most =
+edit_stands c (put name schema) streams segments k can many each most =
     let page = page_instead (entry_of c name) schema segments in
     let e : PlainEntry = new_entry name schema segments page in
     let tables = can.2 in
     catalogue_is (with_entry c e) (put_stands c e (passes_catalogue c k) (entry_stands e can.0 can.1 each (instead_sound c name schema segments k)) (omega (arith, tables, put_tables c name schema segments page)) most)
-edit_stands c (extend name) streams segments k can each most =
+edit_stands c (extend name) streams segments k can many each most =
     let e : PlainEntry = can.0 in
     let h : entry_of c name ≡ Some e = can.1 in
     catalogue_is (with_more c name segments) (more_stands c name e segments (passes_catalogue c k) h each (omega (arith, most, more_count c name e segments h)))
-edit_stands c (move from to) streams segments k can each most =
+edit_stands c (move from to) streams segments k can many each most =
     subst IsCatalogue (sym (renamed_is c from to can.2.0 can.2.1)) (catalogue_is (with_entry (without c from) (named to can.2.0)) (renamed_stands c from to can.2.0 (passes_catalogue c k) can.0 can.2.1))
-edit_stands c (remove name) streams segments k can each most = catalogue_is (without c name) (removed_stands c name (passes_catalogue c k))
-edit_stands c (exchange name place count) streams segments k can each most = exchanged_stands c name can.0 can.1 place count segments k each most
-edit_stands c (digest ds) streams segments k can each most = catalogue_is (digested c ds) (digested_stands c ds (passes_catalogue c k) can.1)
+edit_stands c (remove name) streams segments k can many each most = catalogue_is (without c name) (removed_stands c name (passes_catalogue c k))
+edit_stands c (exchange name place count) streams segments k can many each most = exchanged_stands c name can.0 can.1 place count segments k each most
+edit_stands c (rebuild old from made gone) streams segments k can many each most = let new = can.new in filled_stands from made segments can.stands each (many ∙ sym new)
+edit_stands c (digest ds) streams segments k can many each most = catalogue_is (digested c ds) (digested_stands c ds (passes_catalogue c k) can.1)
 
-pub edited_stands : (c : PlainCatalogue) (change : PlainChange) (segments : List Segment) → IsCatalogue c → IsChange c change → list_all is_segment segments ≡ true
+pub edited_stands : (c : PlainCatalogue) (change : PlainChange) (segments : List Segment) → IsCatalogue c → IsChange c change → length segments ≡ length change.streams → list_all is_segment segments ≡ true
     → segment_count (edited c change.edit segments) ≤ MAX_SEGMENTS → IsCatalogue (edited c change.edit segments)
-edited_stands c change segments k is each most = edit_stands c change.edit change.streams segments k is.edit each most
+edited_stands c change segments k is many each most = edit_stands c change.edit change.streams segments k is.edit many each most

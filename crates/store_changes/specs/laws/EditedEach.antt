@@ -1,8 +1,8 @@
 -- What holds of each entry holds of each that an edit leaves, where it holds of all without a page, and of one with the same schema, segments and page.
-use Rattle.std.specs.Prelude.{◌≡◌, ◌||◌, ◌++◌, ◌≤◌, ◌<◌, ◌+◌, ℕ, Bool, true, false, List, [], ◌∷◌, length, map, flat_map, take, drop, Option, Some, None, Ok, if◌then◌else◌}
+use Rattle.std.specs.Prelude.{◌≡◌, ◌||◌, ◌++◌, ◌≤◌, ◌<◌, ◌+◌, ℕ, zero, suc, slice_get, Bool, true, false, List, [], ◌∷◌, length, map, flat_map, take, drop, Option, Some, None, Ok, if◌then◌else◌}
 use Rattle.std.specs.List.{AllByRecursion}
 use Rattle.std.specs.Str.{bytes_eq}
-use Rattle.std.proofs.Common.{inl, inr, refl, sym, ap, ◌∙◌, subst}
+use Rattle.std.proofs.Common.{inl, inr, refl, sym, ap, ◌∙◌, subst, append-nil}
 use Rattle.std.proofs.lemmas.Bool.{cond_both, or_right}
 use Rattle.sector_dev.specs.Disk.{Image}
 use Rattle.segments.specs.declared.run.Run.{Run}
@@ -25,7 +25,9 @@ use Rattle.commit.specs.Placing.{is_among}
 use Rattle.commit.specs.Standing.{InSome}
 use Rattle.pages.specs.Stored.{form_of, page_in, HoldsPage, HoldsPages}
 use Rattle.pages.specs.laws.Digested.{digested_holds}
-use Rattle.store_runs.specs.Changes.{PlainEdit, put, extend, move, remove, exchange, digest, new_entry, page_over, page_instead, edited, version_after, IsEdit}
+use Rattle.store_runs.specs.Changes.{PlainEdit, put, extend, move, remove, exchange, digest, rebuild, new_entry, page_over, page_instead, edited, version_after, HasPageOf, IsEdit}
+use Rattle.store_runs.specs.Filling.{placed_in, new_in, entry_filled, filled}
+use Rattle.store_changes.specs.laws.Filled.{all_placed}
 
 -- schemas of one message are one schema
 abbrev pub OneSchema : Type 0
@@ -87,6 +89,34 @@ module _ (Q : PlainEntry → Type 0) (pageless : OfPageless Q) (alike : OfSame Q
   digested_each [] ds all = tt
   digested_each (e ∷ es) ds all = (digest_each e (take (length e.segments) ds) all.0, digested_each es (drop (length e.segments) ds) all.1)
 
+  -- of a table that stood
+  stood_each : (c : PlainCatalogue) (number : ℕ) (e : PlainEntry) → AllByRecursion Q c → slice_get c number ≡ Some e → Q e
+  stood_each [] number e all at = absurd (cc at)
+  stood_each (x ∷ xs) zero e all at = let same : x ≡ e = cc at in subst Q same all.0
+  stood_each (x ∷ xs) (suc number) e all at = stood_each xs number e all.1 at
+
+  -- of a catalogue that is rebuilt: each table has no page, or that of one that stood
+  entry_each : (from : ℕ) (c : PlainCatalogue) (e : PlainEntry) (others : List Segment) → ((page : Extent) → e.page ≡ Some page → HasPageOf from c e page) → AllByRecursion Q c → Q (entry_filled from e others)
+  entry_each from c e others pages all = by_page (page_behind (new_in from e.segments) e.page) refl
+    where
+      page_stays : (ss : List Segment) (page : Option Extent) (p : Extent) → page_behind ss page ≡ Some p → page ≡ Some p
+      page_stays [] page p h = h
+      page_stays (s ∷ ss) page p h = absurd (cc h)
+
+      by_page : (o : Option Extent) → page_behind (new_in from e.segments) e.page ≡ o → Q (entry_filled from e others)
+      by_page None h = pageless (entry_filled from e others) h
+      by_page (Some p) h =
+          let has = pages p (page_stays (new_in from e.segments) e.page p h) in
+          let own : placed_in from e.segments ++ take (length (new_in from e.segments)) others ≡ has.old.segments =
+          ap (λ (ns : List Segment). placed_in from e.segments ++ take (length ns) others) has.whole ∙ append-nil (placed_in from e.segments) ∙ all_placed from e.segments has.whole ∙ has.segments in
+          alike (entry_filled from e others) has.old has.schema own (h ∙ sym has.paged) (stood_each c has.number has.old all has.stood)
+
+  rebuilt_each : (from : ℕ) (c made : PlainCatalogue) (others : List Segment) → AllByRecursion (λ (e : PlainEntry). (page : Extent) → e.page ≡ Some page → HasPageOf from c e page) made
+      → AllByRecursion Q c → AllByRecursion Q (filled from made others)
+  unfolding filled
+  rebuilt_each from c [] others pages all = tt
+  rebuilt_each from c (e ∷ es) others pages all = (entry_each from c e others pages.0 all, rebuilt_each from c es (drop (length (new_in from e.segments)) others) pages.1 all)
+
   pub edited_each : OneSchema → (c : PlainCatalogue) (edit : PlainEdit) (streams : List (List ℕ)) (segments : List Segment) → IsCatalogue c → IsEdit c edit streams → AllByRecursion Q c → AllByRecursion Q (edited c edit segments)
   edited_each one c (put name schema) streams segments k can all =
       with_each c (new_entry name schema segments (page_instead (entry_of c name) schema segments)) all (by_entry (entry_of c name) refl)
@@ -104,6 +134,7 @@ module _ (Q : PlainEntry → Type 0) (pageless : OfPageless Q) (alike : OfSame Q
       let e : PlainEntry = can.0 in
       subst (λ (d : PlainCatalogue). AllByRecursion Q d) (sym (exchanged_is c name e can.1 place count segments)) (refilled_each c name (with_others e.segments place count segments) all)
   edited_each one c (digest ds) streams segments k can all = digested_each c ds all
+  edited_each one c (rebuild old from made gone) streams segments k can all = rebuilt_each from c made segments can.pages all
 
 -- ---- pages still say what the tables are
 
@@ -126,6 +157,7 @@ module _ (size : ℕ) (image : Image) where
   edited_holds v one c (move from to) streams segments k can holds = same_form (form_of v) one c (move from to) streams segments k can holds
   edited_holds v one c (remove name) streams segments k can holds = same_form (form_of v) one c (remove name) streams segments k can holds
   edited_holds v one c (exchange name place count) streams segments k can holds = same_form (form_of v) one c (exchange name place count) streams segments k can holds
+  edited_holds v one c (rebuild old from made gone) streams segments k can holds = same_form (form_of v) one c (rebuild old from made gone) streams segments k can holds
   edited_holds v one c (digest ds) streams segments k can holds = digested_holds size image (form_of v) c ds holds
 
 -- ---- and are among the runs that were named

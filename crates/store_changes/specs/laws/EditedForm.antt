@@ -12,7 +12,8 @@ use Rattle.catalogue.specs.laws.Digests.{digested_form}
 use Rattle.catalogue.specs.laws.Changed.{parted, found_passes, refilled_all, renamed_is, more_is, exchanged_is}
 use Rattle.commit.specs.declared.sector.FormatVersion.{FormatVersion}
 use Rattle.pages.specs.Stored.{form_of}
-use Rattle.store_runs.specs.Changes.{PlainEdit, put, extend, move, remove, exchange, digest, new_entry, page_instead, edited, version_after, IsEdit}
+use Rattle.store_runs.specs.Changes.{PlainEdit, put, extend, move, remove, exchange, digest, rebuild, new_entry, page_instead, edited, version_after, IsEdit}
+use Rattle.store_changes.specs.laws.Filled.{filled_form}
 
 module _ (v : FormatVersion) where
   abbrev form : SegmentForm
@@ -52,4 +53,5 @@ module _ (v : FormatVersion) where
       let e : PlainEntry = can.0 in
       ap (has_form form) (exchanged_is c name e can.1 place count segments)
       ∙ refilled_all entry_has c name (with_others e.segments place count segments) (λ x is. others_have e.segments place count segments (found_passes entry_has c name e all can.1) each) all
+  edited_form c (rebuild old from made gone) streams segments can all each = filled_form from form made segments (can.forms form all) each
   edited_form c (digest ds) streams segments can all each = let number = can.0 in digested_form c ds (omega (arith, number))

@@ -22,19 +22,20 @@ use Rattle.pages.specs.Paging.{is_whole, page_sizes, text_size, ArePageRuns, set
 use Rattle.pages.specs.laws.Alike.{sizes_alike, dropped_alike}
 use Rattle.pages.specs.laws.Times.{settled_times}
 use Rattle.pages.specs.laws.Taken.{AreTaken, took_taken, taken_length, taken_front, taken_behind, are_page_runs}
-use Rattle.store_runs.specs.Changes.{PlainChange, PlainEdit, IsChange, digest_for, given_up, placed_segments}
+use Rattle.store_runs.specs.Changes.{PlainChange, PlainEdit, IsEdit, IsChange, digest_for, given_up, placed_segments}
 use Rattle.store_runs.specs.Carrying.{unplaced, outline, asked_sizes}
 use Rattle.store_changes.specs.Prepared.{unpaged, in_runs}
 use Rattle.store_changes.specs.laws.ExchangedRuns.{run_of}
-use Rattle.store_changes.specs.laws.Segments.{are_streams, placed_number, placed_runs, placed_sound, placed_alike, unplaced_sound}
+use Rattle.store_changes.specs.laws.Segments.{are_streams, placed_number, placed_runs, placed_sound, placed_alike, unplaced_sound, unplaced_number}
 use Rattle.store_changes.specs.laws.Edited.{sizes_in, number_alike, edited_shapes, edited_stands, edited_count, edited_times_are, given_up_alike, given_up_times, by_times}
 use Rattle.store_changes.specs.laws.EditedEach.{OneSchema, edited_pages, pages_listed}
 
 -- what is given up was named
-given_named : (c : PlainCatalogue) (edit : PlainEdit) (segments : List Segment) (run : Run) → is_among (given_up c edit segments) run ≡ true → is_among (entries.runs_of c) run ≡ true
-given_named c edit segments run is =
+given_named : (c : PlainCatalogue) (edit : PlainEdit) (streams : List (List ℕ)) (segments : List Segment) (run : Run) → IsEdit c edit streams → is_among (given_up c edit segments) run ≡ true
+    → is_among (entries.runs_of c) run ≡ true
+given_named c edit streams segments run can is =
     let some = times_some (given_up c edit segments) run is in
-    let few = given_up_times c edit segments run in
+    let few = given_up_times c edit streams segments run can in
     some_times (entries.runs_of c) run (omega (arith, some, few))
 
 -- so are the pages that are dropped
@@ -56,7 +57,7 @@ module _ (v : FormatVersion) (c : PlainCatalogue) (change : PlainChange) (sound 
   -- its outline may stand, where it has few enough segments
   pub outline_stands : IsCatalogue c → segment_count (outline v c change) ≤ MAX_SEGMENTS → IsCatalogue (outline v c change)
   outline_stands stands few =
-      edited_stands c change (unplaced v change.streams change.counts) stands sound (unplaced_sound v change.streams change.counts (are_streams change.streams sound.some sound.short) sound.rows) few
+      edited_stands c change (unplaced v change.streams change.counts) stands sound (unplaced_number v change.streams change.counts sound.each) (unplaced_sound v change.streams change.counts (are_streams change.streams sound.some sound.short) sound.rows) few
 
   module _ (places : List Run) (many : length places ≡ length change.streams) where
     same_sizes : sizes_in (placed_segments v places change.streams change.counts) ≡ sizes_in (unplaced v change.streams change.counts)
@@ -75,7 +76,7 @@ module _ (v : FormatVersion) (c : PlainCatalogue) (change : PlainChange) (sound 
 
     pub unpaged_stands : (size : ℕ) → IsCatalogue c → segment_count (outline v c change) ≤ MAX_SEGMENTS → size < 2 ^ 64 → AreTaken size (map sectors_of change.streams) places → IsCatalogue (unpaged v c change places)
     unpaged_stands size stands few low taken =
-        edited_stands c change (placed_segments v places change.streams change.counts) stands sound (segments_sound size low taken)
+        edited_stands c change (placed_segments v places change.streams change.counts) stands sound (placed_number v places change.streams change.counts many sound.each) (segments_sound size low taken)
         (let e = edited_count c change.edit (placed_segments v places change.streams change.counts) (unplaced v change.streams change.counts) same_sizes in omega (arith, e, few))
 
     -- ---- its runs
@@ -108,7 +109,7 @@ module _ (v : FormatVersion) (c : PlainCatalogue) (change : PlainChange) (sound 
         where
           by_test : (t : Bool) → is_among (given_up c change.edit (unplaced v change.streams change.counts)) run ≡ t
               → (is_among (given_up c change.edit (unplaced v change.streams change.counts)) run || is_among (dropped_pages (outline v c change)) run) ≡ true → is_among (entries.runs_of c) run ≡ true
-          by_test true here or = given_named c change.edit (unplaced v change.streams change.counts) run here
+          by_test true here or = given_named c change.edit change.streams (unplaced v change.streams change.counts) run sound.edit here
           by_test false here or =
               dropped_listed (outline v c change) (entries.runs_of c) run
               (λ among. pages_listed (outline v c change) (entries.runs_of c) run (edited_pages one c change.edit change.streams (unplaced v change.streams change.counts) stands sound.edit) among)

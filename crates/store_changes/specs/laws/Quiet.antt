@@ -19,12 +19,13 @@ use Rattle.ipc_stream.specs.Meaning.{meaning}
 use Rattle.tables.specs.declared.refusal.Limit.TheVariants as limits
 use Rattle.tables.specs.declared.refusal.Refusal.{Refusal}
 use Rattle.tables.specs.declared.refusal.Refusal.TheVariants as refusals
-use Rattle.tables.specs.Commands.{PlainCommand, create, import_stream, append_stream, append_rows, save_as, rename, drop_table}
+use Rattle.tables.specs.Commands.{PlainCommand, create, import_stream, append_stream, append_rows, save_as, rename, drop_table, all_of}
 use Rattle.tables.specs.Verdict.{bad_name, import_tests, of_meaning, other_shape, too_many_bytes, unfit_row}
 use Rattle.store_runs.specs.Calls.{is_failure}
 use Rattle.store_changes.specs.declared.change.Change.{Change}
 use Rattle.store_runs.specs.Changes.{PlainChange, put, move, remove}
-use Rattle.store_runs.specs.Deciding.{Addition, given_rows, rows_of_table, IsAdded, has_entry, missing_in, taken_in, full_in, create_tests, rename_tests, names_changed, pieces_put, decided_table, reads_device, entry_added, entry_read, IsDecided, IsAnswered}
+use Rattle.store_runs.specs.Deciding.{Addition, given_rows, rows_of_table, IsAdded, has_entry, missing_in, taken_in, full_in, create_tests, rename_tests, names_changed, pieces_put, decided_table, reads_device, entry_added, entry_read, IsNotRead, IsDecided, Stops, IsAnswered}
+use Rattle.store_changes.specs.Verdicts.{IsSingle}
 use Rattle.store_changes.specs.declared.new_rows.NewRows.{NewRows}
 use Rattle.store_changes.specs.declared.new_rows.NewRows.TheVariants.{Stream, Given, OfTable}
 use Rattle.store_runs.specs.Reading.{Unreads}
@@ -120,32 +121,37 @@ bytes_quiet bytes = by_when _ (refusals.TooMany limits.Bytes) (record { device =
 
 -- what is answered of such a command
 module _ (tells : Bool) (image : Image) (c : PlainCatalogue) where
-  no_entry : (command : PlainCommand) (e : PlainEntry) → reads_device command ≡ false → entry_read c command ≡ Some e → ⊥
+  pub no_entry : (command : PlainCommand) (e : PlainEntry) → reads_device command ≡ false → entry_read c command ≡ Some e → ⊥
   no_entry (append_stream name bytes) e still read = cc still
   no_entry (append_rows name rows) e still read = cc still
   no_entry (save_as from to query) e still read = cc still
   no_entry _ e still read = cc read
 
-  by_decision : (command : PlainCommand) (d : Result PlainChange Refusal) → reads_device command ≡ false → IsDecided tells image c command d → IfErr d IsQuiet
-  by_decision (create name schema) d still is =
+  by_decision : (command : PlainCommand) (d : Result PlainChange Refusal) → IsSingle command → reads_device command ≡ false → IsDecided tells image c command d → IfErr d IsQuiet
+  by_decision (create name schema) d single still is =
       subst (λ (x : Result PlainChange Refusal). IfErr x IsQuiet) (sym is)
       (quietly (create_tests c name) (Ok (names_changed (put name schema))) (first_quiet (bad_name name ∷ taken_in c name ∷ full_in c name ∷ []) (bad_quiet name, (taken_quiet c name, (full_quiet c name, tt)))) tt)
-  by_decision (import_stream name bytes) d still is =
+  by_decision (import_stream name bytes) d single still is =
       subst (λ (x : Result PlainChange Refusal). IfErr x IsQuiet) (sym is)
       (quietly (import_tests name bytes) (of_meaning (meaning supported_codes bytes) (decided_table c name)) (first_quiet (bad_name name ∷ too_many_bytes bytes ∷ []) (bad_quiet name, (bytes_quiet bytes, tt)))
       (of_means (meaning supported_codes bytes) (decided_table c name) (λ t. quietly (full_in c name) (Ok (pieces_put (put name t.schema) t)) (full_quiet c name) tt)))
-  by_decision (rename from to) d still is =
+  by_decision (rename from to) d single still is =
       subst (λ (x : Result PlainChange Refusal). IfErr x IsQuiet) (sym is)
       (quietly (rename_tests c from to) (Ok (names_changed (move from to))) (first_quiet (missing_in c from ∷ bad_name to ∷ taken_in c to ∷ []) (missing_quiet c from, (bad_quiet to, (taken_quiet c to, tt)))) tt)
-  by_decision (drop_table name) d still is =
+  by_decision (drop_table name) d single still is =
       subst (λ (x : Result PlainChange Refusal). IfErr x IsQuiet) (sym is) (quietly (missing_in c name) (Ok (names_changed (remove name))) (missing_quiet c name) tt)
-  by_decision _ d still is = absurd (cc still)
+  by_decision (all_of cs) d single still is = absurd single
+  by_decision _ d single still is = absurd (cc still)
 
-  answered : (command : PlainCommand) (d : Result PlainChange Refusal) → reads_device command ≡ false → IsAnswered tells image c command d → IfErr d IsQuiet
-  answered command d still (inl memory) = subst (λ (x : Result PlainChange Refusal). IfErr x IsQuiet) (sym memory) memory_quiet
-  answered command d still (inr (inl unread)) = absurd (no_entry command unread.entry still unread.tested)
-  answered command d still (inr (inr is)) = by_decision command d still is
+  pub single_stops : (command : PlainCommand) (d : Result PlainChange Refusal) → IsSingle command → Stops tells image c command d → IsNotRead tells image (entry_read c command) d
+  single_stops (all_of cs) d single stops = absurd single
+  single_stops _ d single stops = stops
 
-  pub answers_quiet : (command : PlainCommand) (r : Result Change Refusal) → reads_device command ≡ false → IsAnswered tells image c command (decision_of r) → IfErr r IsQuiet
-  answers_quiet command (Ok change) still is = tt
-  answers_quiet command (Err e) still is = answered command (Err e) still is
+  answered : (command : PlainCommand) (d : Result PlainChange Refusal) → IsSingle command → reads_device command ≡ false → IsAnswered tells image c command d → IfErr d IsQuiet
+  answered command d single still (inl memory) = subst (λ (x : Result PlainChange Refusal). IfErr x IsQuiet) (sym memory) memory_quiet
+  answered command d single still (inr (inl stops)) = let unread = single_stops command d single stops in absurd (no_entry command unread.entry still unread.tested)
+  answered command d single still (inr (inr is)) = by_decision command d single still is
+
+  pub answers_quiet : (command : PlainCommand) (r : Result Change Refusal) → IsSingle command → reads_device command ≡ false → IsAnswered tells image c command (decision_of r) → IfErr r IsQuiet
+  answers_quiet command (Ok change) single still is = tt
+  answers_quiet command (Err e) single still is = answered command (Err e) single still is

@@ -11,7 +11,7 @@ use Rattle.tables.specs.declared.refusal.Refusal.TheVariants as refusals
 use Rattle.tables.specs.Refusals.{Origin, by_tables, by_room, by_memory, by_device, by_halt, elsewhere, origin_of_limit, origin_of}
 use Rattle.tables.specs.Commands.{PlainCommand}
 use Rattle.commit.specs.declared.opening_refusal.OpeningRefusal.TheVariants as openings
-use Rattle.store_runs.specs.Calls.{PlainCall, apply_call, format_call, open_call, close_call, tables_call, schema_call, read_call, export_call, stream_call, open_export_call, export_next_call, close_export_call, compact_call, upgrade_call, PlainReply, done, counts, schema_is, table_is, bytes_are, export_is, piece_is, merged, moved as is_moved, nothing, already, refused, shut_by, is_failure, is_device_reply, is_change}
+use Rattle.store_runs.specs.Calls.{PlainCall, apply_call, format_call, open_call, close_call, tables_call, schema_call, read_call, export_call, stream_call, open_export_call, export_next_call, close_export_call, compact_call, upgrade_call, PlainReply, done, counts, schema_is, table_is, bytes_are, export_is, piece_is, merged, moved as is_moved, nothing, already, refused, refused_at, shut_by, is_failure, is_device_reply, is_change}
 use Rattle.store_runs.specs.Machine.{Setting, Machine, shut, running, halted, with_doubt, settle, opened, shut_down, halt}
 use Rattle.store_runs.specs.Steps.{RefusesFrom, Step}
 use Rattle.store_runs.specs.Runs.{Run}
@@ -207,6 +207,7 @@ pub one_step : (s : Setting) (m : Machine) (call : PlainCall) (reply : PlainRepl
 unfolding Step
 one_step s m (apply_call c) done wrote new step = moved m (apply_call c) done new (settle c m) step.3 (done_one m c)
 one_step s m (apply_call c) (refused r) wrote new step = by_origin (origin_of r) s m c r wrote new refl step
+one_step s m (apply_call c) (refused_at place r) wrote new step = is_same m new (apply_call c) (refused_at place r) refl refl step.2.1
 one_step s m (apply_call c) _ wrote new step = absurd step
 one_step s m format_call done wrote new step = moved m format_call done new (opened []) step.3 (formatted_one m step.1)
 one_step s m format_call (shut_by openings.AlreadyAStore) wrote new step = is_shut m new format_call (shut_by openings.AlreadyAStore) refl refl step.1

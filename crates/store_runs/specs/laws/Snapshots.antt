@@ -14,7 +14,7 @@ use Rattle.tables.specs.declared.refusal.Refusal.TheVariants as refusals
 use Rattle.tables.specs.declared.refusal.Limit.TheVariants as limits
 use Rattle.tables.specs.Refusals.{Origin, by_tables, by_room, by_memory, by_device, by_halt, elsewhere, origin_of}
 use Rattle.tables.specs.Commands.{PlainCommand}
-use Rattle.store_runs.specs.Calls.{PlainCall, apply_call, format_call, open_call, close_call, tables_call, schema_call, read_call, export_call, stream_call, open_export_call, export_next_call, close_export_call, compact_call, upgrade_call, PlainReply, done, counts, schema_is, table_is, bytes_are, export_is, piece_is, merged, moved, nothing, already, refused, is_failure}
+use Rattle.store_runs.specs.Calls.{PlainCall, apply_call, format_call, open_call, close_call, tables_call, schema_call, read_call, export_call, stream_call, open_export_call, export_next_call, close_export_call, compact_call, upgrade_call, PlainReply, done, counts, schema_is, table_is, bytes_are, export_is, piece_is, merged, moved, nothing, already, refused, refused_at, is_failure}
 use Rattle.store_runs.specs.Machine.{Setting, Machine, Export, settle, tables_now, has_written, is_of, export_at, gave, after_piece}
 use Rattle.store_runs.specs.Steps.{RefusesFrom, Step, IsExportOf, StepOpenExport}
 use Rattle.store_runs.specs.Runs.{Run}
@@ -189,6 +189,7 @@ module _ (id : ℕ) (e : Export) (s : Setting) (m : Machine) (wrote : Bool) (nex
       by_failure : (b : Bool) → is_failure r ≡ b → Gives id e (apply_call c) (refused r) next
       by_failure true fails = failing (is_failure r) fails stay
       by_failure false quiet = by_origin (origin_of r) c (apply_call c) r refl quiet refl refl step
+  one_call (apply_call c) (refused_at place r) step stay = unmoved id e m next is (apply_call c) (refused_at place r) refl refl step.2.1
   one_call (apply_call c) _ step stay = absurd step
   one_call format_call reply step stay = absurd (cc stay)
   one_call open_call reply step stay = absurd (cc stay)

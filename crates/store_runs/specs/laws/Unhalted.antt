@@ -10,7 +10,7 @@ use Rattle.tables.specs.declared.refusal.Limit.TheVariants as limits
 use Rattle.tables.specs.Refusals.{Origin, by_tables, by_room, by_memory, by_device, by_halt, elsewhere, origin_of}
 use Rattle.tables.specs.Commands.{PlainCommand}
 use Rattle.commit.specs.declared.opening_refusal.OpeningRefusal.TheVariants as openings
-use Rattle.store_runs.specs.Calls.{PlainCall, apply_call, format_call, open_call, close_call, tables_call, schema_call, read_call, export_call, stream_call, open_export_call, export_next_call, close_export_call, compact_call, upgrade_call, PlainReply, done, counts, schema_is, table_is, bytes_are, export_is, piece_is, merged, moved, nothing, already, refused, shut_by, is_failure, is_device_reply}
+use Rattle.store_runs.specs.Calls.{PlainCall, apply_call, format_call, open_call, close_call, tables_call, schema_call, read_call, export_call, stream_call, open_export_call, export_next_call, close_export_call, compact_call, upgrade_call, PlainReply, done, counts, schema_is, table_is, bytes_are, export_is, piece_is, merged, moved, nothing, already, refused, refused_at, shut_by, is_failure, is_device_reply}
 use Rattle.store_runs.specs.Machine.{Setting, Machine, Phase, running, shut, with_doubt, opened}
 use Rattle.store_runs.specs.Steps.{RefusesFrom, Step}
 use Rattle.store_runs.specs.Runs.{Run}
@@ -63,6 +63,7 @@ turns : (s : Setting) (m : Machine) (call : PlainCall) (reply : PlainReply) (wro
 unfolding Step
 turns s m (apply_call c) done wrote new is_open step at quiet = record { phase = ap (λ (k : Machine). k.phase) step.3 ∙ sym step.0 ∙ at; on = refl }
 turns s m (apply_call c) (refused r) wrote new is_open step at quiet = by_origin m new is_open at (origin_of r) s c (apply_call c) r wrote refl refl quiet step
+turns s m (apply_call c) (refused_at place r) wrote new is_open step at quiet = same m new is_open at (apply_call c) (refused_at place r) refl step.2.1 refl
 turns s m (apply_call c) _ wrote new is_open step at quiet = absurd step
 turns s m format_call done wrote new is_open step at quiet = record { phase = ap (λ (k : Machine). k.phase) step.3; on = refl }
 turns s m format_call (shut_by openings.AlreadyAStore) wrote new is_open step at quiet = shuts m new is_open at format_call (shut_by openings.AlreadyAStore) refl (ap (λ (k : Machine). k.phase) step.1) refl

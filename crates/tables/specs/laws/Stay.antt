@@ -22,8 +22,8 @@ use Rattle.tables.specs.declared.refusal.Refusal.{Refusal}
 use Rattle.tables.specs.declared.refusal.Refusal.TheVariants.{RowUnfit, TooMany}
 use Rattle.tables.specs.declared.refusal.Limit.TheVariants as limits
 use Rattle.tables.specs.Tables.{Tables, table_at, with_table, without_table, AreTables}
-use Rattle.tables.specs.Commands.{PlainCommand, create, import_stream, append_stream, append_rows, save_as, rename, drop_table, BringsTables, BringTables}
-use Rattle.tables.specs.Verdict.{bad_name, name_taken, too_many_tables, too_many_bytes, other_shape, unfit_row, too_heavy, of_table, of_meaning, of_query, empty_table, joined, made, put, appended, appended_table, appended_stream, saved, renamed, verdict, after_verdict, step, after}
+use Rattle.tables.specs.Commands.{PlainCommand, create, import_stream, append_stream, append_rows, save_as, rename, drop_table, all_of, PlainCommands, no_command, and_command, commands_of, BringsTables, EachBringsTables, BringTables}
+use Rattle.tables.specs.Verdict.{bad_name, name_taken, too_many_tables, too_many_bytes, other_shape, unfit_row, too_heavy, of_table, of_meaning, of_query, empty_table, joined, made, put, appended, appended_table, appended_stream, saved, renamed, verdict, verdict_in_turn, after_verdict, step, after}
 use Rattle.tables.specs.laws.Maps.{tied, at_with, at_without}
 
 -- ---- maps of tables
@@ -126,30 +126,48 @@ module _ (means : Means) (accepts : Accepts) (joins : Joins) (selects : Selects)
         are_of_meaning (meaning supported_codes bytes) (appended_table t name table) (λ new meant.
         are_unless (other_shape table.schema new.schema) (appended t name new.rows table) (λ alike. are_appended name new.rows table is)))
 
-    are_after : (c : PlainCommand) → BringsTables c → Are (verdict t c)
+  are_by_first : (r : Result Tables Refusal) (cs : PlainCommands) → Are r → ((u : Tables) → AreTables u → Are (verdict_in_turn u cs)) → Are (elim r [ Err e ↦ Err e | Ok u ↦ verdict_in_turn u cs ])
+  are_by_first (Err e) cs is others = tt
+  are_by_first (Ok u) cs is others = others u is
+
+  mutual
     unfolding verdict
-    are_after (create name schema) brings = are_made name (empty_table schema) (empty_is schema brings)
-    are_after (import_stream name bytes) brings =
+
+    are_after : (t : Tables) (c : PlainCommand) → AreTables t → BringsTables c → Are (verdict t c)
+    are_after t (create name schema) are brings = are_made t are name (empty_table schema) (empty_is schema brings)
+    are_after t (import_stream name bytes) are brings =
         are_unless (first_some (bad_name name ∷ too_many_bytes bytes ∷ [])) (of_meaning (meaning supported_codes bytes) (put t name)) (λ passed.
         are_of_meaning (meaning supported_codes bytes) (put t name) (λ new meant.
         are_unless (too_many_tables t name) (Ok (with_table t name new)) (λ room. with_one t name new are (means bytes new brings meant))))
-    are_after (append_stream name bytes) brings = are_of_table (table_at t name) (appended_stream t name bytes) (λ table found. are_appended_stream name bytes table (are name table found))
-    are_after (append_rows name rows) brings = are_of_table (table_at t name) (appended t name rows) (λ table found. are_appended name rows table (are name table found))
-    are_after (save_as from to query) brings =
-        are_of_table (table_at t from) (saved t to query) (λ table found. are_of_query (selection table query) (made t to) (λ new made_is. are_made to new (selects table query new (are from table found) made_is)))
-    are_after (rename from to) brings =
+    are_after t (append_stream name bytes) are brings =
+        are_of_table (table_at t name) (appended_stream t name bytes) (λ table found. are_appended_stream t are name bytes table (are name table found))
+    are_after t (append_rows name rows) are brings = are_of_table (table_at t name) (appended t name rows) (λ table found. are_appended t are name rows table (are name table found))
+    are_after t (save_as from to query) are brings =
+        are_of_table (table_at t from) (saved t to query) (λ table found.
+        are_of_query (selection table query) (made t to) (λ new made_is. are_made t are to new (selects table query new (are from table found) made_is)))
+    are_after t (rename from to) are brings =
         are_of_table (table_at t from) (renamed t from to) (λ table found.
         are_unless (first_some (bad_name to ∷ name_taken t to ∷ [])) (Ok (with_table (without_table t from) to table)) (λ free. with_one (without_table t from) to table (without_one t from are) (are from table found)))
-    are_after (drop_table name) brings = are_of_table (table_at t name) (λ table. Ok (without_table t name)) (λ table found. without_one t name are)
+    are_after t (drop_table name) are brings = are_of_table (table_at t name) (λ table. Ok (without_table t name)) (λ table found. without_one t name are)
+    are_after t (all_of cs) are brings = are_in_turn t cs are brings
 
-    by_answer : (r : Result Tables Refusal) → Are r → AreTables (after_verdict t r)
-    by_answer (Ok new) is = is
-    by_answer (Err refusal) is = are
+    are_in_turn : (t : Tables) (cs : PlainCommands) → AreTables t → EachBringsTables cs → Are (verdict_in_turn t cs)
+    are_in_turn t no_command are bring = are
+    are_in_turn t (and_command c cs) are bring = are_by_first (verdict t c) cs (are_after t c are bring.0) (λ u is. are_in_turn u cs is bring.1)
 
-    pub stay : (c : PlainCommand) → BringsTables c → AreTables (step t c)
-    stay c brings = by_answer (verdict t c) (are_after c brings)
+  by_answer : (t : Tables) → AreTables t → (r : Result Tables Refusal) → Are r → AreTables (after_verdict t r)
+  by_answer t are (Ok new) is = is
+  by_answer t are (Err refusal) is = are
+
+  pub stay : (t : Tables) → AreTables t → (c : PlainCommand) → BringsTables c → AreTables (step t c)
+  stay t are c brings = by_answer t are (verdict t c) (are_after t c are brings)
 
   pub all_stay : (t : Tables) (cs : List PlainCommand) → AreTables t → BringTables cs → AreTables (after t cs)
   unfolding after
   all_stay t [] are bring = are
   all_stay t (c ∷ cs) are bring = all_stay (step t c) cs (stay t are c bring.0) bring.1
+
+-- one command more
+pub each_more : (cs : List PlainCommand) (c : PlainCommand) → EachBringsTables (commands_of cs) → BringsTables c → EachBringsTables (commands_of (cs ++ c ∷ []))
+each_more [] c each own = (own, tt)
+each_more (d ∷ ds) c each own = (each.0, each_more ds c each.1 own)

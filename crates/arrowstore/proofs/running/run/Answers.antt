@@ -1,7 +1,7 @@
 use Rattle.std.proofs.Common.{◌∙◌, inl, inr, sym, true≢false}
 use Rattle.arrowstore.proofs.CommandLemmas.{not_done}
-use Rattle.arrowstore.proofs.EndLemmas.{own_given, own_reported, text_hints, text_may_hint, memory_recodes}
-use Rattle.arrowstore.proofs.WordLemmas.{recode_is_not_own}
+use Rattle.arrowstore.proofs.EndLemmas.{own_given, own_reported, text_given, text_hints, text_may_hint, memory_recodes}
+use Rattle.arrowstore.proofs.WordLemmas.{help_of_topic_asks, recode_asks_no_topic, recode_is_not_own}
 use Rattle.arrowstore.proofs.running.run.Goals as goal
 
 pub returns-in-Err-clause-done : goal.returns-in-Err-clause-done
@@ -46,3 +46,25 @@ returns-in-Err-clause-helps g c = λ done. inr (inr (c.report_arguments.ensures.
 
 pub returns-then-is_own-clause-helps : goal.returns-then-is_own-clause-helps
 returns-then-is_own-clause-helps g c = λ _. inr (inl (sym c.is_own.ensures ∙ c.if-is_own.true))
+
+pub returns-then-asks_code-clause-done : goal.returns-then-asks_code-clause-done
+returns-then-asks_code-clause-done g c = λ _. inr (inl (help_of_topic_asks _ (c.asks_code.ensures c.if-asks_code.true)))
+
+pub returns-then-asks_code-clause-recodes : goal.returns-then-asks_code-clause-recodes
+returns-then-asks_code-clause-recodes g c = λ are. absurd (true≢false (sym (c.asks_code.ensures c.if-asks_code.true) ∙ recode_asks_no_topic _ are))
+
+pub returns-then-asks_code-clause-own : goal.returns-then-asks_code-clause-own
+returns-then-asks_code-clause-own g c = λ own. absurd (true≢false (sym own ∙ (sym c.is_own.ensures ∙ c.if-is_own.false)))
+
+pub returns-then-asks_code-clause-wrong_arguments : goal.returns-then-asks_code-clause-wrong_arguments
+returns-then-asks_code-clause-wrong_arguments g c = inl (inr (inl (help_of_topic_asks _ (c.asks_code.ensures c.if-asks_code.true))))
+
+pub returns-then-asks_code-clause-helps : goal.returns-then-asks_code-clause-helps
+returns-then-asks_code-clause-helps g c = λ done.
+    inr (inr (text_given c.write_entry_asked-written.result c.end_text-then-asks_code.result.status _ c.write_entry_asked-written.ensures.written c.end_text-then-asks_code.ensures.refused done))
+
+pub returns-then-asks_code-clause-reports : goal.returns-then-asks_code-clause-reports
+returns-then-asks_code-clause-reports g c =
+    let line = c.end_text-then-asks_code.ensures.line in
+    own_reported _ g.E.Write.contents _ line.0 _ _ _ _ c.write_entry_asked-written.result c.end_text-then-asks_code.result c.end_text-then-asks_code.ensures.done c.end_text-then-asks_code.ensures.refused
+    c.write_entry_asked-written.ensures.silent (text_hints _ line.0 c.write_entry_asked-written.result line.1) line.2

@@ -1,4 +1,11 @@
-use Rattle.std.proofs.Common.{ap}
+use Rattle.std.specs.Prelude.{◌≡◌, ℕ, List, Option, Result, refl}
+use Rattle.std.proofs.Common.{ap, sym, subst}
+use Rattle.sector_dev.specs.declared.device.SectorDevice.{Ghosts}
+use Rattle.cli_refusals.specs.declared.refusal.Refusal.{Refusal}
+use Rattle.cli_requests.specs.declared.replaying.ReplayWords.{ReplayWords}
+use Rattle.cli_requests.specs.declared.store_words.StoreRequest.{StoreRequest}
+use Rattle.arrowstore.specs.OnFiles.{ServesRequest}
+use Rattle.arrowstore.specs.Serving.{Channels}
 use Rattle.cli_requests.specs.Asked.{request_word}
 use Rattle.arrowstore.proofs.FileLemmas.{silent_but_io, silent_but_broken_off}
 use Rattle.arrowstore.proofs.serving.serve.Goals as goal
@@ -17,3 +24,24 @@ returns-in-Replay-clause-silent g c = silent_but_io _ _ _ c.serve_replay.result 
 
 pub returns-in-Command-clause-silent : goal.returns-in-Command-clause-silent
 returns-in-Command-clause-silent g c = silent_but_io _ _ _ c.serve_command.result c.serve_command.ensures.silent
+
+-- a request that has this form was served so
+served_as : {D R W : Type 0} (g : Ghosts D) (is_opened : D → Type 0) (remaining : R → Option (List ℕ)) (contents : W → Option (List ℕ))
+    (replays : ReplayWords → W → W → Result (Unit {0}) Refusal → Type 0) (before after : Channels R W) (left left' : List (ℕ × ℕ))
+    (result : Result (Unit {0}) Refusal) (form request : StoreRequest) → request ≡ form
+    → ServesRequest g is_opened remaining contents replays form before after left left' result
+    → ServesRequest g is_opened remaining contents replays request before after left left' result
+served_as g is_opened remaining contents replays before after left left' result form request is serves =
+    subst (λ (r : StoreRequest). ServesRequest g is_opened remaining contents replays r before after left left' result) (sym is) serves
+
+pub returns-in-Format-clause-serves : goal.returns-in-Format-clause-serves
+returns-in-Format-clause-serves g c = served_as _ _ _ _ _ _ _ _ _ _ _ _ c.in-Format.is (c.serve_format.ensures.formats, refl, refl)
+
+pub returns-in-Copy-clause-serves : goal.returns-in-Copy-clause-serves
+returns-in-Copy-clause-serves g c = served_as _ _ _ _ _ _ _ _ _ _ _ _ c.in-Copy.is (c.serve_copy.ensures.copies, refl, refl)
+
+pub returns-in-Salvage-clause-serves : goal.returns-in-Salvage-clause-serves
+returns-in-Salvage-clause-serves g c = served_as _ _ _ _ _ _ _ _ _ _ _ _ c.in-Salvage.is (c.serve_salvage.ensures.salvages, refl)
+
+pub returns-in-Command-clause-serves : goal.returns-in-Command-clause-serves
+returns-in-Command-clause-serves g c = served_as _ _ _ _ _ _ _ _ _ _ _ _ c.in-Command.is (c.serve_command.ensures.serves, refl)

@@ -10,8 +10,9 @@ returns-in-Some-clause-serves g c = let e = c.end_whole_or_partly.ensures in rec
   result = c.serve-done.result;
   serves = rw c.new-left_out.ensures.items at c.serve-done.ensures.serves;
   ends = rw (← c.deref.ensures.value) e.ends;
-  hint = Some c.in-Some.hint;
-  hints = c.in-Some.ensures;
+  known = c.known_of-known.result;
+  changing = c.known_of-known.ensures.changes;
+  hints = rw c.known_of-known.ensures.hint c.in-Some.ensures;
   told = rw (← c.deref.ensures.value, ← c.audience_after_output-audience.ensures) (has_reported _ _ _ _ _ _ _ _ _ c.serve-done.result c.end_whole_or_partly.result e.ends c.serve-done.ensures.silent e.silent e.lines e.line);
 }
 
@@ -22,7 +23,8 @@ returns-clause-serves g c = let e = c.end_of_request.ensures in record {
   result = c.serve-done.result;
   serves = rw c.new-left_out.ensures.items at c.serve-done.ensures.serves;
   ends = rw (← c.deref-in-None.ensures.value) e.ends;
-  hint = e.line.0;
-  hints = e.line.1 ∙ c.in-None.ensures;
-  told = rw (← c.deref-in-None.ensures.value, ← c.audience_after_output-audience.ensures) (has_reported _ _ _ _ _ _ _ _ _ c.serve-done.result c.end_of_request.result e.ends c.serve-done.ensures.silent e.silent e.lines e.line.2);
+  known = e.line.0;
+  changing = e.line.1;
+  hints = e.line.2 ∙ c.in-None.ensures;
+  told = rw (← c.deref-in-None.ensures.value, ← c.audience_after_output-audience.ensures) (has_reported _ _ _ _ _ _ _ _ _ c.serve-done.result c.end_of_request.result e.ends c.serve-done.ensures.silent e.silent e.lines e.line.3);
 }

@@ -35,7 +35,7 @@ pub returns-in_err-command-clause-hint : goal.returns-in_err-command-clause-hint
 returns-in_err-command-clause-hint g c =
     let p = err_from_is_err_and c.from_residual-in_err-command.result c.from_residual-in_err-command.ensures.1 in
     rw (p.1, p.2)
-    (input_hints _ _ _ (schema_of c.in_ok-schema.schema) c.in_ok-text.text.items c.in_err-command.field-0.0 _ c.in_ok-schema.ensures.found.1
+    (input_hints c.refused_parts_are_causes.ensures.place _ _ _ (schema_of c.in_ok-schema.schema) c.in_ok-text.text.items c.in_err-command.field-0.0 _ c.in_ok-schema.ensures.found.1
     (whole_input _ c.in_ok-text.text c.in_ok-text.ensures.all c.in_ok-text.ensures.within) c.in_err-command.ensures.refused c.in_err-command.ensures.hint)
 
 pub returns-in_err-command-clause-refused : goal.returns-in_err-command-clause-refused

@@ -6,7 +6,7 @@ use Rattle.cli_replay.specs.declared.script.ScriptLine.{ScriptLine}
 use Rattle.cli_replay.specs.Plain.{plain_lines}
 use Rattle.cli_replay.specs.Replay.{AreCallsOfLines}
 use Rattle.cli_replay.specs.Script.{IsScript}
-use Rattle.cli_replay.proofs.Opening.{playing_refused}
+use Rattle.cli_replay.proofs.Opening.{playing_refused, reading_refused, script_unread}
 use Rattle.cli_replay.proofs.replaying.replay.Goals as goal
 
 pub returns-in_err-text-clause-told : goal.returns-in_err-text-clause-told
@@ -14,6 +14,16 @@ returns-in_err-text-clause-told g c =
     let p = err_from_is_err_and c.from_residual-in_err-text.result c.from_residual-in_err-text.ensures.1 in
     let device = c.in_ok-device.ensures in
     rw (p.1, p.2) (playing_refused g.F.Read.remaining c.args.sectors _ device.in_limits (c.in_err-text.ensures.told c.args.sectors c.args.version device.empty))
+
+pub returns-in_err-script-clause-told : goal.returns-in_err-script-clause-told
+returns-in_err-script-clause-told g c =
+    let p = err_from_is_err_and c.from_residual-in_err-script.result c.from_residual-in_err-script.ensures.1 in
+    rw (p.1, p.2) (script_unread g.F.Read.remaining c.args.sectors _ c.in_ok-device.ensures.in_limits c.in_err-script.ensures.told)
+
+pub returns-in_err-calls-clause-told : goal.returns-in_err-calls-clause-told
+returns-in_err-calls-clause-told g c =
+    let p = err_from_is_err_and c.from_residual-in_err-calls.result c.from_residual-in_err-calls.ensures.1 in
+    rw (p.1, p.2) (reading_refused g.F.Read.remaining c.args.sectors _ c.in_ok-device.ensures.in_limits c.in_err-calls.ensures.told)
 
 pub returns-clause-replays : goal.returns-clause-replays
 returns-clause-replays g c =

@@ -1,6 +1,7 @@
 use Rattle.std.proofs.lemmas.Result.{err_from_is_err_and}
-use Rattle.std.proofs.Common.{◌∙◌, ap, sym, refl, subst, arith, ℕ, Err}
-use Rattle.sector_dev.specs.Disk.{now, Counts}
+use Rattle.std.proofs.Common.{◌∙◌, ap, sym, refl, inl, inr, subst, arith, ℕ, List, Some, Err}
+use Rattle.sector_dev.specs.Disk.{now, Counts, Puts, FailsToPut}
+use Rattle.sector_dev.specs.laws.Rows.{on_err}
 use Rattle.sector_dev.specs.Time.{LeavesOnly}
 use Rattle.sector_dev.specs.laws.Time.{goes_on, now_has, passed, two}
 use Rattle.commit.specs.Sector.{commit_text}
@@ -68,3 +69,25 @@ returns-clause-size g c = c.sync.ensures.size ∙ c.write.ensures.size
 
 pub returns-clause-count : goal.returns-clause-count
 returns-clause-count g c = c.in_ok-sync.ensures.count ∙ c.in_ok-write.ensures.count
+
+-- ---- the calls in order
+
+pub returns-in_err-write-clause-cut_short : goal.returns-in_err-write-clause-cut_short
+returns-in_err-write-clause-cut_short g c = on_err c.from_residual.result (λ told.
+    let D = g.D.SectorDevice in
+    let text = c.commit_sector-sector.ensures ∙ ap commit_text (c.first_commit-first.ensures ∙ ap (λ (n : ℕ). first_commit n c.args.version) c.sectors.ensures) in
+    inl (subst (λ (t : List ℕ). FailsToPut (D.story c.args.device.now) 1 t (D.story c.write.new.self)) text (c.in_err-write.ensures.err told)))
+
+pub returns-in_err-sync-clause-cut_short : goal.returns-in_err-sync-clause-cut_short
+returns-in_err-sync-clause-cut_short g c = on_err c.from_residual-in_err-sync.result (λ told.
+    let D = g.D.SectorDevice in
+    let text = c.commit_sector-sector.ensures ∙ ap commit_text (c.first_commit-first.ensures ∙ ap (λ (n : ℕ). first_commit n c.args.version) c.sectors.ensures) in
+    let put = subst (λ (t : List ℕ). Puts (D.story c.args.device.now) 1 t (Some t) (D.story c.write.new.self)) text (c.in_ok-write.ensures.ok told) in
+    inr (D.story c.write.new.self, put, inl (c.in_err-sync.ensures.err told)))
+
+pub returns-clause-order : goal.returns-clause-order
+returns-clause-order g c = λ told.
+    let D = g.D.SectorDevice in
+    let text = c.commit_sector-sector.ensures ∙ ap commit_text (c.first_commit-first.ensures ∙ ap (λ (n : ℕ). first_commit n c.args.version) c.sectors.ensures) in
+    let put = subst (λ (t : List ℕ). Puts (D.story c.args.device.now) 1 t (Some t) (D.story c.write.new.self)) text (c.in_ok-write.ensures.ok told) in
+    (D.story c.write.new.self, put, (D.story c.sync.new.self, c.in_ok-sync.ensures.ok told, refl))

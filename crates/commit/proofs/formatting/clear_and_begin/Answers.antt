@@ -1,9 +1,12 @@
 use Rattle.std.proofs.lemmas.Result.{err_from_is_err_and}
-use Rattle.std.proofs.Common.{◌∙◌, refl, inl, subst, ℕ, arith, Err}
+use Rattle.std.proofs.Common.{◌∙◌, refl, inl, inr, subst, ℕ, arith, Err}
 use Rattle.sector_dev.specs.Disk.{now, shown_image, Counts}
 use Rattle.sector_dev.specs.laws.Time.{passed}
 use Rattle.commit.specs.Formatting.{IsFormatting, IsFormatted}
+use Rattle.sector_dev.specs.laws.Rows.{on_err}
+use Rattle.commit.specs.InOrder.{AreDone, OneFails, clearing_calls, beginning_calls}
 use Rattle.commit.specs.inner.Prepared.{HasFirst}
+use Rattle.commit.proofs.Called.{done_on, fails_on, failed_before}
 use Rattle.commit.proofs.Formatted.{cleaned, cleared, cleared_and_begun, flushes_same, formatted_since, made_empty}
 use Rattle.commit.proofs.formatting.clear_and_begin.Goals as goal
 
@@ -86,3 +89,27 @@ returns-clause-size g c = c.begin.ensures.size ∙ c.prepare.ensures.size ∙ c.
 
 pub returns-clause-count : goal.returns-clause-count
 returns-clause-count g c = c.in_ok-begin.ensures.count ∙ c.in_ok-prepare.ensures.count ∙ c.in_ok-sync.ensures.count
+
+-- ---- the calls in order
+
+pub returns-in_err-sync-clause-cut_short : goal.returns-in_err-sync-clause-cut_short
+returns-in_err-sync-clause-cut_short g c = on_err c.from_residual.result (λ told. inl (c.in_err-sync.ensures.err told))
+
+pub returns-in_err-prepare-clause-cut_short : goal.returns-in_err-prepare-clause-cut_short
+returns-in_err-prepare-clause-cut_short g c = on_err c.from_residual-in_err-prepare.result (λ told.
+    let begins = beginning_calls (g.D.SectorDevice.size c.args.device.now) c.args.version in
+    inr (g.D.SectorDevice.story c.sync.new.self, c.in_ok-sync.ensures.ok told, failed_before clearing_calls begins _ _ (c.in_err-prepare.ensures.cut_short told)))
+
+pub returns-in_err-begin-clause-cut_short : goal.returns-in_err-begin-clause-cut_short
+returns-in_err-begin-clause-cut_short g c = on_err c.from_residual-in_err-begin.result (λ told.
+    let D = g.D.SectorDevice in
+    let begins = beginning_calls (D.size c.args.device.now) c.args.version in
+    let begun = subst (λ (n : ℕ). OneFails (beginning_calls n c.args.version) (D.story c.prepare.new.device) (D.story c.begin.new.device)) (c.prepare.ensures.size ∙ c.sync.ensures.size) (c.in_err-begin.ensures.cut_short told) in
+    inr (D.story c.sync.new.self, c.in_ok-sync.ensures.ok told, fails_on clearing_calls begins (D.story c.sync.new.self) (D.story c.prepare.new.device) (D.story c.begin.new.device) (c.in_ok-prepare.ensures.order told) begun))
+
+pub returns-clause-order : goal.returns-clause-order
+returns-clause-order g c = λ told.
+    let D = g.D.SectorDevice in
+    let begins = beginning_calls (D.size c.args.device.now) c.args.version in
+    let begun = subst (λ (n : ℕ). AreDone (beginning_calls n c.args.version) (D.story c.prepare.new.device) (D.story c.begin.new.device)) (c.prepare.ensures.size ∙ c.sync.ensures.size) (c.in_ok-begin.ensures.order told) in
+    (D.story c.sync.new.self, c.in_ok-sync.ensures.ok told, done_on clearing_calls begins (D.story c.sync.new.self) (D.story c.prepare.new.device) (D.story c.begin.new.device) (c.in_ok-prepare.ensures.order told) begun)

@@ -1,10 +1,11 @@
 use Rattle.std.specs.Prelude.{min}
-use Rattle.std.proofs.Common.{◌≡◌, ◌≢◌, ◌+◌, ◌-◌, ◌^◌, ◌∷◌, [], ◌∙◌, inl, inr, sym, ap, subst, arith, ℕ, Bool, true, false, Option, Some, None, is_some}
+use Rattle.std.proofs.Common.{◌≡◌, ◌≢◌, ◌+◌, ◌-◌, ◌^◌, ◌∷◌, [], ◌∙◌, inl, inr, refl, sym, ap, subst, arith, ℕ, Bool, true, false, Option, Some, None, is_some}
 use Rattle.std.proofs.lemmas.Bool.{false≢true}
 use Rattle.sector_dev.specs.Disk.{Disk, now, shown_image}
 use Rattle.sector_dev.specs.laws.Time.{weaken, now_read}
 use Rattle.commit.specs.declared.sector.Commit.{Commit}
 use Rattle.commit.specs.Formatting.{IsFormatted, IsMadeEmpty, first_commit}
+use Rattle.commit.specs.InOrder.{AreDone, OneFails, formatting_calls}
 use Rattle.commit.specs.Placing.{Uses}
 use Rattle.commit.proofs.Agreed.{made_agree}
 use Rattle.commit.proofs.Formatted.{read_first, still_none}
@@ -156,3 +157,20 @@ returns-then-sectors-lt-LEAST_SECTORS-clause-damaged g c = λ cause told.
     no_size (g.D.SectorDevice.size c.args.device.now) (λ is.
     let limits = within (g.D.SectorDevice.size c.args.device.now) is in
     elim c.then-sectors-lt-LEAST_SECTORS.either as (λ _. ⊥) [ inl low ↦ omega (arith, limits.0, c.sectors-sectors.ensures) | inr high ↦ omega (arith, limits.1, c.sectors-sectors.ensures) ])
+
+-- ---- the calls in order
+
+pub returns-in_default-clause-cut_short : goal.returns-in_default-clause-cut_short
+returns-in_default-clause-cut_short g c = λ _ told. record { read = _; reads = c.read_ruling.ensures.moments told; calls = inl refl }
+
+pub returns-in-Err-clause-cut_short : goal.returns-in-Err-clause-cut_short
+returns-in-Err-clause-cut_short g c = λ _ told.
+    let D = g.D.SectorDevice in
+    let failed = subst (λ (n : ℕ). OneFails (formatting_calls n c.args.version) (D.story c.read_ruling.new.device) (D.story c.clear_and_begin.new.device)) c.read_ruling.ensures.size (c.in-Err.ensures.cut_short told) in
+    record { read = _; reads = c.read_ruling.ensures.moments told; calls = inr failed }
+
+pub returns-in-Ok-clear_and_begin-clause-order : goal.returns-in-Ok-clear_and_begin-clause-order
+returns-in-Ok-clear_and_begin-clause-order g c = λ told.
+    let D = g.D.SectorDevice in
+    let done = subst (λ (n : ℕ). AreDone (formatting_calls n c.args.version) (D.story c.read_ruling.new.device) (D.story c.clear_and_begin.new.device)) c.read_ruling.ensures.size (c.in-Ok-clear_and_begin.ensures.order told) in
+    record { read = _; reads = c.read_ruling.ensures.moments told; calls = done }

@@ -1,6 +1,7 @@
 use Rattle.std.proofs.lemmas.Result.{err_from_is_err_and}
-use Rattle.std.proofs.Common.{◌≡◌, refl, None, replicate, arith, ◌<◌, ℕ, Err, subst, ◌∙◌}
-use Rattle.sector_dev.specs.Disk.{now, Counts}
+use Rattle.std.proofs.Common.{◌≡◌, refl, inl, inr, None, Some, replicate, arith, ◌<◌, ℕ, List, Err, subst, ◌∙◌}
+use Rattle.sector_dev.specs.Disk.{Story, now, Counts, Puts, FailsToPut}
+use Rattle.sector_dev.specs.laws.Rows.{on_err}
 use Rattle.sector_dev.specs.laws.Time.{goes_on, now_has, passed}
 use Rattle.commit.proofs.Formatted.{put_grows, failed_grows, flush_grows, zeros_keep, behind_keeps, prepared, puts_more, flushes_same, has_zeros}
 use Rattle.sector_dev.specs.History.{zeros}
@@ -94,3 +95,36 @@ returns-clause-size g c = c.sync.ensures.size ∙ c.write-2.ensures.size ∙ c.w
 
 pub returns-clause-count : goal.returns-clause-count
 returns-clause-count g c = c.in_ok-sync.ensures.count ∙ c.in_ok-write-2.ensures.count ∙ c.in_ok-write.ensures.count
+
+-- ---- the calls in order
+
+abbrev put_zeros : (old : Story) (n : ℕ) (new : Story) → Puts old n (replicate 512 0) (Some (replicate 512 0)) new → Puts old n zeros (Some zeros) new
+put_zeros old n new put = subst (λ (text : List ℕ). Puts old n text (Some text) new) is_zeros put
+
+abbrev failed_zeros : (old : Story) (n : ℕ) (new : Story) → FailsToPut old n (replicate 512 0) new → FailsToPut old n zeros new
+failed_zeros old n new failed = subst (λ (text : List ℕ). FailsToPut old n text new) is_zeros failed
+
+pub returns-in_err-write-clause-cut_short : goal.returns-in_err-write-clause-cut_short
+returns-in_err-write-clause-cut_short g c = on_err c.from_residual.result (λ told.
+    let D = g.D.SectorDevice in
+    inl (failed_zeros (D.story c.args.device.now) 0 (D.story c.write.new.self) (c.in_err-write.ensures.err told)))
+
+pub returns-in_err-write-2-clause-cut_short : goal.returns-in_err-write-2-clause-cut_short
+returns-in_err-write-2-clause-cut_short g c = on_err c.from_residual-in_err-write-2.result (λ told.
+    let D = g.D.SectorDevice in
+    let one = put_zeros (D.story c.args.device.now) 0 (D.story c.write.new.self) (c.in_ok-write.ensures.ok told) in
+    inr (D.story c.write.new.self, one, inl (failed_zeros (D.story c.write.new.self) 2 (D.story c.write-2.new.self) (c.in_err-write-2.ensures.err told))))
+
+pub returns-in_err-sync-clause-cut_short : goal.returns-in_err-sync-clause-cut_short
+returns-in_err-sync-clause-cut_short g c = on_err c.from_residual-in_err-sync.result (λ told.
+    let D = g.D.SectorDevice in
+    let one = put_zeros (D.story c.args.device.now) 0 (D.story c.write.new.self) (c.in_ok-write.ensures.ok told) in
+    let two = put_zeros (D.story c.write.new.self) 2 (D.story c.write-2.new.self) (c.in_ok-write-2.ensures.ok told) in
+    inr (D.story c.write.new.self, one, inr (D.story c.write-2.new.self, two, inl (c.in_err-sync.ensures.err told))))
+
+pub returns-clause-order : goal.returns-clause-order
+returns-clause-order g c = λ told.
+    let D = g.D.SectorDevice in
+    let one = put_zeros (D.story c.args.device.now) 0 (D.story c.write.new.self) (c.in_ok-write.ensures.ok told) in
+    let two = put_zeros (D.story c.write.new.self) 2 (D.story c.write-2.new.self) (c.in_ok-write-2.ensures.ok told) in
+    (D.story c.write.new.self, one, (D.story c.write-2.new.self, two, (D.story c.sync.new.self, c.in_ok-sync.ensures.ok told, refl)))

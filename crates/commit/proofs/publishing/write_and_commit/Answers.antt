@@ -1,9 +1,13 @@
-use Rattle.std.proofs.Common.{◌∙◌, ℕ, Err, refl, inl, subst, arith}
+use Rattle.std.proofs.Common.{◌∙◌, ◌%◌, ℕ, List, [], ◌∷◌, Some, Err, refl, inl, inr, subst, arith}
 use Rattle.std.proofs.lemmas.Result.{err_from_is_err_and}
-use Rattle.sector_dev.specs.Disk.{now, Counts}
+use Rattle.sector_dev.specs.Disk.{now, Counts, Puts, FailsToPut}
+use Rattle.sector_dev.specs.laws.Rows.{on_err}
 use Rattle.sector_dev.specs.laws.Time.{goes_on, now_has, weaken, passed}
 use Rattle.segments.specs.Pieces.{plain_pieces}
-use Rattle.segments.specs.Writing.{WritesOnly, runs_of}
+use Rattle.segments.specs.Writing.{WritesOnly, runs_of, piece_writes}
+use Rattle.commit.specs.declared.sector.Commit.{Commit}
+use Rattle.commit.specs.InOrder.{DeviceCall, sync, commit_written, all_written}
+use Rattle.commit.proofs.Called.{all_done, one_failed, done_on, fails_on, failed_before}
 use Rattle.commit.proofs.Texts.{found_in}
 use Rattle.commit.proofs.Moments.{while_written, run_done, put_done, put_failed, sync_done}
 use Rattle.commit.proofs.Told.{within}
@@ -124,3 +128,43 @@ returns-clause-size g c = c.sync-2.ensures.size ∙ c.write.ensures.size ∙ c.s
 
 pub returns-clause-count : goal.returns-clause-count
 returns-clause-count g c = c.in_ok-sync-2.ensures.count ∙ c.in_ok-write.ensures.count ∙ c.in_ok-sync.ensures.count ∙ c.in_ok-write_runs.ensures.count
+
+-- ---- the calls in order
+
+-- the calls after the pieces
+abbrev committing : Commit → List DeviceCall
+committing new = sync ∷ commit_written new ∷ sync ∷ []
+
+pub returns-in_err-write_runs-clause-cut_short : goal.returns-in_err-write_runs-clause-cut_short
+returns-in_err-write_runs-clause-cut_short g c = on_err c.from_residual.result (λ told.
+    let ws = piece_writes (plain_pieces c.args.pieces.now) in
+    failed_before (all_written ws) (committing c.args.new) _ _ (one_failed ws _ _ (c.in_err-write_runs.ensures.cut_short told)))
+
+pub returns-in_err-sync-clause-cut_short : goal.returns-in_err-sync-clause-cut_short
+returns-in_err-sync-clause-cut_short g c = on_err c.from_residual-in_err-sync.result (λ told.
+    let ws = piece_writes (plain_pieces c.args.pieces.now) in
+    fails_on (all_written ws) (committing c.args.new) _ _ _ (all_done ws _ _ (c.in_ok-write_runs.ensures.order told)) (inl (c.in_err-sync.ensures.err told)))
+
+pub returns-in_err-write-clause-cut_short : goal.returns-in_err-write-clause-cut_short
+returns-in_err-write-clause-cut_short g c = on_err c.from_residual-in_err-write.result (λ told.
+    let D = g.D.SectorDevice in
+    let ws = piece_writes (plain_pieces c.args.pieces.now) in
+    let failed = subst (λ (text : List ℕ). FailsToPut (D.story c.sync.new.self) (c.args.new.epoch % 2) text (D.story c.write.new.self)) c.commit_sector-sector.ensures (c.in_err-write.ensures.err told) in
+    fails_on (all_written ws) (committing c.args.new) _ _ _ (all_done ws _ _ (c.in_ok-write_runs.ensures.order told))
+    (inr (D.story c.sync.new.self, c.in_ok-sync.ensures.ok told, inl failed)))
+
+pub returns-in_err-sync-2-clause-cut_short : goal.returns-in_err-sync-2-clause-cut_short
+returns-in_err-sync-2-clause-cut_short g c = on_err c.from_residual-in_err-sync-2.result (λ told.
+    let D = g.D.SectorDevice in
+    let ws = piece_writes (plain_pieces c.args.pieces.now) in
+    let put = subst (λ (text : List ℕ). Puts (D.story c.sync.new.self) (c.args.new.epoch % 2) text (Some text) (D.story c.write.new.self)) c.commit_sector-sector.ensures (c.in_ok-write.ensures.ok told) in
+    fails_on (all_written ws) (committing c.args.new) _ _ _ (all_done ws _ _ (c.in_ok-write_runs.ensures.order told))
+    (inr (D.story c.sync.new.self, c.in_ok-sync.ensures.ok told, inr (D.story c.write.new.self, put, inl (c.in_err-sync-2.ensures.err told)))))
+
+pub returns-clause-order : goal.returns-clause-order
+returns-clause-order g c = λ told.
+    let D = g.D.SectorDevice in
+    let ws = piece_writes (plain_pieces c.args.pieces.now) in
+    let put = subst (λ (text : List ℕ). Puts (D.story c.sync.new.self) (c.args.new.epoch % 2) text (Some text) (D.story c.write.new.self)) c.commit_sector-sector.ensures (c.in_ok-write.ensures.ok told) in
+    done_on (all_written ws) (committing c.args.new) _ _ _ (all_done ws _ _ (c.in_ok-write_runs.ensures.order told))
+    (D.story c.sync.new.self, c.in_ok-sync.ensures.ok told, (D.story c.write.new.self, put, (D.story c.sync-2.new.self, c.in_ok-sync-2.ensures.ok told, refl)))

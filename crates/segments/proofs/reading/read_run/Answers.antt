@@ -7,7 +7,7 @@ use Rattle.sector_dev.specs.Disk.{Disk, now, shown_image}
 use Rattle.sector_dev.specs.laws.Time.{stays, only_read, read_on, now_read}
 use Rattle.segments.specs.laws.ReadBack.{none_at}
 use Rattle.segments.specs.Sectors.{sector_count}
-use Rattle.segments.proofs.Gathered.{counted, joined_more, gathered, told_unreadable, never_memory, read_counted, same_error, told_of, watched_length, ends_at}
+use Rattle.segments.proofs.Gathered.{counted, joined_more, gathered, told_unreadable, never_memory, read_counted, same_error, told_of, read_length, ends_at}
 use Rattle.segments.proofs.reading.read_run.Goals as goal
 
 memory_other : OutOfMemory ≡ Unreadable → ⊥
@@ -53,7 +53,7 @@ loop-i-preserved g c =
       size = c.read.ensures.size ∙ c.loop-i.invariant.size;
       failed = c.in_ok-read.ensures.count ∙ c.loop-i.invariant.failed;
       moments = λ told. read_on _ _ _ (c.loop-i.invariant.moments told) (only_read _ _ (c.read.ensures.story told));
-      begun = λ told. watched_length (length (D.story c.args.device.now)) c.loop-i.i (D.story c.loop-i.device) (D.story c.read.new.self) (c.loop-i.invariant.begun told) (c.in_ok-read.ensures.begun told);
+      begun = λ told. read_length (length (D.story c.args.device.now)) c.loop-i.i (D.story c.loop-i.device) (D.story c.read.new.self) (c.loop-i.invariant.begun told) (c.read.ensures.story told);
       len = c.extend_from_slice.ensures.len ∙ cond-true (is_ok c.extend_from_slice.result) _ _ took ∙ omega (arith, c.loop-i.invariant.len, c.read.array_long);
       room = omega (arith, c.loop-i.invariant.room, c.extend_from_slice.ensures.capacity);
       found = λ told.

@@ -1,47 +1,45 @@
-use Rattle.std.proofs.Common.{◌+◌, inr, subst, string_bytes}
+use Rattle.std.proofs.Common.{subst, string_bytes}
 use Rattle.sector_dev.specs.Disk.{now, shown_image}
 use Rattle.catalogue.specs.Entries.{plain_entry}
 use Rattle.catalogue.specs.laws.Kept.{entry_is}
 use Rattle.values.specs.TableView.{table_of}
 use Rattle.store_changes.specs.Appending.{added_to}
 use Rattle.store_changes.specs.Tests.{decision_of}
-use Rattle.store_changes.proofs.Appended.{weighed_both, heavy_alone, appended_behind}
+use Rattle.store_changes.proofs.Appended.{appended_unread}
 use Rattle.store_runs.specs.Calls.{refused}
-use Rattle.tables.specs.declared.refusal.Refusal.{Refusal}
-use Rattle.store_runs.specs.Reading.{Unreads}
-use Rattle.store_changes.specs.laws.Quiet.{passes_quiet, passes_told, unread_told}
-use Rattle.store_changes.specs.laws.ReadTables.{reads_ended, reads_quiet}
+use Rattle.store_changes.specs.laws.Quiet.{passes_quiet, passes_told}
+use Rattle.store_changes.specs.laws.ReadTables.{reads_ended, reads_none, reads_quiet}
 use Rattle.store_changes.proofs.appending.append_to_entry.Goals as goal
 
 pub pass_new-requires : goal.pass_new-requires
 pass_new-requires g c = (entry_is (plain_entry c.args.entry.now) c.requires.sound).schema
 
-pub returns-in-Some-clause-reads : goal.returns-in-Some-clause-reads
-returns-in-Some-clause-reads g c =
-    let D = g.D.SectorDevice in
-    reads_ended D.size D.story D.failed D.tells c.decide_extension.result c.args.device.now c.weigh_entry.new.device c.decide_extension.ensures.no_device c.in-Ok-weigh_entry.ensures.reads
+pub append_unread-requires : goal.append_unread-requires
+append_unread-requires g c = let passed = rw c.in-Ok-Some.field-0-is at c.in-Ok-Some.ensures.passed in record { table = passed.2 }
 
-pub returns-in-Some-clause-answers : goal.returns-in-Some-clause-answers
-returns-in-Some-clause-answers g c =
+pub returns-then-stays_light-clause-reads : goal.returns-then-stays_light-clause-reads
+returns-then-stays_light-clause-reads g c =
+    let D = g.D.SectorDevice in
+    reads_ended D.size D.story D.failed D.tells c.append_unread.result c.args.device.now c.args.device.now c.append_unread.ensures.no_device (reads_none D.size D.story D.failed D.tells c.args.device.now)
+
+pub returns-then-stays_light-clause-answers : goal.returns-then-stays_light-clause-answers
+returns-then-stays_light-clause-answers g c =
     let D = g.D.SectorDevice in
     let e = plain_entry c.args.entry.now in
-    let standing = c.in-Ok-weigh_entry.ensures.weight in
-    let rows = (table_of c.in-Some.field-0.table).rows in
-    let passed = rw c.in-Some.is at c.in-Ok.ensures.passed in
-    appended_behind D.tells (shown_image (now (D.story c.args.device.now))) (string_bytes c.args.name) e (added_to c.args.new e) rows standing.0 passed.0 standing.1
-    (decision_of c.decide_extension.result)
-    (c.in-Ok-weigh_entry.standing + c.in-Some.field-0.weight)
-    (weighed_both e standing.0 rows c.in-Ok-weigh_entry.standing c.in-Some.field-0.weight standing.1.schema standing.2 passed.1)
-    c.decide_extension.ensures.answers
+    let passed = rw c.in-Ok-Some.field-0-is at c.in-Ok-Some.ensures.passed in
+    let rows = (table_of c.in-Ok-Some.weighed.table).rows in
+    appended_unread D.tells (shown_image (now (D.story c.args.device.now))) (string_bytes c.args.name) e (added_to c.args.new e) rows (decision_of c.append_unread.result)
+    passed.0 (c.stays_light.ensures c.if-stays_light.true rows passed.1) c.append_unread.ensures.answers
 
-pub returns-in-None-clause-answers : goal.returns-in-None-clause-answers
-returns-in-None-clause-answers g c =
-    let D = g.D.SectorDevice in
-    let e = plain_entry c.args.entry.now in
-    let passed = rw c.in-None.is at c.in-Ok.ensures.passed in
-    let standing = c.in-Ok-weigh_entry.ensures.weight in
-    inr (inr (heavy_alone D.tells (shown_image (now (D.story c.args.device.now))) (string_bytes c.args.name) e (added_to c.args.new e) passed.0 standing.0 passed.1
-    standing.1 passed.2))
+pub returns-else-stays_light-clause-answers : goal.returns-else-stays_light-clause-answers
+returns-else-stays_light-clause-answers g c =
+    let passed = rw c.in-Ok-Some.field-0-is at c.in-Ok-Some.ensures.passed in
+    c.append_after_reading.ensures.answers (added_to c.args.new (plain_entry c.args.entry.now)) passed
+
+pub returns-in-Ok-None-clause-answers : goal.returns-in-Ok-None-clause-answers
+returns-in-Ok-None-clause-answers g c =
+    let passed = rw c.in-Ok-None.field-0-is at c.in-Ok-None.ensures.passed in
+    c.append_after_reading-in-Ok-None.ensures.answers (added_to c.args.new (plain_entry c.args.entry.now)) passed
 
 pub returns-in-Err-clause-reads : goal.returns-in-Err-clause-reads
 returns-in-Err-clause-reads g c =
@@ -55,27 +53,3 @@ returns-in-Err-clause-answers g c =
 
 pub returns-in-Err-clause-not_halted : goal.returns-in-Err-clause-not_halted
 returns-in-Err-clause-not_halted g c = (passes_quiet c.args.new (plain_entry c.args.entry.now) c.in-Err.refusal c.in-Err.ensures.refused).halted
-
-pub returns-in-Some-clause-ok : goal.returns-in-Some-clause-ok
-returns-in-Some-clause-ok g c = c.decide_extension.ensures.ok
-
-pub returns-in-Some-clause-not_halted : goal.returns-in-Some-clause-not_halted
-returns-in-Some-clause-not_halted g c = c.decide_extension.ensures.not_halted
-
-pub returns-in-None-clause-reads : goal.returns-in-None-clause-reads
-returns-in-None-clause-reads g c =
-    let reads = c.in-Ok-weigh_entry.ensures.reads in record { same = reads.same; moments = reads.moments; count = reads.count }
-
-pub returns-in-Err-weigh_entry-clause-reads : goal.returns-in-Err-weigh_entry-clause-reads
-returns-in-Err-weigh_entry-clause-reads g c = c.in-Err-weigh_entry.ensures.reads
-
-pub returns-in-Err-weigh_entry-clause-answers : goal.returns-in-Err-weigh_entry-clause-answers
-returns-in-Err-weigh_entry-clause-answers g c =
-    let D = g.D.SectorDevice in
-    let e = plain_entry c.args.entry.now in
-    unread_told D.tells (shown_image (now (D.story c.args.device.now))) (string_bytes c.args.name) e (added_to c.args.new e) c.in-Ok.passed c.in-Err-weigh_entry.refusal c.in-Ok.ensures.passed c.in-Err-weigh_entry.ensures.unread
-
-pub returns-in-Err-weigh_entry-clause-not_halted : goal.returns-in-Err-weigh_entry-clause-not_halted
-returns-in-Err-weigh_entry-clause-not_halted g c = λ is.
-    let D = g.D.SectorDevice in
-    subst (λ (r : Refusal). Unreads D.tells (shown_image (now (D.story c.args.device.now))) (plain_entry c.args.entry.now) r) is c.in-Err-weigh_entry.ensures.unread

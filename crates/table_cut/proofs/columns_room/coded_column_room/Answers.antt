@@ -37,17 +37,17 @@ returns-then-are_few c =
     let parts = length-append (take k own) (drop k own) in
     few_fit (index_of c.args.spec) c.in-Some.most (before ++ take k own) (sym c.entry_limit.ensures ∙ c.in-Some.is) (omega (arith, all, whole, parts, size, few, c.if-run-most.true)))
 
-pub returns-in_ok-entries-in-Some : goal.returns-in_ok-entries-in-Some
-returns-in_ok-entries-in-Some c =
+pub returns-in_ok-name_piece-in-Some : goal.returns-in_ok-name_piece-in-Some
+returns-in_ok-name_piece-in-Some c =
     let col : Column = column_of c.args.field.now in
     let index : Index = index_of c.args.spec in
     let most : ℕ = c.in-Some.most in
     let before : List Cell = flat_map (cells_at_place c.args.place col) c.args.piece.now in
     let own : List Cell = cells_at_place c.args.place col c.args.run in
-    let start : List Cell = named_cells c.in_ok-entries-in-Some.entries in
+    let start : List Cell = named_cells c.name_piece.new.entries in
     let new : List Cell = named_cells c.name_slots.new.entries in
     let cells = c.slots_at.ensures.cells col (and_parts (has_sound_array c.args.place col c.args.run) true c.requires.own.sound).0 in
     IfOk-weaker c.name_slots.result _ _
-    (λ n room. named_room index most before start new own n (sym c.entry_limit.ensures ∙ c.in-Some.is) c.in_ok-entries-in-Some.ensures
+    (λ n room. named_room index most before start new own n (sym c.entry_limit.ensures ∙ c.in-Some.is) c.in_ok-name_piece-in-Some.ensures
     (subst (λ (cs : List Cell). IsRoomFor most start new cs n) cells room))
     c.name_slots.ensures

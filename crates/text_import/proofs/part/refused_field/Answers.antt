@@ -18,7 +18,7 @@ loop-i-preserved c =
     let text : drop i (fields_of c.args.row.now) ≡ t ∷ drop (i + 1) (fields_of c.args.row.now) = rw c.record_field-text.ensures (drop_more (fields_of c.args.row.now) i [] (omega arith)) in
     let kept = rw (item, text) at c.loop-i.invariant in
     let cell : is_refused (field_cell c.args.null_text.now (column_of f) t) ≡ false = sym (c.in_ok-is_refused.ensures (field_cell c.args.null_text.now (column_of f) t) c.field_cell.ensures) ∙ c.if-branch.false in
-    sym (field_passed c.args.null_text.now (column_of f) (map column_of (drop (i + 1) c.args.fields.now)) t (drop (i + 1) (fields_of c.args.row.now)) cell) ∙ kept
+    sym (field_passed c.args.null_text.now i (column_of f) (map column_of (drop (i + 1) c.args.fields.now)) t (drop (i + 1) (fields_of c.args.row.now)) cell) ∙ kept
 
 pub returns-then-branch : goal.returns-then-branch
 returns-then-branch c =
@@ -30,10 +30,10 @@ returns-then-branch c =
     let kept = rw (item, text) at c.loop-i.invariant in
     let cell : is_refused (field_cell c.args.null_text.now (column_of f) t) ≡ true = sym (c.in_ok-is_refused.ensures (field_cell c.args.null_text.now (column_of f) t) c.field_cell.ensures) ∙ c.if-branch.true in
     ap Some c.in_ok-field_part.ensures
-    ∙ sym (field_named c.args.null_text.now (column_of f) (map column_of (drop (i + 1) c.args.fields.now)) t (drop (i + 1) (fields_of c.args.row.now)) cell)
+    ∙ sym (field_named c.args.null_text.now i (column_of f) (map column_of (drop (i + 1) c.args.fields.now)) t (drop (i + 1) (fields_of c.args.row.now)) cell)
     ∙ kept
 
 pub returns : goal.returns
 returns c =
     let none : drop c.loop-i.i c.args.fields.now ≡ [] = drop_all c.loop-i.i c.args.fields.now (omega arith) in
-    sym (no_field c.args.null_text.now (drop c.loop-i.i (fields_of c.args.row.now))) ∙ rw none at c.loop-i.invariant
+    sym (no_field c.args.null_text.now c.loop-i.i (drop c.loop-i.i (fields_of c.args.row.now))) ∙ rw none at c.loop-i.invariant

@@ -5,4 +5,4 @@ use Rattle.text_import.specs.Part.{refused_field}
 use Rattle.text_import.proofs.part.refused_field.Given as goal
 
 abbrev pub invariant-loop-i : goal.invariant-loop-i
-invariant-loop-i l = refused_field l.null_text (map column_of (drop l.i l.fields)) (drop l.i (fields_of l.row)) ≡ refused_field l.null_text (map column_of l.fields) (fields_of l.row)
+invariant-loop-i l = refused_field l.null_text l.i (map column_of (drop l.i l.fields)) (drop l.i (fields_of l.row)) ≡ refused_field l.null_text 0 (map column_of l.fields) (fields_of l.row)

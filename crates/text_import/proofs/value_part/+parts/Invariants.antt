@@ -10,8 +10,8 @@ invariant-items_part-loop-place l = items_part l.place (cell_part (column_of l.i
 
 abbrev pub invariant-part_by_place-loop-i : goal.invariant-part_by_place-loop-i
 invariant-part_by_place-loop-i l =
-    part_by_place l.before (columns_of (map column_of (drop l.i l.fields))) (items_view (drop l.i l.values)) ≡ part_by_place l.before (columns_of (map column_of l.fields)) (items_view l.values)
+    part_by_place l.before l.i (columns_of (map column_of (drop l.i l.fields))) (items_view (drop l.i l.values)) ≡ part_by_place l.before 0 (columns_of (map column_of l.fields)) (items_view l.values)
 
-abbrev pub invariant-part_by_name-loop-field : goal.invariant-part_by_name-loop-field
-invariant-part_by_name-loop-field l =
-    part_by_name l.before (columns_of (map column_of (drop l.field-index l.fields))) (members_view l.members.entries) ≡ part_by_name l.before (columns_of (map column_of l.fields)) (members_view l.members.entries)
+abbrev pub invariant-part_by_name-loop-i : goal.invariant-part_by_name-loop-i
+invariant-part_by_name-loop-i l =
+    part_by_name l.before l.i (columns_of (map column_of (drop l.i l.fields))) (members_view l.members.entries) ≡ part_by_name l.before 0 (columns_of (map column_of l.fields)) (members_view l.members.entries)

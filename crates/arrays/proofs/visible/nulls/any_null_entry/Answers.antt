@@ -1,23 +1,35 @@
-use Rattle.std.proofs.Common.{◌≡◌, ◌+◌, ◌-◌, ℕ, true, false, arith, ap, sym, ◌∙◌}
+use Rattle.std.specs.Prelude.{not, ◌||◌}
 use Rattle.std.specs.List.{list_any, range_with_len}
-use Rattle.arrays.proofs.Ranges.{any-here, any-later, any-end}
-use Rattle.arrays.specs.inner.VisibleSpans.{has_no_value}
+use Rattle.std.proofs.Common.{◌≡◌, ℕ, Bool, true, false, List, ap, sym, ◌∙◌}
+use Rattle.arrow_schema.specs.Column.{Kind}
+use Rattle.arrow_schema.specs.View.{index_of, kind_of}
+use Rattle.columns.specs.Array.{Array, dictionary_in}
+use Rattle.columns.specs.CellAt.{entries_of_kind, is_valid}
+use Rattle.columns.specs.View.{view_array}
+use Rattle.columns.specs.Visible.{is_null}
+use Rattle.arrays.proofs.EntryNulls.{no_values}
+use Rattle.arrays.proofs.VisibleSlots.{past}
 use Rattle.arrays.proofs.visible.nulls.any_null_entry.Goals as goal
 
-pub loop-i-init : goal.loop-i-init
-loop-i-init c =
-    let all : c.args.from + c.args.count - c.args.from ≡ c.args.count = omega arith in
-    ap (λ (n : ℕ). list_any (has_no_value c.args.spec c.args.data_type.now c.args.view) (range_with_len c.args.from n)) all
+pub returns-then-any_unset : goal.returns-then-any_unset
+returns-then-any_unset c =
+    let kind : Kind = kind_of c.args.data_type.now in
+    let a : Array = view_array c.args.view in
+    let slots : List ℕ = range_with_len c.args.from c.args.count in
+    let values : list_any is_null (entries_of_kind kind (dictionary_in a)) ≡ false = c.has_only_values.ensures c.if-has_only_values.true in
+    let unset : true ≡ list_any (λ i. not (is_valid a i)) slots = sym c.if-any_unset.true ∙ c.any_unset.ensures in
+    c.if-any_unset.true
+    ∙ ap (λ (b : Bool). b || list_any (past c.args.spec c.args.view kind) slots) unset
+    ∙ sym (no_values (index_of c.args.spec) kind a c.args.from c.args.count values)
 
-pub returns-then-is_entry_null : goal.returns-then-is_entry_null
-returns-then-is_entry_null c =
-    let here : has_no_value c.args.spec c.args.data_type.now c.args.view c.loop-i.i ≡ true = sym c.is_entry_null.ensures ∙ c.if-is_entry_null.true in
-    sym (any-here (has_no_value c.args.spec c.args.data_type.now c.args.view) c.loop-i.i (c.args.from + c.args.count) (omega arith) here) ∙ c.loop-i.invariant
-
-pub loop-i-preserved : goal.loop-i-preserved
-loop-i-preserved c =
-    let here : has_no_value c.args.spec c.args.data_type.now c.args.view c.loop-i.i ≡ false = sym c.is_entry_null.ensures ∙ c.if-is_entry_null.false in
-    any-later (has_no_value c.args.spec c.args.data_type.now c.args.view) c.loop-i.i (c.args.from + c.args.count) (omega arith) here ∙ c.loop-i.invariant
-
-pub returns : goal.returns
-returns c = sym (any-end (has_no_value c.args.spec c.args.data_type.now c.args.view) c.loop-i.i (c.args.from + c.args.count) (omega arith)) ∙ c.loop-i.invariant
+pub returns-else-any_unset : goal.returns-else-any_unset
+returns-else-any_unset c =
+    let kind : Kind = kind_of c.args.data_type.now in
+    let a : Array = view_array c.args.view in
+    let slots : List ℕ = range_with_len c.args.from c.args.count in
+    let values : list_any is_null (entries_of_kind kind (dictionary_in a)) ≡ false = c.has_only_values.ensures c.if-has_only_values.true in
+    let set : false ≡ list_any (λ i. not (is_valid a i)) slots = sym c.if-any_unset.false ∙ c.any_unset.ensures in
+    c.any_past.ensures kind
+    ∙ (λ j. list_any (past (c.new.ensures.spec j) (c.new.ensures.view j) kind) slots)
+    ∙ ap (λ (b : Bool). b || list_any (past c.args.spec c.args.view kind) slots) set
+    ∙ sym (no_values (index_of c.args.spec) kind a c.args.from c.args.count values)

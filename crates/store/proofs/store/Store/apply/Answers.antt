@@ -26,7 +26,7 @@ use Rattle.store_runs.specs.Deciding.{IsAnswered, reads_device}
 use Rattle.store_changes.specs.laws.Decided.{is_change}
 use Rattle.store.proofs.Asked.{is_running}
 use Rattle.store.proofs.ReadsStore.{shown, fits_reading}
-use Rattle.store.proofs.Applied.{change_verdict, refuses_first, refuses_halted, goes_after, tells_command, ends_after, kept_after, on_disk_after, decided_after, stood, writes_after, written_after, read_kept, read_halts}
+use Rattle.store.proofs.Applied.{single_command, change_verdict, refuses_first, refuses_halted, goes_after, tells_command, ends_after, kept_after, on_disk_after, decided_after, stood, writes_after, written_after, read_kept, read_halts}
 use Rattle.store.proofs.Goings.{carried_goes, command_writes, command_written}
 use Rattle.store.proofs.store.Store.apply.Goals as goal
 
@@ -53,7 +53,7 @@ returns-in-Ok-clause-goes g c = λ told base m fits.
     let image = shown_image (now (D.story old.device)) in
     let answers = subst (λ (b : Bool). IsAnswered b image (listed_in old) cmd (Ok (change_of c.in-Ok.change))) told c.in-Ok.ensures.answers in
     let decided = change_verdict t cmd (change_of c.in-Ok.change)
-    (c.decisions_are_verdicts.ensures.answered image (listed_in old) t cmd (Ok (change_of c.in-Ok.change)) (catalogue_is (listed_in old) old.opened.catalogue.list.kept) held c.commands_bring_tables.ensures answers) in
+    (c.decisions_are_verdicts.ensures.answered image (listed_in old) t cmd (Ok (change_of c.in-Ok.change)) (single_command c.args.command) (catalogue_is (listed_in old) old.opened.catalogue.list.kept) held c.commands_bring_tables.ensures answers) in
     let there = fits_reading D.size D.story D.failed base m D.tells told old mid fits done refl c.in-Ok.ensures.reads in
     goes_after D.size D.story D.failed base m cmd D.tells told old mid c.carry_out-ended.new.self done (ended c.carry_out-ended.result) refl fits c.in-Ok.ensures.reads
     (tells_command (setting_of (D.size old.device) base) (now (D.story old.device)) c.carry_out-ended.result) (
@@ -77,7 +77,7 @@ returns-in-Err-clause-goes g c = λ told base m fits.
     let held : tables_held image (listed_in old) ≡ Some t = ap (λ i. tables_held i (listed_in old)) (shown D.size D.story D.failed base m D.tells told old mid fits runs) ∙ sound.tables in
     let answers = subst (λ (b : Bool). IsAnswered b image (listed_in old) cmd (Err c.in-Err.refusal)) told c.in-Err.ensures.answers in
     refuses_first D.size D.story D.failed base m cmd D.tells told c.in-Err.refusal old mid c.if-self.false fits c.in-Err.ensures.reads
-    (c.decisions_are_verdicts.ensures.answered image (listed_in old) t cmd (Err c.in-Err.refusal) (catalogue_is (listed_in old) old.opened.catalogue.list.kept) held c.commands_bring_tables.ensures answers)
+    (c.decisions_are_verdicts.ensures.answered image (listed_in old) t cmd (Err c.in-Err.refusal) (single_command c.args.command) (catalogue_is (listed_in old) old.opened.catalogue.list.kept) held c.commands_bring_tables.ensures answers)
 
 pub returns-in-Ok-clause-applied : goal.returns-in-Ok-clause-applied
 returns-in-Ok-clause-applied g c = λ on.

@@ -21,7 +21,7 @@ returns-in-Create-clause-reads g c =
     let D = g.D.SectorDevice in
     let s = c.args.self.now in
     let image = shown_image (now (D.story s.device)) in
-    let quiet = answers_quiet D.tells image (listed_in s) (create (string_bytes c.in-Create.new.name) (schema_of c.in-Create.new.schema)) c.decide_create.result refl (c.decide_create.ensures.answers D.tells image) in
+    let quiet = answers_quiet D.tells image (listed_in s) (create (string_bytes c.in-Create.new.name) (schema_of c.in-Create.new.schema)) c.decide_create.result tt refl (c.decide_create.ensures.answers D.tells image) in
     reads_nothing D.size D.story D.failed D.tells (ended c.decide_create.result) s (ended_quiet c.decide_create.result (IfErr-weaker c.decide_create.result IsQuiet (λ e. is_failure e ≡ false) (λ e q. q.device) quiet))
 
 pub returns-in-Create-clause-ok : goal.returns-in-Create-clause-ok
@@ -33,7 +33,7 @@ returns-in-Create-clause-not_halted g c =
     let s = c.args.self.now in
     let image = shown_image (now (D.story s.device)) in
     IfErr-weaker c.decide_create.result IsQuiet (λ e. e ≢ refusals.Halted) (λ e q. q.halted)
-    (answers_quiet D.tells image (listed_in s) (create (string_bytes c.in-Create.new.name) (schema_of c.in-Create.new.schema)) c.decide_create.result refl (c.decide_create.ensures.answers D.tells image))
+    (answers_quiet D.tells image (listed_in s) (create (string_bytes c.in-Create.new.name) (schema_of c.in-Create.new.schema)) c.decide_create.result tt refl (c.decide_create.ensures.answers D.tells image))
 
 pub returns-in-Create-clause-answers : goal.returns-in-Create-clause-answers
 returns-in-Create-clause-answers g c =
@@ -46,7 +46,7 @@ returns-in-ImportStream-clause-reads g c =
     let D = g.D.SectorDevice in
     let s = c.args.self.now in
     let image = shown_image (now (D.story s.device)) in
-    let quiet = answers_quiet D.tells image (listed_in s) (import_stream (string_bytes c.in-ImportStream.name) c.in-ImportStream.bytes.items) c.decide_import.result refl (c.decide_import.ensures.answers D.tells image) in
+    let quiet = answers_quiet D.tells image (listed_in s) (import_stream (string_bytes c.in-ImportStream.name) c.in-ImportStream.bytes.items) c.decide_import.result tt refl (c.decide_import.ensures.answers D.tells image) in
     reads_nothing D.size D.story D.failed D.tells (ended c.decide_import.result) s (ended_quiet c.decide_import.result (IfErr-weaker c.decide_import.result IsQuiet (λ e. is_failure e ≡ false) (λ e q. q.device) quiet))
 
 pub returns-in-ImportStream-clause-ok : goal.returns-in-ImportStream-clause-ok
@@ -58,7 +58,7 @@ returns-in-ImportStream-clause-not_halted g c =
     let s = c.args.self.now in
     let image = shown_image (now (D.story s.device)) in
     IfErr-weaker c.decide_import.result IsQuiet (λ e. e ≢ refusals.Halted) (λ e q. q.halted)
-    (answers_quiet D.tells image (listed_in s) (import_stream (string_bytes c.in-ImportStream.name) c.in-ImportStream.bytes.items) c.decide_import.result refl (c.decide_import.ensures.answers D.tells image))
+    (answers_quiet D.tells image (listed_in s) (import_stream (string_bytes c.in-ImportStream.name) c.in-ImportStream.bytes.items) c.decide_import.result tt refl (c.decide_import.ensures.answers D.tells image))
 
 pub returns-in-ImportStream-clause-answers : goal.returns-in-ImportStream-clause-answers
 returns-in-ImportStream-clause-answers g c =
@@ -71,7 +71,7 @@ returns-in-Rename-clause-reads g c =
     let D = g.D.SectorDevice in
     let s = c.args.self.now in
     let image = shown_image (now (D.story s.device)) in
-    let quiet = answers_quiet D.tells image (listed_in s) (rename (string_bytes c.in-Rename.from) (string_bytes c.in-Rename.to)) c.decide_rename.result refl (c.decide_rename.ensures.answers D.tells image) in
+    let quiet = answers_quiet D.tells image (listed_in s) (rename (string_bytes c.in-Rename.from) (string_bytes c.in-Rename.to)) c.decide_rename.result tt refl (c.decide_rename.ensures.answers D.tells image) in
     reads_nothing D.size D.story D.failed D.tells (ended c.decide_rename.result) s (ended_quiet c.decide_rename.result (IfErr-weaker c.decide_rename.result IsQuiet (λ e. is_failure e ≡ false) (λ e q. q.device) quiet))
 
 pub returns-in-Rename-clause-ok : goal.returns-in-Rename-clause-ok
@@ -83,7 +83,7 @@ returns-in-Rename-clause-not_halted g c =
     let s = c.args.self.now in
     let image = shown_image (now (D.story s.device)) in
     IfErr-weaker c.decide_rename.result IsQuiet (λ e. e ≢ refusals.Halted) (λ e q. q.halted)
-    (answers_quiet D.tells image (listed_in s) (rename (string_bytes c.in-Rename.from) (string_bytes c.in-Rename.to)) c.decide_rename.result refl (c.decide_rename.ensures.answers D.tells image))
+    (answers_quiet D.tells image (listed_in s) (rename (string_bytes c.in-Rename.from) (string_bytes c.in-Rename.to)) c.decide_rename.result tt refl (c.decide_rename.ensures.answers D.tells image))
 
 pub returns-in-Rename-clause-answers : goal.returns-in-Rename-clause-answers
 returns-in-Rename-clause-answers g c =
@@ -96,7 +96,7 @@ returns-in-Drop-clause-reads g c =
     let D = g.D.SectorDevice in
     let s = c.args.self.now in
     let image = shown_image (now (D.story s.device)) in
-    let quiet = answers_quiet D.tells image (listed_in s) (drop_table (string_bytes c.in-Drop.name)) c.decide_drop.result refl (c.decide_drop.ensures.answers D.tells image) in
+    let quiet = answers_quiet D.tells image (listed_in s) (drop_table (string_bytes c.in-Drop.name)) c.decide_drop.result tt refl (c.decide_drop.ensures.answers D.tells image) in
     reads_nothing D.size D.story D.failed D.tells (ended c.decide_drop.result) s (ended_quiet c.decide_drop.result (IfErr-weaker c.decide_drop.result IsQuiet (λ e. is_failure e ≡ false) (λ e q. q.device) quiet))
 
 pub returns-in-Drop-clause-ok : goal.returns-in-Drop-clause-ok
@@ -108,7 +108,7 @@ returns-in-Drop-clause-not_halted g c =
     let s = c.args.self.now in
     let image = shown_image (now (D.story s.device)) in
     IfErr-weaker c.decide_drop.result IsQuiet (λ e. e ≢ refusals.Halted) (λ e q. q.halted)
-    (answers_quiet D.tells image (listed_in s) (drop_table (string_bytes c.in-Drop.name)) c.decide_drop.result refl (c.decide_drop.ensures.answers D.tells image))
+    (answers_quiet D.tells image (listed_in s) (drop_table (string_bytes c.in-Drop.name)) c.decide_drop.result tt refl (c.decide_drop.ensures.answers D.tells image))
 
 pub returns-in-Drop-clause-answers : goal.returns-in-Drop-clause-answers
 returns-in-Drop-clause-answers g c =

@@ -1,0 +1,9 @@
+pub mod Calendar
+pub mod View
+pub mod Text
+pub mod inner
+pub mod Time
+pub mod Unit
+pub mod FarYear
+pub mod TimeRead
+pub mod Read

@@ -1,0 +1,4 @@
+pub mod Form
+pub mod Far
+pub mod TimeForm
+pub mod Spans

@@ -1,0 +1,37 @@
+//! Dates of the proleptic Gregorian calendar, as day numbers from 1970-01-01 and as texts; times as numbers of units.
+//!
+//! [`date_of`] and [`day_of`] go from day numbers to dates and back, in any year. [`push_date`] and [`push_time`] append
+//! texts, and [`parse_date`] and [`near_time`] read them: a date in any year of at most twelve digits, a time of the years
+//! 0 to 9999. [`time_value`] is the number that a time is. No call loops over days or years.
+//!
+//! ```
+//! push_date(&mut text, 20_787)?;
+//! let day = parse_date(b"2026-11-30");
+//! ```
+//!
+//! appends `2026-11-30`, and `day` is 20,787.
+#![tactic(auto)]
+
+mod civil_date;
+mod clock;
+mod date;
+mod far;
+mod fraction;
+mod near;
+mod parse;
+mod print;
+mod read_time;
+mod time;
+mod unit;
+mod value;
+mod zone;
+
+pub use civil_date::CivilDate;
+pub use date::{date_of, day_of};
+pub use parse::parse_date;
+pub use print::push_date;
+pub use read_time::{ReadTime, near_time};
+pub use time::push_time;
+pub use unit::Unit;
+pub use value::time_value;
+pub use zone::Zone;

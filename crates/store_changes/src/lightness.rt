@@ -1,0 +1,45 @@
+// Whether a table stays light enough with new rows, by the catalogue alone: whatever its segments hold, they have no more bytes than it says.
+ghost use Rattle.std.specs.Prelude.{◌≡◌, true, List, sum_by, IfSome};
+ghost use Rattle.cells.specs.Cell.{Cell};
+ghost use Rattle.cells.specs.Weight.{table_weight};
+ghost use Rattle.catalogue.specs.Entries.{is_entry, plain_entry};
+ghost use Rattle.store_runs.specs.Deciding.{IsSurelyLight};
+
+use catalogue::{Segment, TableEntry};
+use ipc_write::schema_message_is_read_again;
+use weight_bounds::streams_weigh_at_most;
+
+// A table of so many bytes is read anyway: that takes a few milliseconds, and shows segments that are damaged.
+const FEW_BYTES: u64 = 1 << 20;
+
+// Returns how many rows and bytes some segments have together, if 64 bits can count them.
+fn sizes_of(segments: &[Segment]) -> Option<(u64, u64)>
+    ensures { IfSome result (λ sizes. (sizes.0 ≡ sum_by (λ g. g.rows) segments.now) × (sizes.1 ≡ sum_by (λ g. g.place.bytes) segments.now)) }
+{
+    let mut rows: u64 = 0;
+    let mut bytes: u64 = 0;
+    for segment in segments {
+        if u64::MAX - rows < segment.rows || u64::MAX - bytes < segment.place.bytes {
+            return None;
+        }
+        rows += segment.rows;
+        bytes += segment.place.bytes;
+    }
+    Some((rows, bytes))
+}
+
+/// Returns whether the table of an entry is surely light enough together with new rows of this weight. Reads nothing.
+pub(crate) fn stays_light(entry: &TableEntry, new: u64) -> bool
+    requires sound { is_entry (plain_entry entry.now) ≡ true }
+    ensures { result ≡ true → (rows : List (List Cell)) → new ≡ table_weight (plain_entry entry.now).schema rows
+        → IsSurelyLight (record { entry = plain_entry entry.now; rows = rows }) }
+{
+    streams_weigh_at_most();
+    schema_message_is_read_again();
+    match sizes_of(entry.segments()) {
+        Some((rows, bytes)) => {
+            bytes > FEW_BYTES && weight_bounds::stays_light(entry.schema(), rows, bytes, new)
+        }
+        None => false,
+    }
+}
