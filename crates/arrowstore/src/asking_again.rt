@@ -16,7 +16,7 @@ use cli_refusals::{FailedFile, Refusal, Side};
 use cli_requests::{StoreCommand, StoreRequest};
 use cli_texts::Audience;
 use commit::{Cause, OpeningRefusal};
-use sector_dev::{CachedFile, LockFile};
+use sector_dev::LockFile;
 use std::fs::OpenFile;
 use std::io::{self, Read, Seek, Write};
 use std::rt::Files;
@@ -70,7 +70,7 @@ fn query_of<'a>(request: &StoreRequest<'a>) -> Option<(&'a str, &'a str)> {
 
 // Returns `None` if the store can't be opened again: another program may have locked it by now.
 fn queried_table<
-    F: Read + Write + Seek + OpenFile + LockFile + CachedFile + Drop,
+    F: Read + Write + Seek + OpenFile + LockFile + Drop,
     H: Files<File = F> + AllocGlobal,
 >(rt: &H, request: &StoreRequest<'_>) -> Option<Table> {
     let (path, name) = query_of(request)?;
@@ -82,10 +82,10 @@ fn queried_table<
 }
 
 // Returns the tables of the store that a request opens.
-fn tables_of<
-    F: Read + Write + Seek + OpenFile + LockFile + CachedFile + Drop,
-    H: Files<File = F> + AllocGlobal,
->(rt: &H, request: &StoreRequest<'_>) -> Option<Vec<(String, u64)>> {
+fn tables_of<F: Read + Write + Seek + OpenFile + LockFile + Drop, H: Files<File = F> + AllocGlobal>(
+    rt: &H,
+    request: &StoreRequest<'_>,
+) -> Option<Vec<(String, u64)>> {
     let store = open_to_read(rt, store_of(request)?).ok()?;
     store.tables(rt.alloc()).ok()
 }
@@ -101,10 +101,7 @@ fn found_of_size<F: Read + Seek + OpenFile + Drop, H: Files<File = F> + AllocGlo
     }
 }
 
-fn found_of<
-    F: Read + Write + Seek + OpenFile + LockFile + CachedFile + Drop,
-    H: Files<File = F> + AllocGlobal,
->(
+fn found_of<F: Read + Write + Seek + OpenFile + LockFile + Drop, H: Files<File = F> + AllocGlobal>(
     rt: &H,
     request: &StoreRequest<'_>,
     served: Served<'_>,
@@ -159,7 +156,7 @@ fn found_of<
 
 /// Looks for what a hint can name, if a person reads why the request was refused. `failure` is how the last system call on a file failed, if it did.
 pub(crate) fn ask_again<
-    F: Read + Write + Seek + OpenFile + LockFile + CachedFile + Drop,
+    F: Read + Write + Seek + OpenFile + LockFile + Drop,
     H: Files<File = F> + AllocGlobal,
 >(
     rt: &H,

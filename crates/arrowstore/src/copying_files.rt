@@ -6,7 +6,7 @@ ghost use Rattle.arrowstore.specs.OnFiles.{IsOpenedFile, OpensStore, FailsToOpen
 use crate::serving::{device_to_read, format_new, remove_on_error, reserve_standard_descriptors};
 use cli_commands::copy_tables;
 use cli_refusals::{Refusal, Side, write_whole};
-use sector_dev::{CachedFile, FileDevice, LockFile, SectorDevice, SystemFile};
+use sector_dev::{FileDevice, LockFile, SectorDevice, SystemFile};
 use std::alloc::Global;
 use std::fs::{OpenFile, OpenOptions};
 use std::io::{Read, Seek, Write};
@@ -15,7 +15,7 @@ use store::Store;
 
 /// Opens the store in a file for reading.
 pub(crate) fn open_to_read<
-    F: Read + Write + Seek + OpenFile + LockFile + CachedFile + Drop,
+    F: Read + Write + Seek + OpenFile + LockFile + Drop,
     H: Files<File = F> + AllocGlobal,
 >(rt: &H, path: &str) -> Result<Store<FileDevice<SystemFile<F>>>, Refusal>
     ensures opened { IfOk result (OpensStore ⟦<FileDevice<SystemFile<F>> as SectorDevice>⟧ IsOpenedFile) }
@@ -62,7 +62,7 @@ fn mark_finished<F: OpenFile>(file: &F, sectors: u64) -> Result<(), Refusal>
 
 // Copies all tables into a store of the same version in a new file. On an error the file is removed, unless the system refuses that too.
 fn copy_into_file<
-    F: Read + Write + Seek + OpenFile + LockFile + CachedFile + Drop,
+    F: Read + Write + Seek + OpenFile + LockFile + Drop,
     H: Files<File = F> + AllocGlobal,
 >(
     rt: &H,
@@ -86,7 +86,7 @@ fn copy_into_file<
 /// Copies all tables of a store into a new file with `sectors` sectors of 512 bytes, in a store of the same version, and writes `ok`. An unfinished
 /// copy is never opened as a store.
 pub(crate) fn serve_copy<
-    F: Read + Write + Seek + OpenFile + LockFile + CachedFile + Drop,
+    F: Read + Write + Seek + OpenFile + LockFile + Drop,
     H: Files<File = F> + AllocGlobal,
     W: Write,
 >(rt: &H, path: &str, new: &str, sectors: u64, output: &mut W) -> Result<(), Refusal>

@@ -10,7 +10,7 @@ use field_texts::field_text;
 use ipc_message::{
     Fault, Header, ImportError, NextMessage, RawField, RawSchema, read_message, read_schema,
 };
-use sector_dev::{CachedFile, LockFile};
+use sector_dev::LockFile;
 use std::alloc::Global;
 use std::fs::OpenFile;
 use std::io::{Read, Seek, Write};
@@ -146,7 +146,7 @@ fn appended_to<'a>(request: &StoreRequest<'a>) -> Option<(&'a str, &'a str)> {
 
 /// Returns the first field of the stream that differs from the table's field in its place, or else the two counts if they differ.
 pub(crate) fn field_of_no_table<
-    F: Read + Write + Seek + OpenFile + LockFile + CachedFile + Drop,
+    F: Read + Write + Seek + OpenFile + LockFile + Drop,
     H: Files<File = F> + AllocGlobal,
 >(rt: &H, request: &StoreRequest<'_>, start: &[u8]) -> Option<FoundField> {
     let (path, name) = appended_to(request)?;

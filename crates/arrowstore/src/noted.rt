@@ -1,7 +1,7 @@
 // A wrapper of files that notes how the last system call on one failed.
 ghost use Rattle.std.specs.Prelude.{◌≡◌};
 
-use sector_dev::{CachedFile, LockFile};
+use sector_dev::LockFile;
 use std::alloc::Global;
 use std::cell::Cell;
 use std::fs::{Metadata, OpenFile};
@@ -199,12 +199,5 @@ impl<F: LockFile> LockFile for NotedFile<'_, F> {
         let locked = self.file.lock_to_read();
         self.note(FileCall::Lock, &locked);
         locked
-    }
-}
-
-// Dropping copies can't fail, so nothing is noted.
-impl<F: CachedFile> CachedFile for NotedFile<'_, F> {
-    fn drop_copies(&self, offset: u64, length: u64) {
-        self.file.drop_copies(offset, length);
     }
 }

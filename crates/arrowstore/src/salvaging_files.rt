@@ -8,7 +8,7 @@ use crate::copying_files::open_to_read;
 use crate::serving::reserve_standard_descriptors;
 use cli_commands::salvage_table;
 use cli_refusals::Refusal;
-use sector_dev::{CachedFile, FileDevice, LockFile, SectorDevice, SystemFile};
+use sector_dev::{FileDevice, LockFile, SectorDevice, SystemFile};
 use std::fs::OpenFile;
 use std::io::{Read, Seek, Write};
 use std::rt::Files;
@@ -16,7 +16,7 @@ use store::LeftOut;
 
 /// Writes the stream of all rows of a table that can be read. On success `left_out` holds the segments that can't be read.
 pub(crate) fn serve_salvage<
-    F: Read + Write + Seek + OpenFile + LockFile + CachedFile + Drop,
+    F: Read + Write + Seek + OpenFile + LockFile + Drop,
     H: Files<File = F> + AllocGlobal,
     W: Write,
 >(

@@ -16,9 +16,7 @@ use crate::serving_device::serve_device;
 use cli_refusals::{Hinted, Refusal, Side, write_whole};
 use cli_requests::{StoreCommand, StoreRequest};
 use commit::FormatVersion;
-use sector_dev::{
-    CachedFile, FileDevice, FileError, LockFile, ModelDevice, SectorDevice, SystemFile,
-};
+use sector_dev::{FileDevice, FileError, LockFile, ModelDevice, SectorDevice, SystemFile};
 use std::alloc::Global;
 use std::fs::{self, FileType, OpenFile};
 use std::io::{self, Empty, ErrorKind, Read, Seek, Write};
@@ -53,7 +51,7 @@ fn open_placeholder<F: OpenFile, H: Files<File = F>>(rt: &H) -> io::Result<F> {
 // If a standard stream is closed, the next file opened takes its descriptor, and what is printed would go into the store. Placeholders that are opened
 // first take these descriptors.
 pub(crate) fn reserve_standard_descriptors<
-    F: Read + Write + Seek + OpenFile + LockFile + CachedFile + Drop,
+    F: Read + Write + Seek + OpenFile + LockFile + Drop,
     H: Files<File = F> + AllocGlobal,
 >(rt: &H) -> Result<(F, F, F), FileError>
     ensures { IfErr result (λ e. e ≡ FileError.Io) }
@@ -80,7 +78,7 @@ fn has_no_sectors_at<H: Files>(rt: &H, path: &str) -> bool {
 
 /// Opens the device in a file for reading. A named pipe is not opened, since that would block.
 pub(crate) fn device_to_read<
-    F: Read + Write + Seek + OpenFile + LockFile + CachedFile + Drop,
+    F: Read + Write + Seek + OpenFile + LockFile + Drop,
     H: Files<File = F> + AllocGlobal,
 >(rt: &H, path: &str) -> Result<FileDevice<SystemFile<F>>, FileError>
     ensures opened { IfOk result (λ device. IsOpenedFile device) }
@@ -93,10 +91,11 @@ pub(crate) fn device_to_read<
 }
 
 // Opens the device in a file. If the command only reads, the file is not opened for writing.
-fn device_of<
-    F: Read + Write + Seek + OpenFile + LockFile + CachedFile + Drop,
-    H: Files<File = F> + AllocGlobal,
->(rt: &H, path: &str, only_reads: bool) -> Result<FileDevice<SystemFile<F>>, FileError>
+fn device_of<F: Read + Write + Seek + OpenFile + LockFile + Drop, H: Files<File = F> + AllocGlobal>(
+    rt: &H,
+    path: &str,
+    only_reads: bool,
+) -> Result<FileDevice<SystemFile<F>>, FileError>
     ensures opened { IfOk result (λ device. IsOpenedFile device) }
 {
     if only_reads {
@@ -122,7 +121,7 @@ pub(crate) fn remove_on_error<T: Drop, H: Files>(
 
 /// Makes an empty store on the device of a new file. On an error the file is removed, unless the system refuses that too.
 pub(crate) fn format_new<
-    F: Read + Write + Seek + OpenFile + LockFile + CachedFile + Drop,
+    F: Read + Write + Seek + OpenFile + LockFile + Drop,
     H: Files<File = F> + AllocGlobal,
 >(
     rt: &H,
@@ -142,7 +141,7 @@ pub(crate) fn format_new<
 
 // Creates a file with an empty store. On an error no file is left, unless the system refuses to remove it.
 fn format_file<
-    F: Read + Write + Seek + OpenFile + LockFile + CachedFile + Drop,
+    F: Read + Write + Seek + OpenFile + LockFile + Drop,
     H: Files<File = F> + AllocGlobal,
 >(
     rt: &H,
@@ -159,7 +158,7 @@ fn format_file<
 }
 
 fn serve_format<
-    F: Read + Write + Seek + OpenFile + LockFile + CachedFile + Drop,
+    F: Read + Write + Seek + OpenFile + LockFile + Drop,
     H: Files<File = F> + AllocGlobal,
     W: Write,
 >(rt: &H, path: &str, sectors: u64, version: FormatVersion, output: &mut W) -> Result<(), Refusal>
@@ -173,7 +172,7 @@ fn serve_format<
 
 // Serves a command on the store in a file. Its texts are parsed before any system call.
 fn serve_command<
-    F: Read + Write + Seek + OpenFile + LockFile + CachedFile + Drop,
+    F: Read + Write + Seek + OpenFile + LockFile + Drop,
     H: Files<File = F> + AllocGlobal,
     R: Read,
     W: Write,
@@ -201,7 +200,7 @@ fn serve_command<
 /// Serves a request of a store. If a text is refused, `hint` is set to the refused part of it, and if a check is refused, to the first table that
 /// can't be read; `left_out` is set to what a salvage leaves out.
 pub(crate) fn serve<
-    F: Read + Write + Seek + OpenFile + LockFile + CachedFile + Drop,
+    F: Read + Write + Seek + OpenFile + LockFile + Drop,
     H: Files<File = F> + AllocGlobal,
     R: Read,
     W: Write,

@@ -3,7 +3,7 @@ use crate::copying_files::open_to_read;
 use cli_refusals::{Hinted, Refusal, report_table};
 use cli_requests::{StoreCommand, StoreRequest};
 use cli_texts::Audience;
-use sector_dev::{CachedFile, LockFile, SectorDevice};
+use sector_dev::{LockFile, SectorDevice};
 use std::alloc::Global;
 use std::fs::OpenFile;
 use std::io::{self, Read, Seek, Write};
@@ -62,7 +62,7 @@ fn only_unread<D: SectorDevice>(
 
 /// Returns the name of the table with the segment at `place` that was refused, if the request does not name it. `check` hints at the table itself.
 pub(crate) fn unread_table<
-    F: Read + Write + Seek + OpenFile + LockFile + CachedFile + Drop,
+    F: Read + Write + Seek + OpenFile + LockFile + Drop,
     H: Files<File = F> + AllocGlobal,
 >(rt: &H, request: &StoreRequest<'_>, refusal: tables::Refusal, place: usize) -> Option<String> {
     match request {
@@ -115,7 +115,7 @@ fn sentences_after<D: SectorDevice>(
 }
 
 fn others_of_check<
-    F: Read + Write + Seek + OpenFile + LockFile + CachedFile + Drop,
+    F: Read + Write + Seek + OpenFile + LockFile + Drop,
     H: Files<File = F> + AllocGlobal,
 >(rt: &H, request: &StoreRequest<'_>, hinted: &Option<Hinted>) -> Option<String> {
     match (request, hinted) {
@@ -135,7 +135,7 @@ fn others_of_check<
 
 /// Returns the sentences about the tables that can't be read after the one that a check hints at, if a person reads them.
 pub(crate) fn report_of_others<
-    F: Read + Write + Seek + OpenFile + LockFile + CachedFile + Drop,
+    F: Read + Write + Seek + OpenFile + LockFile + Drop,
     H: Files<File = F> + AllocGlobal,
 >(
     rt: &H,

@@ -35,7 +35,7 @@ use cli_texts::{
     Audience, Ended, Output, audience_after_output, report_arguments, report_signed_number,
     report_wrong_arguments,
 };
-use sector_dev::{CachedFile, FileDevice, LockFile, ModelDevice, SectorDevice, SystemFile};
+use sector_dev::{FileDevice, LockFile, ModelDevice, SectorDevice, SystemFile};
 use std::alloc::Global;
 use std::convert::AsStr;
 use std::fs::OpenFile;
@@ -118,7 +118,7 @@ fn found_hint<'a>(asked: &'a AskedAgain, word: Option<Word<'a>>, about: &'a str)
 
 // Returns sentences about what a command itself hints at, if a person reads them: the line of a record, or other tables.
 fn about_hinted<
-    F: Read + Write + Seek + OpenFile + LockFile + CachedFile + Drop,
+    F: Read + Write + Seek + OpenFile + LockFile + Drop,
     H: Files<File = F> + AllocGlobal,
 >(
     rt: &H,
@@ -179,7 +179,7 @@ fn end_of_request<E: Write>(
 // Serves a request of a store and reports how it ended. The hint is the part of the input or the table that the command itself hinted at, or else
 // what is found by asking again, or a word of the command line.
 fn serve_and_report<
-    F: Read + Write + Seek + OpenFile + LockFile + CachedFile + Drop,
+    F: Read + Write + Seek + OpenFile + LockFile + Drop,
     H: Files<File = F> + AllocGlobal,
     R: Read + Input,
     W: Write + Output,
@@ -255,7 +255,7 @@ fn report_mistake<W: Write + Output, E: Write>(
 
 // Executes a command line of a store.
 fn run_on_store<
-    F: Read + Write + Seek + OpenFile + LockFile + CachedFile + Drop,
+    F: Read + Write + Seek + OpenFile + LockFile + Drop,
     H: Files<File = F> + AllocGlobal,
     S: AsStr,
     R: Read + Input,
@@ -296,7 +296,7 @@ fn run_on_store<
 /// Executes the arguments, the first of which is the program's name, also on the files of stores, and reports on `errors` if that fails. At a
 /// terminal the report names the system call noted in `failures` that failed.
 pub fn run_with_files<
-    F: Read + Write + Seek + OpenFile + LockFile + CachedFile + Drop,
+    F: Read + Write + Seek + OpenFile + LockFile + Drop,
     H: Files<File = F> + AllocGlobal,
     S: AsStr,
     R: Read + Input,

@@ -39,7 +39,7 @@ fn newer(zeroth: Option<Commit>, first: Option<Commit>) -> Option<Commit>
     }
 }
 
-/// Returns the commit that rules, if there is one. Reads both commit sectors, after the system has dropped what it keeps of them, and changes nothing.
+/// Returns the commit that rules, if there is one. Reads both commit sectors and changes nothing.
 ///
 /// # Errors
 /// `Failed` only: the device failed.
@@ -51,7 +51,6 @@ pub fn read_ruling<D: SectorDevice>(device: &mut D) -> Result<Option<Commit>, De
     ensures moments { D.tells ≡ true → OnlyReads (D.story device.old) (D.story device.new) }
     ensures found { IfOk result (λ commit. D.tells ≡ true → ruling (shown_image (now (D.story device.old))) ≡ commit) }
 {
-    device.forget(0, 2);
     let zeroth = read_commit(device, 0)?;
     let first = read_commit(device, 1)?;
     Ok(newer(zeroth, first))

@@ -34,7 +34,7 @@ fn is_extent(size: u64, least: u64, extent: Extent) -> bool
     extent.bytes >= least && extent.fills_its_run() && extent.run.is_on_device(size)
 }
 
-/// Reads the bytes of an extent, which must be at least `least`, after the system has dropped what it keeps of them. Changes nothing.
+/// Reads the bytes of an extent, which must be at least `least`. Changes nothing.
 ///
 /// # Errors
 /// `Damaged` if the extent can't be that of a text, or if a sector of it can't be read; `Device`; `OutOfMemory`.
@@ -57,7 +57,6 @@ pub fn read_extent<D: SectorDevice>(
     if !is_extent(device.sectors(), least, extent) {
         return Err(OpenError::Damaged(Cause::CatalogueRange));
     }
-    device.forget(extent.run.start, extent.run.count);
     match read_run(alloc, device, extent.run.start, extent.bytes as usize) {
         Ok(bytes) => Ok(bytes),
         Err(ReadError::Unreadable) => Err(OpenError::Damaged(Cause::CatalogueUnreadable)),

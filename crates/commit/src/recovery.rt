@@ -1,17 +1,16 @@
 // Opens a store.
-ghost use Rattle.std.specs.Prelude.{◌≡◌, ◌≢◌, ◌≤◌, ◌∷◌, [], true, false, None, Some, Ok, Err, OnOk, OnErr, IfOk, IfErr};
-ghost use Rattle.sector_dev.specs.Disk.{now, shown_image, flushed, Counts, Flushes, Passes};
+ghost use Rattle.std.specs.Prelude.{◌≡◌, ◌≢◌, ◌∷◌, [], true, false, None, Some, Ok, Err, OnOk, OnErr, IfOk, IfErr};
+ghost use Rattle.sector_dev.specs.Disk.{now, flushed, Flushes, Passes};
 ghost use Rattle.sector_dev.specs.Time.{Grows, OnlyReads};
 ghost use Rattle.commit.specs.Placing.{Uses};
-ghost use Rattle.commit.specs.Ruling.{ruling};
 ghost use Rattle.commit.specs.Standing.{is_size, is_on_device, used_runs, runs_fault, rules, Stands};
 ghost use Rattle.commit.specs.Opening.{CountsOpen, IsOpening, SyncsOnce, named_shown, standing_shown, TellsCause, TellsStanding};
 
 use crate::entering::occupy_runs;
 use crate::opening::read_ruling;
 use crate::reading::read_text;
-use crate::{Cause, Commit, FormatVersion, OpenError, ReadCatalogue};
-use sector_dev::{DevError, LEAST_SECTORS, MOST_SECTORS, SectorDevice};
+use crate::{Cause, Commit, OpenError, ReadCatalogue};
+use sector_dev::{LEAST_SECTORS, MOST_SECTORS, SectorDevice};
 use segments::{FreeMap, Run};
 use std::alloc::Global;
 
@@ -63,26 +62,6 @@ fn map_of<C: ReadCatalogue>(
     occupy_runs(alloc, sectors, text, &runs)
 }
 
-// Reads the commit that rules. In version 1, where segments have no digests, nothing tells a segment that the system keeps from what the disk has: so the
-// system then drops what it keeps of the whole device.
-fn read_newest<D: SectorDevice>(device: &mut D) -> Result<Option<Commit>, DevError>
-    requires { 2 ≤ D.size device.old }
-    ensures size { D.size device.new ≡ D.size device.old }
-    ensures count { Counts (D.failed device.old) (D.failed device.new) result }
-    ensures error { IfErr result (λ e. e ≡ DevError.Failed) }
-    ensures moments { D.tells ≡ true → OnlyReads (D.story device.old) (D.story device.new) }
-    ensures found { IfOk result (λ commit. D.tells ≡ true → ruling (shown_image (now (D.story device.old))) ≡ commit) }
-{
-    let ruling = read_ruling(device)?;
-    if let Some(commit) = ruling
-        && commit.version == FormatVersion::One
-    {
-        let sectors = device.sectors();
-        device.forget(0, sectors);
-    }
-    Ok(ruling)
-}
-
 // Reads the store on the device. Changes nothing.
 fn read_store<C: ReadCatalogue, D: SectorDevice>(
     alloc: Global,
@@ -101,7 +80,7 @@ fn read_store<C: ReadCatalogue, D: SectorDevice>(
     ensures map_size { IfOk result (λ store. store.map.size ≡ D.size device.old) }
     ensures uses { IfOk result (λ store. Uses store.map.entries (used_runs C.reading store.commit (C.plain_of store.catalogue)) []) }
 {
-    let Some(commit) = read_newest(device)? else {
+    let Some(commit) = read_ruling(device)? else {
         return Err(OpenError::NotAStore);
     };
     let catalogue = read_catalogue::<C, D>(alloc, device, commit)?;

@@ -39,8 +39,8 @@ pub const MOST_SECTORS: u64 = 4_194_304;
 /// A run of neighbouring sectors is written in pieces of 256 KiB, and read ahead in growing ones. More than 128 sectors in one call are written at
 /// once, after the buffered ones. Written sectors are in the file after the next successful sync.
 ///
-/// Once a write to the file or a sync of it has failed, the device has stopped: each later call fails, and the file has to be opened again. Before the
-/// failed call answers, the system is asked to drop its copies of the whole file, so that whoever opens it reads the disk.
+/// Once a write to the file or a sync of it has failed, the device has stopped: each later call fails, and the file has to be opened again. Nothing that
+/// was written before is then written a second time: what a sync that failed has left is not known.
 #[derive(Drop)]
 pub struct FileDevice<F: SectorFile + Drop> {
     file: F,
@@ -54,7 +54,6 @@ pub struct FileDevice<F: SectorFile + Drop> {
     ghost within: { writes.start + length writes.contents.items ≤ F.size file },
     ghost contents: { AreContents writes.contents.items } by { contents_prop writes.contents.items },
     ghost sound: { stopped ≡ false → F.sound file ≡ true },
-    ghost forgotten: { stopped ≡ true → F.forgotten file ≡ true },
     ghost reads: { stopped ≡ false → F.tells ≡ true → ReadsAs (now (F.story file)) ahead.start ahead.contents.items } by { Π_prop (λ _. Π_prop (λ _. reads_prop (now (F.story file)) ahead.start ahead.contents.items)) },
 }
 

@@ -27,8 +27,6 @@ pub struct ModelFile {
     // the effect of these calls: a sector past the end was never written
     stored: Vec<StoredSector>,
     sound: bool,
-    // it was asked to forget all sectors
-    forgotten: bool,
     // the write or sync that fails, counted from 1 for the next one; 0 if there is none
     fail: u64,
     ghost agrees: { (n : ℕ) → stored_at stored.items n ≡ stored_of ((now (file_story start.items log.items)).at n) },

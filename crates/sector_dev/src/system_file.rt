@@ -9,16 +9,15 @@ ghost use Rattle.sector_dev.specs.declared.file.TheConstants.{MOST_SECTORS};
 use crate::{FileFault, SECTOR_BYTES, SectorFile};
 use std::fs::OpenFile;
 use std::io::{self, Read, Seek, SeekFrom, Write};
+use std::slice;
 
-mod copies;
 mod locking;
 mod made;
 
-pub use copies::CachedFile;
 pub use locking::LockFile;
 
-// The system keeps and drops its copies in blocks, and leaves one alone that lies only partly in the range. On Linux they have up to 2 MiB.
-const BLOCK_SECTORS: u64 = 4096;
+// The sectors that say what all others hold: a store keeps its commits in them.
+const RULING_SECTORS: u64 = 2;
 
 /// A file of the system, which holds its sectors in order. It tells no story: that it keeps the laws of `SectorFile` is trusted
 /// (docs/definitions/device.md).
@@ -26,6 +25,8 @@ const BLOCK_SECTORS: u64 = 4096;
 pub struct SystemFile<F: Read + Write + Seek + OpenFile + Drop> {
     file: F,
     sectors: u64,
+    // nothing is known yet of what an earlier program has left, and the file can be written
+    doubtful: bool,
     ghost within: { sectors ≤ MOST_SECTORS },
 }
 
@@ -53,6 +54,30 @@ fn write_at<F: Write + Seek>(
     file.write_all(contents.as_flattened())
 }
 
+// Writes this sector again as reads show it. If it can't be read, it is left alone.
+fn write_again<F: Read + Write + Seek>(file: &mut F, n: u64) -> io::Result<()>
+    requires { n ≤ MOST_SECTORS }
+{
+    let mut content = [0; SECTOR_BYTES];
+    if read_at(file, n, slice::from_mut(&mut content)).is_err() {
+        return Ok(());
+    }
+    write_at(file, n, slice::from_ref(&content))
+}
+
+// Syncs the file. A write or a sync that failed earlier, perhaps in another program, may have left what reads show in the system's copies alone, and the
+// system would not write it again: so the first sync has it write the ruling sectors.
+fn sync<F: Read + Write + Seek + OpenFile>(file: &mut F, doubtful: &mut bool) -> io::Result<()> {
+    if *doubtful {
+        for n in 0..RULING_SECTORS {
+            write_again(file, n)?;
+        }
+    }
+    file.sync_data()?;
+    *doubtful = false;
+    Ok(())
+}
+
 fn answer(done: io::Result<()>) -> Result<(), FileFault>
     ensures { is_ok result ≡ is_ok done }
 {
@@ -62,7 +87,7 @@ fn answer(done: io::Result<()>) -> Result<(), FileFault>
     }
 }
 
-impl<F: Read + Write + Seek + OpenFile + CachedFile + Drop> SectorFile for SystemFile<F> {
+impl<F: Read + Write + Seek + OpenFile + Drop> SectorFile for SystemFile<F> {
     ghost size = { λ f. f.sectors };
 
     ghost tells = { false };
@@ -70,8 +95,6 @@ impl<F: Read + Write + Seek + OpenFile + CachedFile + Drop> SectorFile for Syste
     ghost story = { λ f. [] };
 
     ghost sound = { λ f. true };
-
-    ghost forgotten = { λ f. true };
 
     ghost shows = { λ f told. blank_shows };
 
@@ -97,18 +120,6 @@ impl<F: Read + Write + Seek + OpenFile + CachedFile + Drop> SectorFile for Syste
     }
 
     fn sync_data(&mut self) -> Result<(), FileFault> {
-        answer(self.file.sync_data())
-    }
-
-    // A block that has one of the sectors is dropped as a whole.
-    fn forget(&mut self, start: u64, count: u64) {
-        if count == 0 {
-            return;
-        }
-        let first = start / BLOCK_SECTORS * BLOCK_SECTORS;
-        let end = (start + count).next_multiple_of(BLOCK_SECTORS);
-        let sector = SECTOR_BYTES as u64;
-        self.file
-            .drop_copies(first * sector, (end - first) * sector);
+        answer(sync(&mut self.file, &mut self.doubtful))
     }
 }

@@ -27,17 +27,10 @@ number pieces i lt = let same = length-map pieces plain_piece in omega (arith, l
 pub plain_at : (pieces : List Piece) (i : ℕ) (p : Piece) → i < length pieces → p ≡ get_or pieces i p → plain_piece p ≡ get_or (plain_pieces pieces) i (plain_piece p)
 plain_at pieces i p lt is = ap plain_piece is ∙ sym (get_or-map plain_piece pieces i p (plain_piece p) lt)
 
-placed_at : (size : ℕ) (pieces : List Piece) (i : ℕ) (p : Piece) → AllFit size (plain_pieces pieces) → i < length pieces → p ≡ get_or pieces i p → (p.run.start + p.run.count ≤ size) × (sector_count (length (plain_piece p).bytes) ≤ p.run.count)
-placed_at size pieces i p fit lt is =
-    let d = plain_piece p in
-    subst (λ (q : PlainPiece). (q.run.start + q.run.count ≤ size) × (sector_count (length q.bytes) ≤ q.run.count)) (sym (plain_at pieces i p lt is)) (fit_at size (plain_pieces pieces) i d fit (number pieces i lt))
-
-pub room_of : (size : ℕ) (pieces : List Piece) (i : ℕ) (p : Piece) → AllFit size (plain_pieces pieces) → i < length pieces → p ≡ get_or pieces i p → p.run.start + p.run.count ≤ size
-room_of size pieces i p fit lt is = (placed_at size pieces i p fit lt is).0
-
 pub fit_of : (size : ℕ) (pieces : List Piece) (i : ℕ) (p : Piece) → AllFit size (plain_pieces pieces) → i < length pieces → p ≡ get_or pieces i p → p.run.start + sector_count (length (plain_piece p).bytes) ≤ size
 fit_of size pieces i p fit lt is =
-    let fits = placed_at size pieces i p fit lt is in
+    let d = plain_piece p in
+    let fits = subst (λ (q : PlainPiece). (q.run.start + q.run.count ≤ size) × (sector_count (length q.bytes) ≤ q.run.count)) (sym (plain_at pieces i p lt is)) (fit_at size (plain_pieces pieces) i d fit (number pieces i lt)) in
     omega (arith, fits.0, fits.1)
 
 -- the parts of a piece, as a loop comes to them

@@ -112,19 +112,7 @@ pub fn write_run<D: SectorDevice>(device: &mut D, start: u64, bytes: &[u8]) -> R
     write_parts(device, start, &[PiecePart::Borrowed(bytes)])
 }
 
-// Drops what the system keeps of the runs: a write that failed earlier, perhaps in another program, may have left other bytes there than on the disk.
-fn forget_runs<D: SectorDevice>(device: &mut D, pieces: &[Piece<'_>])
-    requires { AllFit (D.size device.old) (plain_pieces pieces.now) }
-    ensures size { D.size device.new ≡ D.size device.old }
-    ensures failed { D.failed device.new ≡ D.failed device.old }
-    ensures story { D.tells ≡ true → D.story device.new ≡ D.story device.old }
-{
-    for piece in pieces {
-        device.forget(piece.run.start, piece.run.count);
-    }
-}
-
-/// Writes each piece into its run, in order, after the system has dropped what it keeps of the runs.
+/// Writes each piece into its run, in order.
 ///
 /// # Errors
 /// `Failed` only: the device failed.
@@ -141,7 +129,6 @@ pub fn write_runs<D: SectorDevice>(device: &mut D, pieces: &[Piece<'_>]) -> Resu
     ensures order { OnOk result (D.tells ≡ true → GrowsBy (piece_writes (plain_pieces pieces.now)) (D.story device.old) (D.story device.new)) }
     ensures cut_short { OnErr result (D.tells ≡ true → FailsAmong (piece_writes (plain_pieces pieces.now)) (D.story device.old) (D.story device.new)) }
 {
-    forget_runs(device, pieces);
     for piece in pieces {
         write_parts(device, piece.run.start, &piece.parts)?;
     }

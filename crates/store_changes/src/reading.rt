@@ -1,5 +1,5 @@
 // Reads a table from the segments of its entry.
-ghost use Rattle.std.specs.Prelude.{◌≡◌, ◌≤◌, ◌+◌, ℕ, true, false, List, [], Option, Some, None, length, option_map, IfOk, IfErr, IfSome};
+ghost use Rattle.std.specs.Prelude.{◌≡◌, ◌≤◌, ◌+◌, ℕ, true, List, [], Option, Some, None, length, option_map, IfOk, IfErr, IfSome};
 ghost use Rattle.std.specs.List.{list_all};
 ghost use Rattle.sector_dev.specs.Disk.{now, shown_image};
 ghost use Rattle.arrow_schema.specs.Column.{PlainSchema};
@@ -12,7 +12,7 @@ ghost use Rattle.ipc_write.specs.Written.{schema_message};
 ghost use Rattle.segments.specs.declared.extent.Extent.{Extent};
 ghost use Rattle.catalogue.specs.Entries.{is_segment, is_entry, plain_entry, runs_in_segments};
 ghost use Rattle.commit.specs.Standing.{is_size, is_on_device, all_on_device};
-ghost use Rattle.store_runs.specs.Held.{is_undamaged, bytes_of, rows_in_bytes};
+ghost use Rattle.store_runs.specs.Held.{is_undamaged, rows_in_bytes};
 ghost use Rattle.store_runs.specs.Reading.{IsCopy, LacksBytes, HasRead, LacksRows, IsRead, Unreads, OnlyReadsDevice, ended};
 ghost use Rattle.store_changes.specs.inner.ReadRows.{ReadsRows, ReadsNext};
 ghost use Rattle.store_changes.specs.inner.TableBuilder.{table_so_far};
@@ -43,64 +43,7 @@ fn is_undamaged(segment: Segment, bytes: &[u8]) -> bool
     }
 }
 
-// Reads the bytes of the segment at this place, or returns `None` if they have another digest than its entry.
-fn read_once<D: SectorDevice>(
-    alloc: Global,
-    device: &mut D,
-    segment: Segment,
-    place: usize,
-) -> Result<Option<Vec<u8>>, Refusal>
-    requires size { is_size (D.size device.old) ≡ true }
-    requires placed { is_on_device (D.size device.old) segment.place.run ≡ true }
-    requires sound { is_segment segment ≡ true }
-    ensures reads { OnlyReadsDevice D.size D.story D.failed D.tells (ended result) device.old device.new }
-    ensures copy { IfOk result (λ found. IfSome found (λ bytes. IsCopy D.tells (shown_image (now (D.story device.old))) segment bytes.items)) }
-    ensures damaged { IfOk result (λ found. found ≡ None → D.tells ≡ true
-        → is_undamaged segment.digest (bytes_of segment (shown_image (now (D.story device.old)))) ≡ false) }
-    ensures told { IfErr result (LacksBytes D.tells (shown_image (now (D.story device.old))) segment place) }
-{
-    match read_run(
-        alloc,
-        device,
-        segment.place.run.start,
-        segment.place.bytes as usize,
-    ) {
-        Ok(bytes) => {
-            if is_undamaged(segment, &bytes) {
-                Ok(Some(bytes))
-            } else {
-                Ok(None)
-            }
-        }
-        Err(ReadError::Unreadable) => Err(Refusal::SegmentUnread(place)),
-        Err(ReadError::Failed) => Err(Refusal::Device),
-        Err(ReadError::OutOfMemory) => Err(Refusal::OutOfMemory),
-    }
-}
-
-// Reads them once more, from the disk: what the system keeps may be other bytes, left by a failed write or changed since by another machine.
-fn read_again<D: SectorDevice>(
-    alloc: Global,
-    device: &mut D,
-    segment: Segment,
-    place: usize,
-) -> Result<Vec<u8>, Refusal>
-    requires size { is_size (D.size device.old) ≡ true }
-    requires placed { is_on_device (D.size device.old) segment.place.run ≡ true }
-    requires sound { is_segment segment ≡ true }
-    ensures reads { OnlyReadsDevice D.size D.story D.failed D.tells (ended result) device.old device.new }
-    ensures copy { IfOk result (λ bytes. IsCopy D.tells (shown_image (now (D.story device.old))) segment bytes.items) }
-    ensures told { IfErr result (LacksBytes D.tells (shown_image (now (D.story device.old))) segment place) }
-{
-    device.forget(segment.place.run.start, segment.place.run.count);
-    match read_once(alloc, device, segment, place) {
-        Ok(Some(bytes)) => Ok(bytes),
-        Ok(None) => Err(Refusal::SegmentDamaged(place)),
-        Err(refusal) => Err(refusal),
-    }
-}
-
-// Reads the bytes of the segment at this place, and tests their digest. A mismatch is reported only if the disk has other bytes, too.
+// Reads the bytes of the segment at this place, and tests their digest.
 pub(crate) fn read_bytes<D: SectorDevice>(
     alloc: Global,
     device: &mut D,
@@ -114,10 +57,22 @@ pub(crate) fn read_bytes<D: SectorDevice>(
     ensures copy { IfOk result (λ bytes. IsCopy D.tells (shown_image (now (D.story device.old))) segment bytes.items) }
     ensures told { IfErr result (LacksBytes D.tells (shown_image (now (D.story device.old))) segment place) }
 {
-    match read_once(alloc, device, segment, place) {
-        Ok(Some(bytes)) => Ok(bytes),
-        Ok(None) => read_again(alloc, device, segment, place),
-        Err(refusal) => Err(refusal),
+    match read_run(
+        alloc,
+        device,
+        segment.place.run.start,
+        segment.place.bytes as usize,
+    ) {
+        Ok(bytes) => {
+            if is_undamaged(segment, &bytes) {
+                Ok(bytes)
+            } else {
+                Err(Refusal::SegmentDamaged(place))
+            }
+        }
+        Err(ReadError::Unreadable) => Err(Refusal::SegmentUnread(place)),
+        Err(ReadError::Failed) => Err(Refusal::Device),
+        Err(ReadError::OutOfMemory) => Err(Refusal::OutOfMemory),
     }
 }
 

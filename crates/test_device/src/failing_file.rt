@@ -104,7 +104,7 @@ fn is_left(alloc: Global, file: Faulty, expected: &Expected) -> bool {
     }
 }
 
-// Uses the device, although up to one call of the file fails. If it stops, the copies of the file were dropped after the call that failed.
+// Uses the device, although up to one call of the file fails.
 fn loses_nothing(alloc: Global, device: Device) -> bool {
     let mut device = device;
     let mut expected = Expected {
@@ -115,7 +115,7 @@ fn loses_nothing(alloc: Global, device: Device) -> bool {
     let few = device.failures() <= 1;
     let mut file = device.into_file().into_file();
     let well = match stopped {
-        Some(well) => well && file.is_dropped(),
+        Some(well) => well,
         None => few,
     };
     file.heal();
@@ -132,7 +132,7 @@ fn survives(alloc: Global, fails_at: u64) -> bool {
 
 // Returns the first call whose failure loses something.
 fn wrong_call(alloc: Global) -> Option<u64> {
-    for fails_at in 0..41 {
+    for fails_at in 0..60 {
         if !survives(alloc, fails_at) {
             return Some(fails_at);
         }
@@ -165,19 +165,27 @@ fn a_sync_that_the_system_refuses_fails(rt: HostRuntime) {
     assert!(&rt; is_sync_refused(rt.alloc()));
 }
 
-// Returns whether the copies of the file are dropped after a read.
-fn is_forgotten(alloc: Global) -> bool {
+// Returns whether the first sync writes each of the first two sectors again, as it was, and the next one none.
+fn is_renewed(alloc: Global) -> bool {
     let Ok(mut device) = FileDevice::from_file(alloc, Faulty::new(Fault::Nothing)) else {
         return false;
     };
-    let read = filling(&mut device, 3) == Some(Ok(0));
-    let all = device.sectors();
-    device.forget(0, all);
-    read && device.into_file().into_file().is_dropped()
+    let synced = device.sync().is_ok();
+    let file = device.into_file().into_file();
+    let renewed = file.first_writes();
+    let Ok(mut device) = FileDevice::from_file(alloc, file) else {
+        return false;
+    };
+    let again = fill_sector(&mut device, 1, 7).is_ok() && device.sync().is_ok();
+    let last = device.sync().is_ok() && filling(&mut device, 1) == Some(Ok(7));
+    let zeros = filling(&mut device, 0) == Some(Ok(0));
+    // a write of the buffered sector, and the two of the first sync
+    let writes = device.into_file().into_file().first_writes();
+    synced && renewed == 2 && again && last && zeros && writes == 5
 }
 
-// A device passes on that its sectors are to be forgotten.
+// What an earlier program could not write may be what reads show, and the system would not write it again.
 #[test]
-fn copies_are_dropped_where_they_are_to_be_forgotten(rt: HostRuntime) {
-    assert!(&rt; is_forgotten(rt.alloc()));
+fn the_first_sync_writes_the_ruling_sectors_again(rt: HostRuntime) {
+    assert!(&rt; is_renewed(rt.alloc()));
 }

@@ -56,7 +56,7 @@ fn survives(alloc: Global) -> bool {
     };
     let cut_short = is_cut_short(&mut device);
     let file = device.into_file().into_file();
-    cut_short && file.is_dropped() && is_left(alloc, file)
+    cut_short && is_left(alloc, file)
 }
 
 // A long row is written to the file without a copy: if this fails, the device stops, and only sectors of the row may have changed.

@@ -1,5 +1,4 @@
 // A file in memory with scheduled failures. All tests use it, because each type of file costs as much proof time as ten functions.
-use sector_dev::CachedFile;
 use std::cell::Cell;
 use std::fs::{Metadata, OpenFile};
 use std::io::{self, Cursor, ErrorKind, Read, Seek, SeekFrom, Write};
@@ -25,8 +24,8 @@ pub(crate) enum Fault {
 pub(crate) struct FaultyFile<const BYTES: usize> {
     bytes: Cursor<[u8; BYTES]>,
     calls: Cell<u64>,
-    // the copies of the whole file were dropped after the last call
-    is_dropped: Cell<bool>,
+    // how many writes began at one of the first two sectors
+    first_writes: u64,
     fault: Fault,
 }
 
@@ -35,13 +34,13 @@ impl<const BYTES: usize> FaultyFile<BYTES> {
         FaultyFile {
             bytes: Cursor::new([0; BYTES]),
             calls: Cell::new(0),
-            is_dropped: Cell::new(false),
+            first_writes: 0,
             fault,
         }
     }
 
-    pub(crate) fn is_dropped(&self) -> bool {
-        self.is_dropped.get()
+    pub(crate) fn first_writes(&self) -> u64 {
+        self.first_writes
     }
 
     // From now on no call fails.
@@ -50,7 +49,6 @@ impl<const BYTES: usize> FaultyFile<BYTES> {
     }
 
     fn begin(&self) -> io::Result<()> {
-        self.is_dropped.set(false);
         let call = self.calls.get().wrapping_add(1);
         self.calls.set(call);
         match self.fault {
@@ -70,6 +68,9 @@ impl<const BYTES: usize> Read for FaultyFile<BYTES> {
 impl<const BYTES: usize> Write for FaultyFile<BYTES> {
     fn write(&mut self, buf: &[u8]) -> io::Result<usize> {
         self.begin()?;
+        if self.bytes.position() < 2 * 512 {
+            self.first_writes = self.first_writes.wrapping_add(1);
+        }
         match self.fault {
             Fault::LongWrite if buf.len() > LONG => {
                 self.fault = Fault::Write;
@@ -115,11 +116,5 @@ impl<const BYTES: usize> OpenFile for FaultyFile<BYTES> {
             Fault::Syncs => Err(io::Error::from(ErrorKind::Other)),
             _ => Ok(()),
         }
-    }
-}
-
-impl<const BYTES: usize> CachedFile for FaultyFile<BYTES> {
-    fn drop_copies(&self, offset: u64, length: u64) {
-        self.is_dropped.set(offset == 0 && length >= BYTES as u64);
     }
 }

@@ -214,10 +214,6 @@ impl<D: SectorDevice + Drop> SectorDevice for Counting<D> {
         self.calls = self.calls.wrapping_add(1);
         self.device.sync()
     }
-
-    fn forget(&mut self, start: u64, count: u64) {
-        self.device.forget(start, count);
-    }
 }
 
 // Returns whether a sector is written and synced with the first result, and read with the second.

@@ -1,7 +1,7 @@
 // Shows how much of a store's file was read and written, and notes failed calls. The file of the output is not opened.
 use super::{LONG_WORK, ProgressLine, Stage, Target};
 use arrowstore::{Failures, NotedFile};
-use sector_dev::{CachedFile, LockFile};
+use sector_dev::LockFile;
 use std::alloc::{Allocator, Global};
 use std::fs::{Metadata, OpenFile, OpenOptions, Permissions};
 use std::io::{self, PipeReader, PipeWriter, Read, Seek, SeekFrom, Write};
@@ -243,11 +243,5 @@ impl<C: Clock, T, F: LockFile> LockFile for ProgressFile<'_, C, T, F> {
 
     fn lock_to_read(&self) -> io::Result<()> {
         self.file.lock_to_read()
-    }
-}
-
-impl<C: Clock, T, F: CachedFile> CachedFile for ProgressFile<'_, C, T, F> {
-    fn drop_copies(&self, offset: u64, length: u64) {
-        self.file.drop_copies(offset, length);
     }
 }

@@ -74,18 +74,6 @@ fn copy_from_memory(
     }
 }
 
-// Stops the device: whoever opens the file next is to read the disk, and not what the system keeps of a write that did not reach it.
-fn stop<F: SectorFile>(file: &mut F, stopped: &mut bool)
-    ensures size { F.size file.new ≡ F.size file.old }
-    ensures story { F.tells ≡ true → F.story file.new ≡ F.story file.old }
-    ensures stopped { stopped.new ≡ true }
-    ensures forgotten { F.forgotten file.new ≡ true }
-{
-    let all = file.sectors();
-    file.forget(0, all);
-    *stopped = true;
-}
-
 // Writes sectors to the file. If that fails after it began, the device has stopped.
 fn write_through<F: SectorFile>(
     file: &mut F,
@@ -98,13 +86,13 @@ fn write_through<F: SectorFile>(
     ensures ok { OnOk result ((stopped.new ≡ stopped.old) × (F.sound file.new ≡ F.sound file.old)) }
     ensures written { OnOk result (F.tells ≡ true → F.story file.new ≡ grown (row_from start contents.now) (F.story file.old)) }
     ensures err { OnErr result (((stopped.new ≡ stopped.old) × (F.sound file.new ≡ F.sound file.old) × (F.tells ≡ true → F.story file.new ≡ F.story file.old))
-        ⊎ ((stopped.new ≡ true) × (F.tells ≡ true → F.story file.new ≡ grown (row_from start contents.now) (F.story file.old)) × (F.forgotten file.new ≡ true))) }
+        ⊎ ((stopped.new ≡ true) × (F.tells ≡ true → F.story file.new ≡ grown (row_from start contents.now) (F.story file.old)))) }
 {
     match file.write_at(start, contents) {
         Ok(()) => Ok(()),
         Err(FileFault::NotBegun) => Err(FileFault::NotBegun),
         Err(FileFault::Failed) => {
-            stop(file, stopped);
+            *stopped = true;
             Err(FileFault::Failed)
         }
     }
@@ -229,7 +217,7 @@ impl<F: SectorFile + Drop> FileDevice<F> {
         match self.file.sync_data() {
             Ok(()) => Ok(()),
             Err(fault) => {
-                stop(&mut self.file, &mut self.stopped);
+                self.stopped = true;
                 Err(fault)
             }
         }

@@ -51,8 +51,6 @@ impl SectorFile for ModelFile {
 
     ghost sound = { λ f. f.sound };
 
-    ghost forgotten = { λ f. f.forgotten };
-
     ghost shows = { λ f told. file_shows f.start.items f.log.items };
 
     ghost begun = { λ f told. file_begun f.start.items f.log.items };
@@ -87,10 +85,6 @@ impl SectorFile for ModelFile {
             return Err(FileFault::Failed);
         }
         Ok(())
-    }
-
-    fn forget(&mut self, start: u64, count: u64) {
-        self.forgotten = start == 0 && count == self.sectors;
     }
 
     fn sync_data(&mut self) -> Result<(), FileFault> {

@@ -33,7 +33,6 @@ impl ModelFile {
             log: Vec::new(alloc),
             stored,
             sound: true,
-            forgotten: false,
             fail: 0,
         })
     }

@@ -28,7 +28,6 @@ impl ModelFile {
             log: Vec::new(alloc),
             stored: Vec::new(alloc),
             sound: true,
-            forgotten: false,
             fail: 0,
         })
     }

@@ -8,13 +8,17 @@ use std::fs::OpenFile;
 use std::io::{Read, Seek, Write};
 
 impl<F: Read + Write + Seek + OpenFile + Drop> SystemFile<F> {
-    // A file with this number of sectors.
-    pub(crate) fn over(file: F, sectors: u64) -> SystemFile<F>
+    // A file with this number of sectors. It is doubtful if it can be written, and another program may have written it before.
+    pub(crate) fn over(file: F, sectors: u64, doubtful: bool) -> SystemFile<F>
         requires { sectors ≤ MOST_SECTORS }
         ensures sectors { result.sectors ≡ sectors }
         ensures file { opened_file result ≡ file }
     {
-        SystemFile { file, sectors }
+        SystemFile {
+            file,
+            sectors,
+            doubtful,
+        }
     }
 
     /// Gives back the open file.

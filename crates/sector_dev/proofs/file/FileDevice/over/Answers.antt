@@ -14,6 +14,5 @@ invariant_of-result g c = record {
   within = let none = c.empty.ensures.items in let start = c.empty.ensures.start in let len = length_none c.empty.result.contents.items none in omega (arith, start, len);
   contents = subst AreContents (sym c.empty.ensures.items) tt;
   sound = λ _. c.requires;
-  forgotten = λ stopped. absurd (cc stopped);
   reads = λ _ _. reads_none (now (g.F.SectorFile.story c.args.file)) c.empty-2.result.start c.empty-2.result.contents.items c.empty-2.ensures.items;
 }

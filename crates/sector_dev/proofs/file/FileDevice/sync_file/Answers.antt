@@ -10,6 +10,5 @@ invariant_of-self g c =
       within = let size = c.sync_data.ensures.size in let was = d.within in omega (arith, size, was);
       contents = d.contents;
       sound = λ runs. c.in-Ok-sync_data.ensures.ok.0 ∙ d.sound runs;
-      forgotten = λ stopped. absurd (cc (stopped, c.in-Ok.ensures.running));
       reads = λ runs told. reads_flushed d.ahead.start d.ahead.contents.items (F.story d.file) (F.story c.sync_data.new.self) (c.in-Ok-sync_data.ensures.ok.1 told (d.sound runs)) (d.reads runs told);
     }
