@@ -90,18 +90,53 @@ pub(crate) fn device_to_read<
     }
 }
 
-// Opens the device in a file. If the command only reads, the file is not opened for writing.
+// Opens the device in a file to read it, and to make sure that the disk has what reads show, if the file may be written.
+fn device_to_check<
+    F: Read + Write + Seek + OpenFile + LockFile + Drop,
+    H: Files<File = F> + AllocGlobal,
+>(rt: &H, path: &str) -> Result<FileDevice<SystemFile<F>>, FileError>
+    ensures opened { IfOk result (λ device. IsOpenedFile device) }
+{
+    if has_no_sectors_at(rt, path) {
+        Err(FileError::BadSize)
+    } else {
+        FileDevice::open_to_confirm(rt, path)
+    }
+}
+
+// How a command uses the file of its store.
+#[derive(Clone, Copy)]
+enum Access {
+    Reads,
+    Checks,
+    Changes,
+}
+
+fn access_of(command: &StoreCommand<'_>) -> Access {
+    match command {
+        StoreCommand::Check => Access::Checks,
+        _ => {
+            if command.only_reads() {
+                Access::Reads
+            } else {
+                Access::Changes
+            }
+        }
+    }
+}
+
+// Opens the device in a file. If the command only reads, the file is not opened for writing; a check has the commits written again.
 fn device_of<F: Read + Write + Seek + OpenFile + LockFile + Drop, H: Files<File = F> + AllocGlobal>(
     rt: &H,
     path: &str,
-    only_reads: bool,
+    access: Access,
 ) -> Result<FileDevice<SystemFile<F>>, FileError>
     ensures opened { IfOk result (λ device. IsOpenedFile device) }
 {
-    if only_reads {
-        device_to_read(rt, path)
-    } else {
-        FileDevice::open(rt, path)
+    match access {
+        Access::Reads => device_to_read(rt, path),
+        Access::Checks => device_to_check(rt, path),
+        Access::Changes => FileDevice::open(rt, path),
     }
 }
 
@@ -189,10 +224,10 @@ fn serve_command<
     ensures unread { (takes_input_word (command_word command.now) ≡ true) ⊎ (input.new ≡ input.old) }
     ensures silent { IfErr result (λ refusal. refusal ≢ Refusal.Io Side.Output → output.new ≡ output.old) }
 {
-    let only_reads = command.only_reads();
+    let access = access_of(command);
     let command = stated(rt.alloc(), command)?;
     let _places = reserve_standard_descriptors(rt)?;
-    let device = device_of(rt, path, only_reads)?;
+    let device = device_of(rt, path, access)?;
     let (done, _device) = serve_device(rt.alloc(), device, command, input, output, hint);
     done
 }

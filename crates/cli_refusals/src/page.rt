@@ -232,7 +232,8 @@ or appended. If no advice follows a fault, the cause is the program that wrote t
     "
 - C4 Device: the file could not be read or synced while it was opened; or `format` or `copy` could not
   read, write or sync the file that it made, and has removed it. A store is not changed. If it could not be
-  synced, a program was killed before, and the next command shows whether its last change is on the disk.
+  synced, a program was killed before, and `check` shows whether its last change was done: it brings to the
+  disk what it reads, or is refused.
   If the disk can't read a sector of the file, `dd bs=512 iflag=direct conv=noerror,sync` makes a copy with
   zeros in its place.
   ",
@@ -415,8 +416,8 @@ appended.
     MORE_ROOM,
     "
 - S9 Device: the file could not be read, written or synced. The command is done as a whole or not at all,
-  and so is each step of a `compact`: the next command shows what the disk has. For a sector that the disk
-  can't read, see C4.
+  and so is each step of a `compact`. Until a `check` or another change has succeeded, what commands show
+  may be undone by a power cut. For a sector that the disk can't read, see C4.
   ",
     LOOK_AGAIN,
     "

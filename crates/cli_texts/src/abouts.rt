@@ -22,7 +22,8 @@ pub const TABLES: &str = "Prints a line for each table: its name and its number 
 
 pub const SCHEMA: &str = "Prints a line for each field of a table";
 
-pub const CHECK: &str = "Reads all tables, and prints ok if all can be read";
+pub const CHECK: &str =
+    "Makes sure that the last change is on the disk, reads all tables, and prints ok if all can be read";
 
 pub const SALVAGE: &str =
     "Writes the readable rows of a damaged table as an Arrow IPC stream, and reports what is left out";
