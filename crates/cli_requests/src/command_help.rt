@@ -15,8 +15,9 @@ pub(crate) const COMMANDS: [CommandHelp; 17] = [
         about: abouts::FORMAT,
         example: "Example: arrowstore format store 4096
 
-The size is fixed. A sector takes space on the disk only after it has been written, so
-if in doubt, use 4194304, the maximum (2 GiB).",
+The size is fixed, and every sector is written now, so that no later change lacks space
+on the disk: 4096 sectors are 2 MiB, and the maximum, 4194304, is 2 GiB. `copy` makes a
+larger store of one that is full.",
     },
     CommandHelp {
         name: "create",
