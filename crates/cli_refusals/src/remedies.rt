@@ -56,7 +56,7 @@ pub const NEW_OUTPUT: &str = "Check the output, and run the command again: it ch
 pub const WAIT: &str = "Wait until the other program is done with it, and try again.";
 
 pub const NEW_PATH: &str =
-    "Give a path where nothing is: no file is overwritten. What an interrupted `format` or `copy` has left there may be deleted.";
+    "Give a path where nothing is, or delete what an interrupted `format` or `copy` has left there: no file is overwritten.";
 
 pub const FOLDER_OF_A_NEW_FILE: &str =
     "Check the path: its folder must exist, and you need the right to make files in it.";
@@ -204,7 +204,7 @@ pub const MORE_ROOM: &str =
     "Drop tables, use `compact`, or `copy` the store: the copy has longer free runs. If that does not help, or a `copy` is refused, give it more sectors.";
 
 pub const LOOK_AGAIN: &str =
-    "Check the disk. Then run `check`, until it is not refused with C4: what it reads stays. `tables` then shows what is done, and after a `compact` `info`.";
+    "Check the disk, then run `check`: what it reads stays. `tables`, or `info` after a `compact`, then shows what is done.";
 
 pub const IMPORT_AGAIN: &str =
     "Save the readable rows of the table with `salvage`, and drop it or import it again. Then run `check` once more: other tables may be damaged too.";
