@@ -1,7 +1,7 @@
 -- The story of a file in memory that keeps its initial contents, and each write and sync since.
 use Rattle.std.specs.Prelude.{◌≡◌, ◌⊎◌, ◌<◌, ◌≤◌, ◌+◌, ◌-◌, ℕ, List, [], ◌∷◌, ◌++◌, Option, Some, length, get_or}
 use Rattle.std.proofs.Common.{refl, ap}
-use Rattle.sector_dev.specs.Disk.{Disk, Story, now, flushed}
+use Rattle.sector_dev.specs.Disk.{Story, now, flushed}
 use Rattle.sector_dev.specs.Rows.{row_from, grown}
 use Rattle.sector_dev.specs.History.{all_synced, content_at}
 use Rattle.sector_dev.specs.inner.Stored.{stored_at}

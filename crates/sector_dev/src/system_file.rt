@@ -13,11 +13,10 @@ use std::slice;
 
 mod locking;
 mod made;
+mod ruling;
 
 pub use locking::LockFile;
-
-// The sectors that say what all others hold: a store keeps its commits in them.
-const RULING_SECTORS: u64 = 2;
+use ruling::{RULING_SECTORS, RulingSectors};
 
 /// A file of the system, which holds its sectors in order. It tells no story: that it keeps the laws of `SectorFile` is trusted
 /// (docs/definitions/device.md).
@@ -25,8 +24,8 @@ const RULING_SECTORS: u64 = 2;
 pub struct SystemFile<F: Read + Write + Seek + OpenFile + Drop> {
     file: F,
     sectors: u64,
-    // nothing is known yet of what an earlier program has left, and the file can be written
-    doubtful: bool,
+    // until the first sync of a file that an earlier program may have left in doubt
+    ruling: Option<RulingSectors>,
     ghost within: { sectors ≤ MOST_SECTORS },
 }
 
@@ -54,27 +53,21 @@ fn write_at<F: Write + Seek>(
     file.write_all(contents.as_flattened())
 }
 
-// Writes this sector again as reads show it. If it can't be read, it is left alone.
-fn write_again<F: Read + Write + Seek>(file: &mut F, n: u64) -> io::Result<()>
-    requires { n ≤ MOST_SECTORS }
-{
-    let mut content = [0; SECTOR_BYTES];
-    if read_at(file, n, slice::from_mut(&mut content)).is_err() {
-        return Ok(());
-    }
-    write_at(file, n, slice::from_ref(&content))
-}
-
 // Syncs the file. A write or a sync that failed earlier, perhaps in another program, may have left what reads show in the system's copies alone, and the
-// system would not write it again: so the first sync has it write the ruling sectors.
-fn sync<F: Read + Write + Seek + OpenFile>(file: &mut F, doubtful: &mut bool) -> io::Result<()> {
-    if *doubtful {
+// system would not write it again: so the first sync has it write the ruling sectors, as they were read.
+fn sync<F: Write + Seek + OpenFile>(
+    file: &mut F,
+    ruling: &mut Option<RulingSectors>,
+) -> io::Result<()> {
+    if let Some(ruling) = ruling {
         for n in 0..RULING_SECTORS {
-            write_again(file, n)?;
+            if let Some(content) = ruling.shown(n) {
+                write_at(file, n, slice::from_ref(content))?;
+            }
         }
     }
     file.sync_data()?;
-    *doubtful = false;
+    *ruling = None;
     Ok(())
 }
 
@@ -107,7 +100,13 @@ impl<F: Read + Write + Seek + OpenFile + Drop> SectorFile for SystemFile<F> {
     }
 
     fn read_at(&mut self, start: u64, to: &mut [[u8; SECTOR_BYTES]]) -> Result<(), FileFault> {
-        answer(read_at(&mut self.file, start, to))
+        let done = answer(read_at(&mut self.file, start, to));
+        if let Some(ruling) = &mut self.ruling
+            && done.is_ok()
+        {
+            ruling.note_read(start, to);
+        }
+        done
     }
 
     // A write that failed may have begun: whether it did is not known.
@@ -116,10 +115,13 @@ impl<F: Read + Write + Seek + OpenFile + Drop> SectorFile for SystemFile<F> {
         ensures size { self.new.sectors ≡ self.old.sectors }
         ensures written { OnOk result (Writes ⟦<F as Write>⟧ ⟦<F as Seek>⟧ (start * 512) contents.now self.old.file self.new.file) }
     {
+        if let Some(ruling) = &mut self.ruling {
+            ruling.note_written(start, contents);
+        }
         answer(write_at(&mut self.file, start, contents))
     }
 
     fn sync_data(&mut self) -> Result<(), FileFault> {
-        answer(sync(&mut self.file, &mut self.doubtful))
+        answer(sync(&mut self.file, &mut self.ruling))
     }
 }

@@ -1,5 +1,5 @@
 -- The proof that a story has only whole contents is unique.
-use Rattle.std.specs.Prelude.{ℕ, List, [], ◌∷◌, length, get_or, Option, Some, None, IfSome}
+use Rattle.std.specs.Prelude.{ℕ, List, [], ◌∷◌, length, Option, Some, None, IfSome}
 use Rattle.std.specs.Coded.{Coded-set, coded_ℕ, coded_list, coded_option, ×_prop, Π_prop, Unit-prop, le_prop}
 use Rattle.sector_dev.specs.Disk.{Disk, Sector, Story, IsContent, AreContents, HoldsContents, IsWhole, Each}
 use Rattle.sector_dev.specs.Behind.{ReadsAs}

@@ -3,13 +3,13 @@ ghost use Rattle.std.specs.Prelude.{◌≡◌, ◌≤◌};
 ghost use Rattle.sector_dev.specs.View.{opened_file};
 ghost use Rattle.sector_dev.specs.declared.file.TheConstants.{MOST_SECTORS};
 
-use super::SystemFile;
+use super::{RulingSectors, SystemFile};
 use std::fs::OpenFile;
 use std::io::{Read, Seek, Write};
 
 impl<F: Read + Write + Seek + OpenFile + Drop> SystemFile<F> {
-    // A file with this number of sectors. It is doubtful if it can be written, and another program may have written it before.
-    pub(crate) fn over(file: F, sectors: u64, doubtful: bool) -> SystemFile<F>
+    // A file with this number of sectors. It is in doubt if another program may have left it so, and it can be written.
+    pub(crate) fn over(file: F, sectors: u64, in_doubt: bool) -> SystemFile<F>
         requires { sectors ≤ MOST_SECTORS }
         ensures sectors { result.sectors ≡ sectors }
         ensures file { opened_file result ≡ file }
@@ -17,7 +17,7 @@ impl<F: Read + Write + Seek + OpenFile + Drop> SystemFile<F> {
         SystemFile {
             file,
             sectors,
-            doubtful,
+            ruling: in_doubt.then(RulingSectors::unread),
         }
     }
 
