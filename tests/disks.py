@@ -91,7 +91,15 @@ def pending_of(state):
 
 
 def now(state):
-    return Moment(state.media, pending_of(state), tuple({len(state.media), len(state.file)}))
+    return Moment(state.media, pending_of(state), tuple(dict.fromkeys((len(state.media), len(state.file)))))
+
+
+def simplified(state):
+    """A state that each later command meets as it meets this one: a dirty page that has what the disk has is clean, and any number of failures is one."""
+    dirty = {sector * SECTOR // PAGE for sector in pending_of(state)}
+    _, is_told = struct.unpack("<qq", state.errors)
+    pages = bytes(DIRTY if page in dirty else CLEAN for page in range(len(state.pages)))
+    return state._replace(pages=pages, errors=struct.pack("<qq", 1, is_told))
 
 
 def with_failed_writeback(state, reaches, is_told):
