@@ -16,6 +16,7 @@ from disks import HERE, ROOM
 # The number of an open file of the mounts that were there before the test had its own.
 BEFORE = "MOUNTS_BEFORE"
 FIEMAP = 0xC020660B
+UNWRITTEN = 0x800
 BLOCK = 4096
 MAKE = {
     "ext4": (16 << 20, ["mkfs.ext4", "-q", "-F", "-b", str(BLOCK)]),
@@ -139,23 +140,25 @@ class BlockDisk:
         self.control("heal")
 
     def extents(self):
-        """The bytes of the disk that the store's file has: their places in the file and on the disk, and their sizes."""
+        """The bytes of the disk that the store's file has, and that were written: their places in the file and on the disk, and their sizes."""
         with open(self.path, "rb") as file:
             told = bytearray(struct.pack("<QQIIII", 0, 1 << 40, 1, 0, 64, 0) + bytes(64 * 56))
             fcntl.ioctl(file, FIEMAP, told)
-        number = struct.unpack_from("<I", told, 20)[0]
-        return [struct.unpack_from("<QQQ", told, 32 + 56 * place) for place in range(number)]
+        found = [struct.unpack_from("<QQQQQI", told, 32 + 56 * place) for place in range(struct.unpack_from("<I", told, 20)[0])]
+        return [(start, place, size) for start, place, size, _, _, flags in found if not flags & UNWRITTEN]
 
     def writes(self):
         """How much was written and flushed so far."""
         return len(entries_of(self.log))
 
     def cut_images(self, start, most, chance):
-        """What the disk may have after a power cut at moments since `start`: at the last one, and at others; with all that was written by then, and with some
-        of that since the last flush left out."""
+        """What the disk may have after a power cut at moments since `start`: at the last one, at so many behind a flush, and at another; with all that was
+        written by then, and with some of that since the last flush left out."""
         entries = entries_of(self.log)
-        moments = list(range(start, len(entries)))
-        for moment in [len(entries), *sorted(chance.sample(moments, min(most, len(moments))), reverse=True)]:
+        flushed = [place + 1 for place in range(start, len(entries)) if entries[place].kind == "f"]
+        others = range(start, len(entries) if most else start)
+        chosen = {*chance.sample(flushed, min(most, len(flushed))), *chance.sample(others, min(1, len(others)))}
+        for moment in [len(entries), *sorted(chosen, reverse=True)]:
             last = max((place for place in range(moment) if entries[place].kind == "f"), default=0)
             kept = [entry for place, entry in enumerate(entries[:moment]) if place < last or chance.random() < 0.5]
             yield moment, self.image(entries[:moment])

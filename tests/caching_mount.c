@@ -1,7 +1,7 @@
-/* Shows one folder at another place (libfuse3): `caching_mount BEFORE FOLDER WRITES MOUNT`. The system keeps the pages that it has read through this mount,
-   also when the file is opened again, and is not told when the file is written through another mount: so two mounts of one folder stand for two machines over
-   one file system. Where WRITES is `back`, the system writes to the folder only when it is told to sync, and by whole pages; where it is `through`, at once.
-   Locks (flock) are those of the files below, so each mount knows those of the other. */
+/* Shows one folder at another place (libfuse3): `caching_mount BEFORE FOLDER WRITES MOUNT`. The system keeps the pages that it has read through this mount
+   until the file is opened again, as it does over NFS, and is not told when the file is written through another mount: so two mounts of one folder stand for
+   two machines over one file system. Where WRITES is `back`, the system writes to the folder only when it is told to sync or the file is closed, and by whole
+   pages; where it is `through`, at once. Locks (flock) are those of the files below, so each mount knows those of the other. */
 #define FUSE_USE_VERSION 31
 #define _GNU_SOURCE
 #include "apart.h"
@@ -36,14 +36,12 @@ static int opened(const char *path, struct fuse_file_info *file) {
         flags = (flags & ~O_ACCMODE) | O_RDWR;
     int handle = openat(folder, below(path), flags);
     file->fh = handle;
-    file->keep_cache = 1;
     return handle < 0 ? -errno : 0;
 }
 
 static int created(const char *path, mode_t mode, struct fuse_file_info *file) {
     int handle = openat(folder, below(path), file->flags | O_CREAT, mode);
     file->fh = handle;
-    file->keep_cache = 1;
     return handle < 0 ? -errno : 0;
 }
 
@@ -81,7 +79,6 @@ static int removed(const char *path) {
 
 static void *begun(struct fuse_conn_info *connection, struct fuse_config *settings) {
     settings->attr_timeout = settings->entry_timeout = settings->ac_attr_timeout = 3600;
-    settings->kernel_cache = 1;
     leave_mounts(before);
     connection->want &= ~FUSE_CAP_AUTO_INVAL_DATA;
     if (writes_back)

@@ -1,15 +1,16 @@
 /* Loaded before the C library: the system's copies of the pages of one file, DISK_FILE, and the disk below them, as Linux has them when writing fails. The
    file itself stands for the copies: reads show it, also those of a later process. The folder DISK has what a later process finds, too:
      media   what the disk holds
-     pages   a byte for each 4,096 bytes of the file: 0 as on the disk; 1 dirty; 2 stale: writing it back failed, it counts as clean, and no sync writes it
+     pages   a byte for each 4,096 bytes of the file: 1 if the page is dirty, 0 if it counts as clean
      errors  how often writing back failed, and whether some sync has told the last time
      calls   each call on the file, in order; a write with the whole pages that it touched
-   A sync writes the dirty pages. One that fails makes them stale; the disk then has any of their sectors (DISK_REACHED: 0 none of them, 1 all, else a draw).
-   It fails also if writing back failed before, and its file was open then, or nobody was told yet. Dropping pages (POSIX_FADV_DONTNEED) shows the disk again
-   in each block of DISK_FOLIO bytes that lies wholly in the range and is not dirty.
+   A write makes the pages that it touches dirty as wholes, also if it writes what they have. A sync writes all eight sectors of each dirty page as reads show
+   them. Where that fails, the pages count as clean all the same: reads show what was written, the disk has any of their sectors (DISK_REACHED: 0 none of them,
+   1 all, else a draw), and no later sync writes them, unless they are written again. A sync fails also if writing back failed before, and its file was open
+   then, or nobody was told yet.
    Each call reaches the system as well, whose failures are told.
    The call of number DISK_CALL, counted from 1, goes wrong as DISK_HOW says: `fail` with DISK_ERROR, a write after DISK_PART bytes; `short`, it moves at most
-   DISK_PART bytes; `kill`, the process is killed before it; `killed`, after it; `lose`, writing back all that is dirty has failed before it. */
+   DISK_PART bytes; `kill`, the process is killed before it; `killed`, after it. */
 #define _GNU_SOURCE
 #include <errno.h>
 #include <fcntl.h>
@@ -23,12 +24,12 @@
 #include <unistd.h>
 
 enum { PAGE = 4096, SECTOR = 512, HANDLES = 1024 };
-enum state { AS_ON_DISK, DIRTY, STALE };
+enum state { CLEAN, DIRTY };
 enum handle { OTHER, OURS, FOLDER };
 
 static const char *path, *how;
 static int file = -1, media, pages, errors, calls;
-static long number, call, error, part, reached, folio;
+static long number, call, error, part, reached;
 static struct { enum handle kind; long told; } handles[HANDLES];
 
 static long given(const char *name, long otherwise) {
@@ -65,7 +66,6 @@ __attribute__((constructor)) static void begin(void) {
     error = given("DISK_ERROR", EIO);
     part = given("DISK_PART", 0);
     reached = given("DISK_REACHED", 0);
-    folio = given("DISK_FOLIO", PAGE);
     media = beside("media", 0);
     pages = beside("pages", 0);
     errors = beside("errors", 0);
@@ -82,7 +82,7 @@ static long length(void) {
 }
 
 static enum state state_of(long page) {
-    char state = AS_ON_DISK;
+    char state = CLEAN;
     get_at(pages, &state, 1, page);
     return state;
 }
@@ -127,7 +127,7 @@ static void lose_page(long page) {
     for (long at = page * PAGE; at < (page + 1) * PAGE; at += SECTOR)
         if (reaches())
             copy(file, media, at, SECTOR);
-    set_state(page, STALE);
+    set_state(page, CLEAN);
 }
 
 static void write_back(int fails) {
@@ -138,7 +138,7 @@ static void write_back(int fails) {
             lose_page(page);
         } else {
             copy(file, media, page * PAGE, PAGE);
-            set_state(page, AS_ON_DISK);
+            set_state(page, CLEAN);
         }
     }
     if (fails)
@@ -156,8 +156,6 @@ static int goes_wrong(void) {
     number++;
     if (is_how("kill"))
         kill(getpid(), SIGKILL);
-    if (is_how("lose"))
-        write_back(1);
     return is_how("fail") || is_how("short");
 }
 
@@ -326,35 +324,6 @@ int ftruncate(int handle, off_t length) {
 }
 
 int ftruncate64(int handle, off_t length) __attribute__((alias("ftruncate")));
-
-/* Shows the disk again in one block of pages, unless one of them is dirty. */
-static void drop_block(long start, long end) {
-    for (long at = start; at < end; at += PAGE)
-        if (state_of(at / PAGE) == DIRTY)
-            return;
-    for (long at = start; at < end; at += PAGE) {
-        if (state_of(at / PAGE) != STALE)
-            continue;
-        copy(media, file, at, least(PAGE, end - at));
-        set_state(at / PAGE, AS_ON_DISK);
-    }
-}
-
-int posix_fadvise(int handle, off_t start, off_t size, int advice) {
-    if (kind_of(handle) != OURS)
-        return syscall(SYS_fadvise64, handle, start, size, advice);
-    long whole = length(), end = size ? least(start + size, whole) : whole;
-    int wrong = goes_wrong();
-    for (long at = (start + folio - 1) / folio * folio; !wrong && advice == POSIX_FADV_DONTNEED && at < end; at += folio)
-        if (least(at + folio, whole) <= end)
-            drop_block(at, least(at + folio, whole));
-    if (!wrong)
-        syscall(SYS_fadvise64, handle, start, size, advice);
-    noted('f', start, 0, wrong ? error : 0);
-    return wrong ? error : 0;
-}
-
-int posix_fadvise64(int handle, off_t start, off_t size, int advice) __attribute__((alias("posix_fadvise")));
 
 int unlink(const char *name) {
     if (!path || strcmp(name, path))

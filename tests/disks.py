@@ -12,7 +12,7 @@ from typing import NamedTuple
 HERE = os.path.dirname(os.path.abspath(__file__))
 SECTOR = 512
 PAGE = 4096
-DIRTY, STALE = 1, 2
+CLEAN, DIRTY = 0, 1
 # Where there is a folder in memory, and no other is asked for, no image goes through a disk of this machine.
 MEMORY = "/dev/shm" if os.access("/dev/shm", os.W_OK) and "TMPDIR" not in os.environ else None
 ROOM = tempfile.TemporaryDirectory(dir=MEMORY)
@@ -36,7 +36,7 @@ def put(path, made):
 
 
 class Call(NamedTuple):
-    """`kind`: o open, c create, l lock, k seek, r read, w write, s and S syncs, d sync of the folder, t length, f advice, u remove, x close; a the answer.
+    """`kind`: o open, c create, l lock, k seek, r read, w write, s and S syncs, d sync of the folder, t length, u remove, x close; a the answer.
     Of a write, `content` are the whole pages that it touched, from `place` on."""
     number: int
     kind: str
@@ -46,7 +46,7 @@ class Call(NamedTuple):
 
 
 class State(NamedTuple):
-    """What the system shows of the file, what the disk holds, the state of each page, and the failures that were told or not."""
+    """What the system shows of the file, what the disk holds, which pages are dirty, and the failures that were told or not."""
     file: bytes
     media: bytes
     pages: bytes
@@ -55,12 +55,13 @@ class State(NamedTuple):
 
 class Moment(NamedTuple):
     """A time at which the power may fail: what is on the disk, the contents that each sector may have in place of it, the lengths that the file may have,
-    whether the file has a name that lasts, and whether the command was acknowledged."""
+    whether the file has a name that lasts, whether a sync has succeeded since the calls began, and whether the command was acknowledged."""
     base: bytes
     pending: dict
     lengths: tuple
-    is_named: bool
-    is_acknowledged: bool
+    is_named: bool = True
+    is_synced: bool = False
+    is_acknowledged: bool = False
 
 
 def synced(image):
@@ -73,19 +74,32 @@ def sectors_of(made, first):
         yield first + place // SECTOR, made[place:place + SECTOR]
 
 
+def on_disk(media, sector):
+    """A sector that the disk does not have yet reads as zeros once it is in the file."""
+    return media[sector * SECTOR:(sector + 1) * SECTOR].ljust(SECTOR, b"\0")
+
+
 def pending_of(state):
     """The contents that the dirty pages would give to sectors of the disk."""
     pending = {}
     for page, kind in enumerate(state.pages):
         if kind == DIRTY:
             for sector, there in sectors_of(state.file[page * PAGE:(page + 1) * PAGE], page * PAGE // SECTOR):
-                if there != state.media[sector * SECTOR:(sector + 1) * SECTOR]:
+                if there != on_disk(state.media, sector):
                     pending[sector] = (there,)
     return pending
 
 
-def now(state, is_acknowledged=False):
-    return Moment(state.media, pending_of(state), (len(state.media),), True, is_acknowledged)
+def now(state):
+    return Moment(state.media, pending_of(state), tuple(dict.fromkeys((len(state.media), len(state.file)))))
+
+
+def simplified(state):
+    """A state that each later command meets as it meets this one: a dirty page that has what the disk has is clean, and any number of failures is one."""
+    dirty = {sector * SECTOR // PAGE for sector in pending_of(state)}
+    _, is_told = struct.unpack("<qq", state.errors)
+    pages = bytes(DIRTY if page in dirty else CLEAN for page in range(len(state.pages)))
+    return state._replace(pages=pages, errors=struct.pack("<qq", 1, is_told))
 
 
 def with_failed_writeback(state, reaches, is_told):
@@ -93,10 +107,11 @@ def with_failed_writeback(state, reaches, is_told):
     media, pages = bytearray(state.media), bytearray(state.pages)
     for sector, (there,) in pending_of(state).items():
         if reaches(sector):
+            media = media.ljust((sector + 1) * SECTOR, b"\0")
             media[sector * SECTOR:(sector + 1) * SECTOR] = there
     for page, kind in enumerate(pages):
         if kind == DIRTY:
-            pages[page] = STALE
+            pages[page] = CLEAN
     count, _ = struct.unpack("<qq", state.errors)
     return State(state.file, bytes(media), bytes(pages), struct.pack("<qq", count + 1, is_told))
 
@@ -108,35 +123,54 @@ def settled(base, pending):
     return bytes(image)
 
 
+def with_clean_pages_dropped(state):
+    """The state once the system has used the memory of all clean pages for something else: then reads show the disk."""
+    file = bytearray(state.file)
+    for page, kind in enumerate(state.pages):
+        if kind == CLEAN:
+            file[page * PAGE:(page + 1) * PAGE] = state.media[page * PAGE:(page + 1) * PAGE]
+    return state._replace(file=bytes(file))
+
+
+def after_call(moment, call):
+    """The same moment after a call that leaves one more thing in doubt, or one less."""
+    if call.kind == "c":
+        return moment._replace(is_named=False)
+    if call.kind == "w":
+        end = call.place + len(call.content)
+        lengths = (*moment.lengths, end) if end > moment.lengths[-1] else moment.lengths
+        return moment._replace(pending=with_write(moment.base, moment.pending, call), lengths=lengths)
+    if call.kind == "a":
+        return moment._replace(is_acknowledged=True)
+    if call.result != 0:
+        return moment
+    if call.kind == "t":
+        return moment._replace(lengths=(*moment.lengths, call.place))
+    if call.kind == "d":
+        return moment._replace(is_named=True)
+    if call.kind in "sS":
+        length = moment.lengths[-1]
+        return moment._replace(base=settled(moment.base.ljust(length, b"\0"), moment.pending), pending={}, lengths=(length,), is_synced=True)
+    return moment
+
+
 def moments(state, calls):
     """The last moment before each sync succeeds, the one of the answer, and the end. What may be left at another one may be left at one of these."""
-    base, pending, lengths, is_named = state.media, pending_of(state), (len(state.media),), True
-    is_acknowledged = False
+    moment = now(state)
     for call in calls:
-        if call.kind in "sS" and call.result == 0:
-            yield Moment(base, pending, lengths, is_named, is_acknowledged)
-            base, pending = settled(base.ljust(lengths[-1], b"\0"), pending), {}
-            lengths = lengths[-1:]
-        elif call.kind == "c":
-            is_named = False
-        elif call.kind == "d" and call.result == 0:
-            yield Moment(base, pending, lengths, is_named, is_acknowledged)
-            is_named = True
-        elif call.kind == "t" and call.result == 0:
-            lengths += (call.place,)
-        elif call.kind == "w":
-            pending = with_write(base, pending, call)
-        elif call.kind == "a":
-            is_acknowledged = True
-            yield Moment(base, pending, lengths, is_named, is_acknowledged)
-    yield Moment(base, pending, lengths, is_named, is_acknowledged)
+        if call.kind in "dsS" and call.result == 0:
+            yield moment
+        moment = after_call(moment, call)
+        if call.kind == "a":
+            yield moment
+    yield moment
 
 
 def with_write(base, pending, call):
     pending = dict(pending)
     for sector, there in sectors_of(call.content, call.place // SECTOR):
         contents = pending.get(sector, ())
-        newest = contents[-1] if contents else base[sector * SECTOR:(sector + 1) * SECTOR].ljust(SECTOR, b"\0")
+        newest = contents[-1] if contents else on_disk(base, sector)
         if there != newest:
             pending[sector] = (*contents, there)
     return pending
@@ -212,7 +246,7 @@ class Disk:
         return State(made, media, pages.ljust(-(-len(made) // PAGE), b"\0"), errors or struct.pack("<qq", 0, 1))
 
     def run(self, words, given=b"", **fault):
-        """The status, what was said and written, and the calls on the file. `fault`: call, how, error, part, reached, folio of tests/disk_model.c."""
+        """The status, what was said and written, and the calls on the file. `fault`: call, how, error, part, reached of tests/disk_model.c."""
         settings = {f"DISK_{name.upper()}": str(value) for name, value in fault.items()}
         extra = {"LD_PRELOAD": library(), "DISK": self.folder, "DISK_FILE": self.path, **settings}
         command = [self.program, *(self.path if word == "STORE" else word for word in words)]
