@@ -101,6 +101,7 @@ bench-recode: bin/arrowstore
 
 bench-dictionaries: bin/arrowstore
 	bench/dictionaries bin/arrowstore
+	bench/dictionaries bin/arrowstore --times
 
 bench-shapes: bin/arrowstore
 	bench/shapes bin/arrowstore
