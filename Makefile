@@ -69,7 +69,8 @@ wrong-bodies:
 memory: $(TESTS)
 	tests/refused_memory_in_crates $(REFUSING)
 
-# The program as it is built, on whole streams, with failing input and output, with each read and each write failed and each allocation refused; then texts.
+# The program as it is built, on whole streams, with failing input and output, with each read and each write failed and each allocation refused; then texts
+# and drawn refusals.
 vectors: bin/arrowstore
 	tests/readme bin/arrowstore
 	tests/recipes bin/arrowstore
@@ -90,6 +91,7 @@ vectors: bin/arrowstore
 	tests/failing_writes bin/arrowstore
 	tests/run_vectors bin/arrowstore tests/vectors/ints tests/vectors/streams tests/vectors/traps
 	tests/texts bin/arrowstore tests/vectors/texts.jsonl tests/vectors/texts_worked.jsonl
+	tests/advice bin/arrowstore
 	tests/dist bin/arrowstore
 
 bench: bench-recode bench-dictionaries bench-shapes bench-texts bench-store bench-device bench-bitmap

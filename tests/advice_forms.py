@@ -6,13 +6,13 @@ from fields import is_nested, printed, range_of
 from text_rules import GZIP, MARK, UTF_16
 
 PAGE = os.path.join(os.path.dirname(os.path.abspath(__file__)), "..", "docs", "refusals.md")
-MOST_LISTED, MOST_EDITS = 20, 2
+MOST_LISTED, MOST_EDITS, SECTOR = 20, 2, 512
 TYPES = ("null bool int8 int16 int32 int64 uint8 uint16 uint32 uint64 utf8 large_utf8 binary large_binary date_day date_ms "
          "timestamp_s timestamp_ms timestamp_us timestamp_ns").split()
 # Types that other systems name so, as far as they are drawn.
-MEANT = {"string": {"utf8"}, "text": {"utf8"}, "str": {"utf8"}, "varchar": {"utf8"}, "int": {"int64"}, "integer": {"int64"}, "bigint": {"int64"}, "long": {"int64"},
-         "boolean": {"bool"}, "bytes": {"binary"}, "blob": {"binary"}, "date": {"date_day"}, "datetime": {"timestamp_us"}, "timestamp": {"timestamp_us"},
-         "smallint": {"int16"}, "tinyint": {"int8"}}
+MEANT = {"string": {"utf8"}, "text": {"utf8"}, "str": {"utf8"}, "varchar": {"utf8"}, "int": {"int64"}, "integer": {"int64"}, "bigint": {"int64"},
+         "long": {"int64"}, "boolean": {"bool"}, "bytes": {"binary"}, "blob": {"binary"}, "date": {"date_day"}, "datetime": {"timestamp_us"},
+         "timestamp": {"timestamp_us"}, "smallint": {"int16"}, "tinyint": {"int8"}}
 
 
 def edits(one, other):
@@ -57,12 +57,36 @@ def is_range(facts, text, least, most):
 
 def is_below(facts, name):
     """Whether a column with parts has this name, and the refused name is that of a part of it, and of no column."""
-    is_column = any(field.name == facts.asked for field in facts.columns or ())
-    return not is_column and any(field.name == name and is_nested(field.kind) for field in facts.columns or ()) and facts.asked.startswith((name + ".", name + "["))
+    columns = facts.columns or ()
+    is_column = any(field.name == facts.asked for field in columns)
+    has_parts = any(field.name == name and is_nested(field.kind) for field in columns)
+    return not is_column and has_parts and facts.asked.startswith((name + ".", name + "["))
 
 
 def is_count_of_items(facts, path, found, wanted):
     return path == facts.path and facts.items is not None and found == counted(facts.items, "item") and int(wanted) == facts.size
+
+
+def is_header(facts, found, wanted):
+    return is_shown_as(found, facts.found) and wanted == facts.wanted
+
+
+def is_no_regular_file(facts, path):
+    return path == facts.path and facts.is_no_file is True and not os.path.isdir(path)
+
+
+def is_literal(facts, text, field):
+    return text == facts.literal and facts.field is not None and field == printed(facts.field)
+
+
+def is_other_field(facts, found, wanted):
+    """Whether the stream has the one field in place of the other. One that is not shown is none."""
+    return facts.other is not None and wanted == printed(facts.other[1]) and found in (None, printed(facts.other[0]))
+
+
+def is_made_with(facts, path, length, sectors, whole):
+    is_size = facts.made_with is not None and int(whole) == SECTOR * facts.made_with
+    return is_size and path == facts.path and int(length) == os.stat(path).st_size and int(sectors) == facts.made_with
 
 
 def refused_as(role):
@@ -100,10 +124,10 @@ FORMS = {
     "no_null_test": (r"It ends neither in `is null` nor in `is not null`\. ",
                      lambda facts: facts.operator == "is" and not facts.condition.endswith((" is null", " is not null"))),
     "operator": (r"`(.*)` is not an operator\. ", lambda facts, text: text == facts.operator and text not in ("=", "!=", "<", "<=", ">", ">=", "is")),
-    "literal": (r"`(.*)` is not a value of `(.*)`\. ", lambda facts, text, field: text == facts.literal and facts.field is not None and field == printed(facts.field)),
+    "literal": (r"`(.*)` is not a value of `(.*)`\. ", is_literal),
     # Texts of CSV.
     "nested": (r"The column `(.*)` is a list or a struct\. ", lambda facts, name: name == facts.nested),
-    "header_names": (r"The header names `(.*)` where the table has `(.*)`\. ", lambda facts, found, wanted: is_shown_as(found, facts.found) and wanted == facts.wanted),
+    "header_names": (r"The header names `(.*)` where the table has `(.*)`\. ", is_header),
     "other_name": (r"The header has another name where the table has `(.*)`\. ", lambda facts, wanted: facts.found is not None and wanted == facts.wanted),
     "header_counts": (r"The header has (.*)\. ", lambda facts, text: are_counts(text, facts.names, "name", facts.columns)),
     "no_header": (r"The input has no header\. ", lambda facts: facts.names == 0),
@@ -133,9 +157,8 @@ FORMS = {
     "items": (r"The field `(.*)` has (\d+ items?) instead of (\d+)\. ", is_count_of_items),
     # Streams.
     "empty": (r"The input is empty\. ", lambda facts: facts.given == b""),
-    "other_field": (r"The input has `(.*)` where the table has `(.*)`\. ",
-                    lambda facts, found, wanted: facts.other is not None and (found, wanted) == tuple(map(printed, facts.other))),
-    "unshown_field": (r"The input has another field where the table has `(.*)`\. ", lambda facts, wanted: facts.other is not None and wanted == printed(facts.other[1])),
+    "other_field": (r"The input has `(.*)` where the table has `(.*)`\. ", is_other_field),
+    "unshown_field": (r"The input has another field where the table has `(.*)`\. ", lambda facts, wanted: is_other_field(facts, None, wanted)),
     "field_counts": (r"The input has (.*)\. ", lambda facts, text: are_counts(text, facts.fields, "field", facts.columns)),
     "unread_input": (r"The input cannot be read: (.*)\. ", lambda facts, reason: reason == facts.unread),
     "unwritten_output": (r"The output cannot be written: (.*)\. ", lambda facts, reason: reason == facts.unwritten),
@@ -143,11 +166,9 @@ FORMS = {
     "locked": (r"The file `(.*)` is locked by another program\. ", lambda facts, path: path == facts.path and facts.is_locked is True),
     "exists": (r"The file `(.*)` exists already\. ", lambda facts, path: path == facts.path and os.path.lexists(path)),
     "folder": (r"The file `(.*)` is a folder\. ", lambda facts, path: path == facts.path and os.path.isdir(path)),
-    "not_regular": (r"The file `(.*)` is not a regular file\. ", lambda facts, path: path == facts.path and not os.path.isfile(path) and not os.path.isdir(path)),
+    "not_regular": (r"The file `(.*)` is not a regular file\. ", is_no_regular_file),
     "length": (r"The file `(.*)` has (\d+) bytes\. ", lambda facts, path, length: path == facts.path and int(length) == os.stat(path).st_size),
-    "other_length": (r"The file `(.*)` has (\d+) bytes, but its store was made with (\d+) sectors \((\d+) bytes\)\. ",
-                     lambda facts, path, length, sectors, whole: (path, int(length), int(sectors), int(whole))
-                     == (facts.path, os.stat(path).st_size, facts.made_with, 512 * (facts.made_with or 0))),
+    "other_length": (r"The file `(.*)` has (\d+) bytes, but its store was made with (\d+) sectors \((\d+) bytes\)\. ", is_made_with),
     "later_version": (r"The file `(.*)` is a store of version (\d+), which this program does not know\. ",
                       lambda facts, path, version: path == facts.path and int(version) == facts.version),
     "unopened": (r"The file `(.*)` cannot be opened: (.*)\. ", lambda facts, path, reason: (path, reason) == (facts.path, facts.unopened)),
@@ -185,8 +206,9 @@ TO_DO = {
            ("Give a path where nothing is", lambda facts: facts.exists is True), ("Check the path: its folder", lambda facts: facts.unmade is not None),
            ("Check the path, and your rights", lambda facts: facts.unopened is not None), ("Check that it is a file", lambda facts: facts.unread is not None),
            ("Give the file of a store, or a disk", lambda facts: facts.is_no_file is True), ("Check the path, your rights", lambda facts: True)],
-    "G2": [("Give 16 to 4194304 sectors.", lambda facts: facts.sectors is not None), ("Give the file of a store, or a disk", lambda facts: facts.is_no_file is True),
-           ("If this is the new file", lambda facts: facts.made_with is not None and os.stat(facts.path).st_size == 512 * facts.made_with + 1),
+    "G2": [("Give 16 to 4194304 sectors.", lambda facts: facts.sectors is not None),
+           ("Give the file of a store, or a disk", lambda facts: facts.is_no_file is True),
+           ("If this is the new file", lambda facts: facts.made_with is not None and os.stat(facts.path).st_size == SECTOR * facts.made_with + 1),
            ("Use an earlier copy of the file. Or", lambda facts: facts.made_with is not None), ("Give the file of a store. If", lambda facts: True)],
 }
 

@@ -10,14 +10,14 @@ from text_rules import NAMES, Facts, claims_of_csv, claims_of_line, is_visible, 
 
 OPERATORS = ("=", "!=", "<", "<=", ">", ">=")
 CREATABLE = re.compile(r"[^ :,<>()?\"]+")
-LITERALS = ("x", "", "1", "-5", "2024-01-01", "'x'", "true", "TRUE", "0g", "00ff", "18446744073709551615", "18446744073709551616", "-9223372036854775809", "1.5", "null", " 1",
-            "x and b = 2", "\x1b", "9" * 101, "`", "é")
+LITERALS = ("x", "", "1", "-5", "2024-01-01", "'x'", "true", "TRUE", "0g", "00ff", "18446744073709551615", "18446744073709551616", "-9223372036854775809",
+            "1.5", "null", " 1", "x and b = 2", "\x1b", "9" * 101, "`", "é")
 TABLE_NAMES = ("t", "log", "daily", "iso.8601", "a-b", "A_1", "z" * 64, "0", "-", "...")
 BAD_NAMES = ("", "a b", "é", "z" * 65, "a/b", "a\x1b", "a:b", "`", "x" * 120, "a\u200bb", "a,b")
-WORDS_OF_TYPES = ("string", "text", "int", "integer", "bigint", "boolean", "bytes", "date", "datetime", "timestamp", "float", "double", "decimal", "int9", "in32", "uint46",
-                  "Utf8", "utf-8", "bol", "nul", "int128", "timestamp_m", "large_utf", "time", "uuid", "x", "")
-WRONG_TYPES = ("list<float>", "struct<x:int8,>", "fixed_binary(01)", "dict<utf8,int8>", "dict<int8,list<int8>>", "int8??", "timestamp_s()", "list<int8", "list<>", "int8)",
-               "fixed_list(2)", "utf8 ", "dict<int8>", "\"a\"", "fixed_binary(x)", "struct<int8>", "list<int8>x")
+WORDS_OF_TYPES = ("string", "text", "int", "integer", "bigint", "boolean", "bytes", "date", "datetime", "timestamp", "float", "double", "decimal", "int9",
+                  "in32", "uint46", "Utf8", "utf-8", "bol", "nul", "int128", "timestamp_m", "large_utf", "time", "uuid", "x", "")
+WRONG_TYPES = ("list<float>", "struct<x:int8,>", "fixed_binary(01)", "dict<utf8,int8>", "dict<int8,list<int8>>", "int8??", "timestamp_s()", "list<int8",
+               "list<>", "int8)", "fixed_list(2)", "utf8 ", "dict<int8>", "\"a\"", "fixed_binary(x)", "struct<int8>", "list<int8>x")
 LACKING = ("list", "large_list", "fixed_list", "struct", "dict", "fixed_binary")
 # Types that no table has: their codes, tables and names.
 NOT_HELD = ((3, streams.Table((2, 2)), "FloatingPoint"), (3, streams.Table((2, 1)), "FloatingPoint"), (7, streams.Table((4, 10), (4, 2)), "Decimal"),
@@ -43,22 +43,22 @@ def of_text(store, name, drawn):
     return Draw(["append", store, name, *drawn.words], drawn.given, f"{facts.code} {NAMES[facts.code]} {facts.number}", facts, due)
 
 
-def draw_text(pick, shop):
-    name, fields = pick.choice(list(shop.tables.items()))
+def draw_text(pick, stores):
+    name, fields = pick.choice(list(stores.tables.items()))
     drawn = (drawn_texts.draw_csv if pick.random() < 0.5 else drawn_texts.draw_lines)(pick, fields)
-    return of_text(shop.path, name, drawn)
+    return of_text(stores.path, name, drawn)
 
 
-def draw_large_row(pick, shop):
+def draw_large_row(pick, stores):
     """A row that is too heavy, or has more values than the indices of its dictionary name."""
-    name = pick.choice(list(shop.large))
+    name = pick.choice(list(stores.large))
     form = pick.choice(("csv", "jsonl")) if name == "heavy" else "jsonl"
     if name == "heavy":
         given = pick.choice((b"h\n\"\"\n", b"\nh\r\n\r\n\"\"", b'"h"\n""\n""')) if form == "csv" else pick.choice((b"[null]", b"{}\n", b'\n{"h":null}'))
     else:
         given = "\n".join(str([list(range(pick.choice((3, 128, size))))]) for size in (128, 300, 300)).encode()
-    refused = refused_in_csv(shop.large[name], given, b"") if form == "csv" else refused_in_lines(shop.large[name], given)
-    return of_text(shop.full, name, drawn_texts.DrawnText(["--as", form], given, refused)) if refused else draw_large_row(pick, shop)
+    refused = refused_in_csv(stores.large[name], given, b"") if form == "csv" else refused_in_lines(stores.large[name], given)
+    return of_text(stores.full, name, drawn_texts.DrawnText(["--as", form], given, refused)) if refused else draw_large_row(pick, stores)
 
 
 # ---- queries
@@ -145,20 +145,20 @@ def draw_condition(pick, fields):
     name, operator = draw_column(pick, fields), pick.choice(OPERATORS)
     if pick.random() < 0.75:
         return f"{name} {operator} {pick.choice(LITERALS)}"
-    return pick.choice((f"{name}{operator}1", f"{name} {operator}", f"{name} {operator}1", f"{name}  {operator} 1", f"{name} == 1", f"{name} is NULL", f"{name} is", f"{name} IS NULL",
-                        f"{name} is  null", f"{name} is null ", f"{name} like x", f"{name}", "", " ", f"{name} \x1b 1", f"{name} {'o' * 101} 1", f"{name} <> 1", f"{name} is null",
-                        f"{name} is not null"))
+    return pick.choice((f"{name}{operator}1", f"{name} {operator}", f"{name} {operator}1", f"{name}  {operator} 1", f"{name} == 1", f"{name} is NULL",
+                        f"{name} is", f"{name} IS NULL", f"{name} is  null", f"{name} is null ", f"{name} like x", f"{name}", "", " ", f"{name} \x1b 1",
+                        f"{name} {'o' * 101} 1", f"{name} <> 1", f"{name} is null", f"{name} is not null"))
 
 
-def draw_query(pick, shop):
+def draw_query(pick, stores):
     while True:
-        name, fields = pick.choice(list(shop.tables.items()))
+        name, fields = pick.choice(list(stores.tables.items()))
         conditions = [draw_condition(pick, fields) for _ in range(pick.randrange(3))]
         columns = ",".join(draw_column(pick, fields) for _ in range(pick.randrange(1, 4))) if pick.random() < 0.4 else None
         is_objects, is_saved = pick.random() < 0.3, pick.random() < 0.2
         if refused := refused_query(fields, columns, conditions, is_objects and not is_saved):
             break
-    words = ["query", shop.path, name, *([f"--columns={columns}"] if columns is not None else [])]
+    words = ["query", stores.path, name, *([f"--columns={columns}"] if columns is not None else [])]
     words += ["--save", "saved"] if is_saved else ["--objects"] if is_objects else []
     line = {"Q1": "Q1 UnknownColumn", "Q2": "Q2 BadCondition", "Q3": "Q3 NotComparable"}[refused.code]
     due = [f"word_{refused.role}", *refused.about] if is_visible(refused.word) else []
@@ -174,34 +174,34 @@ def due_of_name(name, *about):
     return ["word_name", *about] if is_visible(name) else []
 
 
-def draw_unknown_table(pick, shop):
-    name = pick.choice([name for name in (*TABLE_NAMES, *BAD_NAMES, "t00", "T0", "t-1") if name not in shop.tables and not name.startswith("-")])
+def draw_unknown_table(pick, stores):
+    name = pick.choice([name for name in (*TABLE_NAMES, *BAD_NAMES, "t00", "T0", "t-1") if name not in stores.tables and not name.startswith("-")])
     given = b""
     if (command := pick.choice(("drop", "rename", "schema", "export", "salvage", "query", "append", "text"))) == "text":
-        words, given = ["append", shop.path, name, "--as", pick.choice(("csv", "jsonl"))], b"a\n1\n"
+        words, given = ["append", stores.path, name, "--as", pick.choice(("csv", "jsonl"))], b"a\n1\n"
     elif command == "append":
-        words, given = ["append", shop.path, name], stream_of([Field("a", Kind("int8"))])
+        words, given = ["append", stores.path, name], stream_of([Field("a", Kind("int8"))])
     else:
-        words = [command, shop.path, name, *(["new"] if command == "rename" else [])]
-    about = "tables" if shop.tables else "no_tables"
-    return Draw(words, given, "S1 NoTable", Facts("S1", role="name", word=name, tables=list(shop.tables)), due_of_name(name, about))
+        words = [command, stores.path, name, *(["new"] if command == "rename" else [])]
+    about = "tables" if stores.tables else "no_tables"
+    return Draw(words, given, "S1 NoTable", Facts("S1", role="name", word=name, tables=list(stores.tables)), due_of_name(name, about))
 
 
-def of_new_name(pick, shop, name, old):
+def of_new_name(pick, stores, name, old):
     """A command that makes a table of this name, or gives it to another one."""
-    makes = [(["create", shop.path, name, "a:int8"], b""), (["query", shop.path, old, "--save", name], b""), (["rename", shop.path, old, name], b"")]
+    makes = [(["create", stores.path, name, "a:int8"], b""), (["query", stores.path, old, "--save", name], b""), (["rename", stores.path, old, name], b"")]
     return pick.choice(makes)
 
 
-def draw_taken_name(pick, shop):
-    name, old = pick.sample(list(shop.tables), 2)
-    words, given = of_new_name(pick, shop, name, old)
+def draw_taken_name(pick, stores):
+    name, old = pick.sample(list(stores.tables), 2)
+    words, given = of_new_name(pick, stores, name, old)
     return Draw(words, given, "S2 NameTaken", Facts("S2", role="name", word=name), due_of_name(name))
 
 
-def draw_bad_name(pick, shop):
-    name, old = pick.choice(BAD_NAMES), pick.choice(list(shop.tables))
-    words, given = pick.choice((of_new_name(pick, shop, name, old), (["import", shop.path, name], stream_of([]))))
+def draw_bad_name(pick, stores):
+    name, old = pick.choice(BAD_NAMES), pick.choice(list(stores.tables))
+    words, given = pick.choice((of_new_name(pick, stores, name, old), (["import", stores.path, name], stream_of([]))))
     return Draw(words, given, "S3 BadName", Facts("S3", role="name", word=name), due_of_name(name))
 
 
@@ -239,25 +239,25 @@ def misspelt(pick, word):
     return word
 
 
-def draw_fields_refused(pick, shop):
+def draw_fields_refused(pick, stores):
     texts = [f"{name}:{pick.choice(TYPES)}?" for name in pick.sample(drawn_texts.PLAIN_NAMES, pick.randrange(4))]
     place = pick.randrange(len(texts) + 1)
     if pick.random() < 0.15:
         past = pick.choice(("a:fixed_binary(2147483648)", "a:fixed_list(99999999999,int8)", "a:" + "list<" * 32 + "int8" + ">" * 32))
-        return Draw(["create", shop.path, "new", "--", *texts[:place], past, *texts[place:]], b"", "P2 Limit", Facts("P2"), [])
+        return Draw(["create", stores.path, "new", "--", *texts[:place], past, *texts[place:]], b"", "P2 Limit", Facts("P2"), [])
     text, facts, about = wrong_field(pick)
     texts[place:place] = [text]
     facts.also(code="P1", role="field", word=text)
-    return Draw(["create", shop.path, "new", "--", *texts], b"", f"P1 BadText {place + 1}", facts, ["word_field", *about] if is_visible(text) else [])
+    return Draw(["create", stores.path, "new", "--", *texts], b"", f"P1 BadText {place + 1}", facts, ["word_field", *about] if is_visible(text) else [])
 
 
 # ---- streams
 
 
-def words_of_stream(pick, shop):
+def words_of_stream(pick, stores):
     """The words of a command that reads a stream, and what comes before its fault."""
-    table = pick.choice(list(shop.tables))
-    return pick.choice(((["recode"], ""), (["import", shop.path, "new"], "S5 Import "), (["append", shop.path, table], "S5 Import ")))
+    table = pick.choice(list(stores.tables))
+    return pick.choice(((["recode"], ""), (["import", stores.path, "new"], "S5 Import "), (["append", stores.path, table], "S5 Import ")))
 
 
 def with_field(pick, fields, made):
@@ -267,27 +267,27 @@ def with_field(pick, fields, made):
     return streams.schema([*tables[:place], made, *tables[place:]]) + streams.END
 
 
-def draw_type_not_held(pick, shop):
-    words, front = words_of_stream(pick, shop)
+def draw_type_not_held(pick, stores):
+    words, front = words_of_stream(pick, stores)
     name, (code, table, told) = drawn_texts.draw_name(pick), pick.choice(NOT_HELD)
     made = streams.field(name, pick.random() < 0.5, code, table)
     if pick.random() < 0.3:
         made = streams.field(name, True, streams.STRUCT, streams.Table(), [streams.field("x", True, 2, streams.integer("int8")), made])
-    given = with_field(pick, pick.choice(list(shop.tables.values())), made)
+    given = with_field(pick, pick.choice(list(stores.tables.values())), made)
     return Draw(words, given, f"{front}F12 TypeNotHeld {told}", Facts("F12", name=name), ["field"] if shown(name) is not None else [])
 
 
-def draw_bad_parameter(pick, shop):
-    words, front = words_of_stream(pick, shop)
+def draw_bad_parameter(pick, stores):
+    words, front = words_of_stream(pick, stores)
     name = drawn_texts.draw_name(pick)
     made = streams.field(name, True, streams.INT, streams.Table((4, pick.choice((0, 7, 24, 128))), (1, 1)))
-    given = with_field(pick, pick.choice(list(shop.tables.values())), made)
+    given = with_field(pick, pick.choice(list(stores.tables.values())), made)
     return Draw(words, given, f"{front}F13 BadParameter", Facts("F13", name=name), ["field"] if shown(name) is not None else [])
 
 
-def draw_broken_stream(pick, shop):
-    words, front = words_of_stream(pick, shop)
-    whole = stream_of(pick.choice(list(shop.tables.values())))
+def draw_broken_stream(pick, stores):
+    words, front = words_of_stream(pick, stores)
+    whole = stream_of(pick.choice(list(stores.tables.values())))
     given, line = pick.choice((
         (b"", "F9 NoSchema"), (streams.END, "F9 NoSchema"), (whole[:pick.randrange(1, len(whole) - 8)], "F1 Truncated"), (whole + b"x", "F29 AfterEnd"),
         (b"ARROW1\0\0" + whole, "F2 NoContinuation"), (b"id,value\n1,2\n", "F2 NoContinuation"), (whole[:-8] + whole, "F10 SecondSchema"),
@@ -318,10 +318,10 @@ def without_dictionaries(field):
     return field._replace(kind=field.kind._replace(index="", parts=parts))
 
 
-def draw_other_schema(pick, shop):
+def draw_other_schema(pick, stores):
     """A stream whose fields differ from those of the table, in more than their dictionaries."""
     while True:
-        name, fields = pick.choice(list(shop.tables.items()))
+        name, fields = pick.choice(list(stores.tables.items()))
         found = other_fields(pick, fields)
         if list(map(without_dictionaries, found)) != list(map(without_dictionaries, fields)):
             break
@@ -333,4 +333,4 @@ def draw_other_schema(pick, shop):
         facts.also(other=other, name=other[0].name)
         texts = [shown(printed(field)) for field in other]
         due = ["other_field"] if None not in texts else ["unshown_field"] if texts[1] is not None else ["field"] if shown(other[0].name) is not None else []
-    return Draw(["append", shop.path, name], stream_of(found), "S4 SchemaMismatch", facts, due)
+    return Draw(["append", stores.path, name], stream_of(found), "S4 SchemaMismatch", facts, due)

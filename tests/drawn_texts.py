@@ -6,18 +6,23 @@ from fields import BINARIES, LISTS, NUMBERS, TEXTS, Field, Kind, range_of
 from text_rules import MARK, refused_in_csv, refused_in_lines
 
 PLAIN_NAMES = ("a", "b", "id", "size", "value", "city", "key", "x", "y", "item", "p", "q")
-ODD_NAMES = ("a.x", "p.x", "p.y[0]", 'q"r', '"', "two words", "l[0]", "", "t\tab", "esc\x1b", "line\nend", "return\r", "é", "日本", "zero\u200bwidth", "n" * 100,
-             "n" * 101, "é" * 50, "é" * 51, "x,y", "back\\slash", "semi;colon", "right\u202eleft", "row\u2028end", "t`ick", "name. The", "😀", "\u00a0", "del\x7f")
+ODD_NAMES = ("a.x", "p.x", "p.y[0]", 'q"r', '"', "two words", "l[0]", "", "t\tab", "esc\x1b", "line\nend", "return\r", "é", "日本", "zero\u200bwidth",
+             "n" * 100, "n" * 101, "é" * 50, "é" * 51, "x,y", "back\\slash", "semi;colon", "right\u202eleft", "row\u2028end", "t`ick", "name. The", "😀",
+             "\u00a0", "del\x7f")
 FLAT = ("bool", "utf8", "large_utf8", "binary", "large_binary", "fixed_binary", *NUMBERS)
 INDICES = ("int8", "uint8", "int16", "uint16", "int32", "uint32", "int64", "uint64")
-WORDS = ("", "x", "Rome", "New York", "a,b", 'say "hi"', "é", "one\ntwo", "one\r\ntwo", "tab\t", "null", "NA", "-", "0", "true", "`", "; x", "longer " * 9, "x" * 120)
-NUMBERS_WRONG = ("x", "1.5", "+5", " 2", "2 ", "1e3", "2024-01-01", "0x10", "", "-", "--1", "1_000", "NULL", "true", "1" * 30, "-" + "9" * 120, "٣", "1\x1b", "²", "`1`",
-                 "1. ", "18446744073709551616", "9223372036854775808", "-9223372036854775809")
+WORDS = ("", "x", "Rome", "New York", "a,b", 'say "hi"', "é", "one\ntwo", "one\r\ntwo", "tab\t", "null", "NA", "-", "0", "true", "`", "; x", "longer " * 9,
+         "x" * 120)
+NUMBERS_WRONG = ("x", "1.5", "+5", " 2", "2 ", "1e3", "2024-01-01", "0x10", "", "-", "--1", "1_000", "NULL", "true", "1" * 30, "-" + "9" * 120, "٣", "1\x1b",
+                 "²", "`1`", "1. ", "18446744073709551616", "9223372036854775808", "-9223372036854775809")
 HEX_WRONG = ("0g", "0", "abc", "zz", "00 ", "0x00", "é", "0\t", "G0")
-JSON_WRONG = ("1", "-1", "1.5", "1.0", "1e2", "-0", "18446744073709551616", "-9223372036854775809", "300", "-129", "70000", "4294967296", '"x"', '"12"', '""', "true",
-              "false", "null", "[]", "[1]", "{}", '{"a":1}', "1e400", "[[[[]]]]", '"0g"', '"00"', '"000000"', '"\\ud800"', '"\\udc00x"', "NaN", "[null]", "1" * 400)
-LINES_WRONG = ("1", "null", '"x"', "true", "[]", "{}", "x", "[", "{", "]", "[1,]", "{'a':1}", "{a:1}", "[1] [2]", "\ufeff[1]", "[1\x00]", '["\t"]', "[\t]", '["\x1b"]',
-               '["x\r"]', "\u2028", "[" * 127 + "]" * 127, "[" * 128 + "]" * 128, "[" * 2000, "[1e999]", "-", "[01]", "[.5]", "/", '{"a":1,}', "[1]// x", "[tru]")
+WRONG_NAMES = (b"z", b"A", b"\xff", b"\x1f\x8b\x08", "\ufeffx".encode("utf-16-le"), "\ufeffx".encode("utf-16-be"), b"a;b", b"a\tb", MARK + b"a", b"n" * 101)
+JSON_WRONG = ("1", "-1", "1.5", "1.0", "1e2", "-0", "18446744073709551616", "-9223372036854775809", "300", "-129", "70000", "4294967296", '"x"', '"12"', '""',
+              "true", "false", "null", "[]", "[1]", "{}", '{"a":1}', "1e400", "[[[[]]]]", '"0g"', '"00"', '"000000"', '"\\ud800"', '"\\udc00x"', "NaN",
+              "[null]", "1" * 400)
+LINES_WRONG = ("1", "null", '"x"', "true", "[]", "{}", "x", "[", "{", "]", "[1,]", "{'a':1}", "{a:1}", "[1] [2]", "\ufeff[1]", "[1\x00]", '["\t"]', "[\t]",
+               '["\x1b"]', '["x\r"]', "\u2028", "[" * 127 + "]" * 127, "[" * 128 + "]" * 128, "[" * 2000, "[1e999]", "-", "[01]", "[.5]", "/", '{"a":1,}',
+               "[1]// x", "[tru]")
 
 
 class DrawnText(NamedTuple):
@@ -48,14 +53,16 @@ def draw_kind(pick, depth):
 
 
 def draw_fields(pick, number, depth):
-    """Fields with names that differ, but for one in ten."""
-    fields, names = [], set()
+    """Fields with names that differ, but for one in ten: it has the name of another, or one as a part of that has."""
+    fields = []
     while len(fields) < number:
         name = draw_name(pick)
-        if name not in names or pick.random() < 0.1:
-            names.add(name)
-            kind = draw_kind(pick, depth)
-            fields.append(Field(name, kind, kind.name == "null" or pick.random() < 0.4))
+        if fields and pick.random() < 0.1:
+            name = pick.choice(fields).name + pick.choice(("", "", ".x"))
+        elif name in [field.name for field in fields]:
+            continue
+        kind = draw_kind(pick, depth)
+        fields.append(Field(name, kind, kind.name == "null" or pick.random() < 0.4))
     return fields
 
 
@@ -120,8 +127,7 @@ def put_wrong_header(pick, names):
     elif choice < 0.6:
         pick.shuffle(names)
     elif choice < 0.9:
-        names[place] = pick.choice((b"z", b"A", names[place] + b" ", names[place][:-1], b"\xff", b"\x1f\x8b\x08", "\ufeffx".encode("utf-16-le"), b"a;b", b"a\tb",
-                                    names[place] + b"\x1b", MARK + b"a", b"n" * 101))
+        names[place] = pick.choice((*WRONG_NAMES, names[place] + b" ", names[place][:-1], names[place] + b"\x1b"))
     else:
         separator = pick.choice((b";", b"\t"))
         names[:] = [separator.join(names)]
@@ -257,8 +263,9 @@ def wrong_line(pick, fields):
 def spoiled(pick, text):
     """A line that is cut, in another encoding, or has a byte too many."""
     line, place = text.encode(), pick.randrange(len(text.encode()) + 1)
-    return pick.choice((line[:place], line[:place] + b"\xff" + line[place:], line[:place] + b"\x1b" + line[place:], MARK + line, text.encode("utf-16"), b"\x1f\x8b\x08" + line,
-                        line[:place] + b"\t" + line[place:], line + line, line + b"x", line[:place] + b"," + line[place:]))
+    within = [line[:place] + added + line[place:] for added in (b"\xff", b"\x1b", b"\t", b",")]
+    before = [added + line for added in (MARK, b"\x1f\x8b\x08", line)]
+    return pick.choice((*within, *before, line[:place], line + b"x", text.encode("utf-16"), b"\xfe\xff" + text.encode("utf-16-be")))
 
 
 def lines_of(pick, lines):
