@@ -9,7 +9,7 @@ from text_rules import MARK, Facts, is_visible, shown
 SECTOR = 512
 COLUMN = [("a", "int64", True)]
 MISSING, NO_FOLDER = os.strerror(errno.ENOENT), os.strerror(errno.ENOTDIR)
-WRONG_LINES = ("drop  t", "drop t u", "", "dorp t", "compact x", "rename a", "import t", "drop t\r", "compact\r", "\ufeffcompact", "\ufeffx\r", " compact",
+WRONG_LINES = ("drop  t", "drop t u", "", "dorp t", "compact x", "rename a", "import t", "compact\r", "\ufeffcompact", "\ufeffx\r", " compact",
                "COMPACT", "create", "tables", "append t", "drop\tt", "x" * 100, "x" * 101, "é", "query t a = 1", "`", "reopen ", "# drop",
                "import a b c")
 RIGHT_LINES = ("create t a:int32", "compact", "reopen", "drop t", "rename t u", "upgrade")

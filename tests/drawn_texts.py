@@ -138,7 +138,7 @@ def csv_of(pick, records, is_open):
     end, parts = pick.choice((b"\n", b"\n", b"\r\n", b"\r")), []
     for number, record in enumerate(records):
         fields = [quoted(pick, text) for text in record]
-        if is_open and number == len(records) // 2:
+        if is_open and fields and number == len(records) // 2:
             fields[pick.randrange(len(fields))] = b'"x'
         parts.append(b",".join(fields) if fields != [b""] else b'""')
         parts.append(end * (1 if pick.random() < 0.85 else pick.randrange(2, 4)))
