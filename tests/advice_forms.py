@@ -43,8 +43,8 @@ def counted(number, noun):
     return f"{number} {noun}{'' if number == 1 else 's'}"
 
 
-def are_counts(text, number, noun, columns):
-    return number is not None and text == f"{counted(number, noun)}, and the table {counted(columns, 'column')}"
+def are_counts(text, number, noun, width):
+    return number is not None and text == f"{counted(number, noun)}, and the table {counted(width, 'column')}"
 
 
 def is_shown_as(text, given):
@@ -60,7 +60,7 @@ def is_below(facts, name):
     columns = facts.columns or ()
     is_column = any(field.name == facts.asked for field in columns)
     has_parts = any(field.name == name and is_nested(field.kind) for field in columns)
-    return not is_column and has_parts and facts.asked.startswith((name + ".", name + "["))
+    return not is_column and has_parts and (facts.asked or "").startswith((name + ".", name + "["))
 
 
 def is_count_of_items(facts, path, found, wanted):
@@ -129,10 +129,10 @@ FORMS = {
     "nested": (r"The column `(.*)` is a list or a struct\. ", lambda facts, name: name == facts.nested),
     "header_names": (r"The header names `(.*)` where the table has `(.*)`\. ", is_header),
     "other_name": (r"The header has another name where the table has `(.*)`\. ", lambda facts, wanted: facts.found is not None and wanted == facts.wanted),
-    "header_counts": (r"The header has (.*)\. ", lambda facts, text: are_counts(text, facts.names, "name", facts.columns)),
+    "header_counts": (r"The header has (.*)\. ", lambda facts, text: are_counts(text, facts.names, "name", facts.width)),
     "no_header": (r"The input has no header\. ", lambda facts: facts.names == 0),
-    "name_gzip": (r"A name begins as a file that gzip has compressed: `gzip -dc` gives its text\. ", lambda facts: facts.found.startswith(GZIP)),
-    "name_utf_16": (r"A name begins with the byte order mark of UTF-16, but must be UTF-8\. ", lambda facts: facts.found.startswith(UTF_16)),
+    "name_gzip": (r"A name begins as a file that gzip has compressed: `gzip -dc` gives its text\. ", lambda facts: (facts.found or b"").startswith(GZIP)),
+    "name_utf_16": (r"A name begins with the byte order mark of UTF-16, but must be UTF-8\. ", lambda facts: (facts.found or b"").startswith(UTF_16)),
     "header_tab": (r"The header has a tab, but only commas separate names\. ", lambda facts: b"\t" in (facts.found or b"")),
     "header_semicolon": (r"The header has a semicolon, but only commas separate names\. ", lambda facts: b";" in (facts.found or b"")),
     "field_text": (r"The text `(.*)` of field `(.*)` is refused\. ", lambda facts, text, name: is_shown_as(text, facts.text) and name == facts.name),
@@ -140,15 +140,15 @@ FORMS = {
     "field": (r"The field `(.*)` is refused\. ", lambda facts, name: name == (facts.name if facts.path is None else facts.path)),
     "begins": (r"Record (\d+) begins on line (\d+)\. ", lambda facts, number, line: (int(number), int(line)) == (facts.number, facts.begins)),
     # Both texts.
-    "record_counts": (r"The record has (.*)\. ", lambda facts, text: are_counts(text, facts.parts, "field", facts.columns)),
+    "record_counts": (r"The record has (.*)\. ", lambda facts, text: are_counts(text, facts.parts, "field", facts.width)),
     "holds": (r"`(.*)` holds (-?\d+) to (-?\d+)\. ", is_range),
     "there": (r"The table has `(.*)` there\. ", lambda facts, text: facts.field is not None and text == printed(facts.field)),
     # Lines.
     "line": (r"The line `(.*)` is refused\. ", lambda facts, text: is_shown_as(text, facts.line)),
-    "line_gzip": (r"The line begins as a file that gzip has compressed: `gzip -dc` gives its text\. ", lambda facts: facts.line.startswith(GZIP)),
-    "line_mark": (r"The line begins with a byte order mark\. ", lambda facts: facts.line.startswith(MARK)),
-    "line_utf_16": (r"The line begins with the byte order mark of UTF-16, but must be UTF-8\. ", lambda facts: facts.line.startswith(UTF_16)),
-    "line_return": (r"The line ends with a carriage return\. ", lambda facts: facts.line.endswith(b"\r")),
+    "line_gzip": (r"The line begins as a file that gzip has compressed: `gzip -dc` gives its text\. ", lambda facts: (facts.line or b"").startswith(GZIP)),
+    "line_mark": (r"The line begins with a byte order mark\. ", lambda facts: (facts.line or b"").startswith(MARK)),
+    "line_utf_16": (r"The line begins with the byte order mark of UTF-16, but must be UTF-8\. ", lambda facts: (facts.line or b"").startswith(UTF_16)),
+    "line_return": (r"The line ends with a carriage return\. ", lambda facts: (facts.line or b"").endswith(b"\r")),
     "missing": (r"The name `(.*)` is missing\. ", because("missing")),
     "no_column": (r"The name `(.*)` is no column\. ", because("unknown")),
     "no_field": (r"The name `(.*)` is no field\. ", because("unknown")),
@@ -159,7 +159,7 @@ FORMS = {
     "empty": (r"The input is empty\. ", lambda facts: facts.given == b""),
     "other_field": (r"The input has `(.*)` where the table has `(.*)`\. ", is_other_field),
     "unshown_field": (r"The input has another field where the table has `(.*)`\. ", lambda facts, wanted: is_other_field(facts, None, wanted)),
-    "field_counts": (r"The input has (.*)\. ", lambda facts, text: are_counts(text, facts.fields, "field", facts.columns)),
+    "field_counts": (r"The input has (.*)\. ", lambda facts, text: are_counts(text, facts.fields, "field", facts.width)),
     "unread_input": (r"The input cannot be read: (.*)\. ", lambda facts, reason: reason == facts.unread),
     "unwritten_output": (r"The output cannot be written: (.*)\. ", lambda facts, reason: reason == facts.unwritten),
     # Files and tables.

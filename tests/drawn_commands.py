@@ -325,7 +325,7 @@ def draw_other_schema(pick, stores):
         found = other_fields(pick, fields)
         if list(map(without_dictionaries, found)) != list(map(without_dictionaries, fields)):
             break
-    facts = Facts("S4", fields=len(found), columns=len(fields))
+    facts = Facts("S4", fields=len(found), width=len(fields))
     other = next((pair for pair in zip(found, fields) if without_dictionaries(pair[0]) != without_dictionaries(pair[1])), None)
     if other is None:
         due = ["field_counts"]

@@ -121,12 +121,12 @@ def refused_header(fields, names):
     for name, field in zip(names, fields):
         if name != field.name.encode():
             return Facts("X1", number=0, found=name, wanted=field.name)
-    return Facts("X1", number=0, names=len(names), columns=len(fields)) if len(names) != len(fields) else None
+    return Facts("X1", number=0, names=len(names), width=len(fields)) if len(names) != len(fields) else None
 
 
 def refused_record(fields, texts, null):
     if len(texts) != len(fields):
-        return Facts("X2", parts=len(texts), columns=len(fields))
+        return Facts("X2", parts=len(texts), width=len(fields))
     for field, text in zip(fields, texts):
         if code := code_of_field(field, text, null):
             return Facts(code, field=field, name=field.name, text=text)
@@ -274,7 +274,7 @@ def refused_row(fields, value, path):
     if not isinstance(value, list):
         return Facts("X17", reason="value")
     if len(value) != len(fields):
-        counts = {"parts": len(value), "columns": len(fields)} if path is None else {"items": len(value), "size": len(fields)}
+        counts = {"parts": len(value), "width": len(fields)} if path is None else {"items": len(value), "size": len(fields)}
         return Facts("X2", reason="count", path=path, is_row=path is None, **counts)
     for field, part in zip(fields, value):
         if refused := refused_cell(field, part, below(path, field.name)):
