@@ -257,5 +257,5 @@ def wrong_in(facts, claims, rest, due):
 def judged(facts, second, word, due):
     """What is wrong with the second line of a refusal, in its best reading."""
     told_word, colon, text = second.partition(": ")
-    wrong = min((wrong_in(facts, claims, rest, due) for claims, rest in readings(text)), key=len)
+    wrong = min((wrong_in(facts, claims, rest, due) for claims, rest in sorted(readings(text), key=lambda reading: -len(reading[0]))), key=len)
     return wrong if (told_word, colon) == (word, ": ") else [f"the word {told_word!r}, not {word!r}", *wrong]

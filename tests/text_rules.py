@@ -370,7 +370,10 @@ def claims_of_csv(facts):
         return ["header_counts"] if facts.names else ["no_header"]
     if facts.parts is not None:
         return ["record_counts", *begins]
-    if facts.field is None or shown(facts.name) is None:
+    # A row that is too heavy has no refused part, so that nothing more is said of its place.
+    if facts.field is None:
+        return []
+    if shown(facts.name) is None:
         return [*begins, *of_a_field(facts)]
     named = "field" if shown(facts.text) is None else "field_text" if facts.text else "field_empty"
     return [named, *begins, *of_a_field(facts)]
