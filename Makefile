@@ -69,8 +69,8 @@ wrong-bodies:
 memory: $(TESTS)
 	tests/refused_memory_in_crates $(REFUSING)
 
-# The program as it is built, on whole streams, with failing input and output, with each read and each write failed and each allocation refused; then texts, and
-# what commands cost.
+# The program as it is built, on whole streams, with failing input and output, with each read and each write failed and each allocation refused; then texts,
+# drawn refusals and what commands cost.
 vectors: bin/arrowstore
 	tests/readme bin/arrowstore
 	tests/recipes bin/arrowstore
@@ -91,6 +91,7 @@ vectors: bin/arrowstore
 	tests/failing_writes bin/arrowstore
 	tests/run_vectors bin/arrowstore tests/vectors/ints tests/vectors/streams tests/vectors/traps
 	tests/texts bin/arrowstore tests/vectors/texts.jsonl tests/vectors/texts_worked.jsonl
+	tests/advice bin/arrowstore
 	tests/costs bin/arrowstore
 	tests/dist bin/arrowstore
 
