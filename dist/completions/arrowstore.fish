@@ -12,7 +12,7 @@ complete -c arrowstore -n __fish_use_subcommand -a rename -d 'Gives a table anot
 complete -c arrowstore -n __fish_use_subcommand -a drop -d 'Removes a table with all its rows'
 complete -c arrowstore -n __fish_use_subcommand -a tables -d 'Prints a line for each table: its name and its number of rows'
 complete -c arrowstore -n __fish_use_subcommand -a schema -d 'Prints a line for each field of a table'
-complete -c arrowstore -n __fish_use_subcommand -a check -d 'Reads all tables, and prints ok if all can be read'
+complete -c arrowstore -n __fish_use_subcommand -a check -d 'Makes sure that the last change is on the disk, reads all tables, and prints ok if all can be read'
 complete -c arrowstore -n __fish_use_subcommand -a salvage -d 'Writes the readable rows of a damaged table as an Arrow IPC stream, and reports what is left out'
 complete -c arrowstore -n __fish_use_subcommand -a info -d 'Prints the size of the store, its free sectors, and other numbers'
 complete -c arrowstore -n __fish_use_subcommand -a compact -d 'Merges small segments, moves the last ones forward, and prints the number of steps'
