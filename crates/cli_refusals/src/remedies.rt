@@ -56,7 +56,7 @@ pub const NEW_OUTPUT: &str = "Check the output, and run the command again: it ch
 pub const WAIT: &str = "Wait until the other program is done with it, and try again.";
 
 pub const NEW_PATH: &str =
-    "Give a path where nothing is, or delete what an interrupted `format` or `copy` has left there: no file is overwritten.";
+    "Give a path where nothing is: no file is overwritten. This one may be what an interrupted `format` or `copy` has left.";
 
 pub const FOLDER_OF_A_NEW_FILE: &str =
     "Check the path: its folder must exist, and you need the right to make files in it.";
