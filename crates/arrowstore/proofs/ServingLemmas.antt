@@ -15,7 +15,7 @@ use Rattle.cli_refusals.specs.declared.refusal.Refusal.{Refusal}
 use Rattle.cli_commands.specs.TextRows.{RefusesText}
 use Rattle.arrowstore.specs.declared.open_command.OpenCommand.{OpenCommand}
 use Rattle.arrowstore.specs.declared.open_command.OpenCommand.TheVariants as opened
-use Rattle.arrowstore.specs.Serving.{Channels, CarriesInput, CarriesText, Serves}
+use Rattle.arrowstore.specs.Serving.{Channels, CarriesInput, CarriesNew, CarriesText, Serves}
 
 module _ {D : Type 0} {g : Ghosts D} {R W : Type 0} (remaining : R → Option (List ℕ)) (contents : W → Option (List ℕ)) (command : OpenCommand) (name : Bor (List ℕ))
     (old new : Store D g) (before after : Channels R W) (result : Result (Unit {0}) Refusal) where
@@ -24,6 +24,11 @@ module _ {D : Type 0} {g : Ghosts D} {R W : Type 0} (remaining : R → Option (L
       → Serves remaining contents command old new before after result
   unfolding Serves
   serves_import is carries = subst (λ (c : OpenCommand). Serves remaining contents c old new before after result) (sym is) carries
+
+  pub serves_new : command ≡ opened.ImportNew name → CarriesNew remaining contents name.now old new before after result
+      → Serves remaining contents command old new before after result
+  unfolding Serves
+  serves_new is carries = subst (λ (c : OpenCommand). Serves remaining contents c old new before after result) (sym is) carries
 
   pub serves_append : command ≡ opened.Append name
       → CarriesInput remaining contents (append_stream name.now) (has_entry (listed_in old) name.now) NoTable old new before after result

@@ -37,6 +37,7 @@ States (words.SaveAs from to query) (opened.Change c) = StatesSaving from.now to
 States (words.Rename from to) (opened.Change c) = command_of c ≡ plain.rename from.now to.now
 States (words.Drop name) (opened.Change c) = command_of c ≡ plain.drop_table name.now
 States (words.Import name) (opened.Import n) = n.now ≡ name.now
+States (words.ImportNew name) (opened.ImportNew n) = n.now ≡ name.now
 States (words.Append name) (opened.Append n) = n.now ≡ name.now
 States (words.AppendText name form) (opened.AppendText n f) = (n.now ≡ name.now) × (f ≡ form)
 States (words.Query name query form) (opened.Select n q f) = (n.now ≡ name.now) × (query_stated query ≡ Some (query_in q)) × (f ≡ form)
@@ -61,6 +62,7 @@ RefusesStating _ refusal = ⊥
 -- whether a command reads the input
 abbrev pub reads_input : OpenCommand → Bool
 reads_input (opened.Import name) = true
+reads_input (opened.ImportNew name) = true
 reads_input (opened.Append name) = true
 reads_input (opened.AppendText name form) = true
 reads_input _ = false

@@ -1,5 +1,5 @@
 -- What each command of an open store reads, writes and leaves, in one definition: for each command the words of its own function.
-use Rattle.std.specs.Prelude.{◌≡◌, ◌≢◌, ℕ, Bool, true, false, List, codes, Option, Some, IsSome, Result, Ok, IfErr, OnOk}
+use Rattle.std.specs.Prelude.{◌≡◌, ◌≢◌, ℕ, Bool, true, false, List, codes, Option, Some, IsSome, Result, Ok, IfErr, IsErrAnd, OnOk}
 use Rattle.std.specs.Io.KnownBytes.{Appends}
 use Rattle.std.specs.List.{AllByRecursion}
 use Rattle.sector_dev.specs.Disk.{Image, now, shown_image}
@@ -32,7 +32,7 @@ use Rattle.cli_refusals.specs.declared.hint.Hinted.{Hinted}
 use Rattle.cli_refusals.specs.declared.refusal.Refusal.{Refusal}
 use Rattle.cli_refusals.specs.declared.refusal.Refusal.TheVariants.{Io}
 use Rattle.cli_refusals.specs.declared.refusal.Side.TheVariants.{Output}
-use Rattle.cli_commands.specs.Changing.{Answered, AnswersCommand, AnswersInput}
+use Rattle.cli_commands.specs.Changing.{Answered, AnswersCommand, AnswersInput, RefusesTaken, is_listed}
 use Rattle.cli_commands.specs.Compacting.{Compacts}
 use Rattle.cli_commands.specs.Upgrading.{AnsweredUpgrade, AnswersUpgrade}
 use Rattle.cli_commands.specs.Printed.{tables_text, schema_text, summary_text, RefusesPrinting, RefusesSummary}
@@ -75,6 +75,17 @@ pub record CarriesInput {D : Type 0} {g : Ghosts D} {R W : Type 0} (remaining : 
     (command : List ℕ → PlainCommand) (passes : Bool) (why : tables.Refusal) (old new : Store D g) (before after : Channels R W)
     (result : Result (Unit {0}) Refusal) : Type 0 where
   pub told : Answered (λ answer. AnswersInput g.size g.story g.failed g.tells remaining command passes why before.input after.input answer old new) result
+  pub written : OnOk result (Appends (contents before.output) (contents after.output) (codes "ok\n"))
+  pub silent : IfErr result (λ refusal. refusal ≢ Io Output → after.output ≡ before.output)
+  pub unhinted : after.hint ≡ before.hint
+
+-- an import that replaces no table is carried out so too, unless a table has the name: then that is reported (`import_new`)
+pub record CarriesNew {D : Type 0} {g : Ghosts D} {R W : Type 0} (remaining : R → Option (List ℕ)) (contents : W → Option (List ℕ)) (name : List ℕ)
+    (old new : Store D g) (before after : Channels R W) (result : Result (Unit {0}) Refusal) : Type 0 where
+  pub taken : is_listed (is_halted old) (listed_in old) name ≡ true → IsErrAnd result RefusesTaken × (after.input ≡ before.input) × (new ≡ old)
+  pub told : is_listed (is_halted old) (listed_in old) name ≡ false
+      → Answered (λ answer. AnswersInput g.size g.story g.failed g.tells remaining (import_stream name) (is_name name) BadName before.input after.input answer old
+      new) result
   pub written : OnOk result (Appends (contents before.output) (contents after.output) (codes "ok\n"))
   pub silent : IfErr result (λ refusal. refusal ≢ Io Output → after.output ≡ before.output)
   pub unhinted : after.hint ≡ before.hint
@@ -132,6 +143,7 @@ unfoldable pub Serves : {D : Type 0} {g : Ghosts D} {R W : Type 0} → (remainin
 Serves remaining contents (opened.Change c) old new before after result = Carries contents (command_of c) old new before after result
 Serves remaining contents (opened.Import name) old new before after result =
     CarriesInput remaining contents (import_stream name.now) (is_name name.now) BadName old new before after result
+Serves remaining contents (opened.ImportNew name) old new before after result = CarriesNew remaining contents name.now old new before after result
 Serves remaining contents (opened.Append name) old new before after result =
     CarriesInput remaining contents (append_stream name.now) (has_entry (listed_in old) name.now) NoTable old new before after result
 Serves remaining contents (opened.AppendText name form) old new before after result =

@@ -25,6 +25,10 @@ pub enum OpenCommand<'a> {
     Import {
         name: &'a str,
     },
+    /// Makes the table of the stream that the whole input is, if no table has this name.
+    ImportNew {
+        name: &'a str,
+    },
     /// Appends the rows of the stream that the whole input is to the table.
     Append {
         name: &'a str,
@@ -103,6 +107,7 @@ pub fn stated<'a>(alloc: Global, command: &StoreCommand<'a>) -> Result<OpenComma
             Ok(OpenCommand::Change(create(alloc, name, fields)?))
         }
         StoreCommand::Import { name } => Ok(OpenCommand::Import { name }),
+        StoreCommand::ImportNew { name } => Ok(OpenCommand::ImportNew { name }),
         StoreCommand::Append { name } => Ok(OpenCommand::Append { name }),
         StoreCommand::AppendText { name, form } => Ok(OpenCommand::AppendText {
             name,

@@ -6,7 +6,8 @@ ghost use Rattle.arrowstore.specs.Serving.{channels, Serves};
 use crate::OpenCommand;
 use cli_commands::{
     append_input, append_text, apply_command, check_tables, compact_tables, export_table,
-    import_input, print_schema, print_selection, print_summary, print_tables, upgrade_store,
+    import_input, import_new, print_schema, print_selection, print_summary, print_tables,
+    upgrade_store,
 };
 use cli_refusals::{Hinted, Refusal, Side};
 use sector_dev::SectorDevice;
@@ -38,6 +39,7 @@ pub fn serve_open<D: SectorDevice, R: Read, W: Write>(
     match command {
         OpenCommand::Change(command) => apply_command(alloc, store, command, output),
         OpenCommand::Import { name } => import_input(alloc, store, name, input, output),
+        OpenCommand::ImportNew { name } => import_new(alloc, store, name, input, output),
         OpenCommand::Append { name } => append_input(alloc, store, name, input, output),
         OpenCommand::AppendText { name, form } => {
             append_text(alloc, store, name, &form, input, output, hint)

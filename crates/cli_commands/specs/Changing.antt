@@ -1,17 +1,17 @@
 -- What the program answers to commands that change the tables of a store.
-use Rattle.std.specs.Prelude.{◌≡◌, ◌≢◌, ◌↔◌, ℕ, Bool, true, false, List, [], Option, IsSome, Result, Ok, Err, IfErr, OnOk}
+use Rattle.std.specs.Prelude.{◌≡◌, ◌≢◌, ◌↔◌, ◌⊎◌, ◌&&◌, ℕ, Bool, true, false, not, List, [], Option, IsSome, Result, Ok, Err, IfErr, OnOk}
 use Rattle.sector_dev.specs.Disk.{Story}
 use Rattle.sector_dev.specs.Time.{OnlyReads}
 use Rattle.sector_dev.specs.declared.device.SectorDevice.{Ghosts}
 use Rattle.arrow_schema.specs.Column.{PlainSchema}
 use Rattle.field_texts.specs.Reported.{IsReported}
-use Rattle.catalogue.specs.Entries.{PlainEntry}
+use Rattle.catalogue.specs.Entries.{PlainCatalogue, PlainEntry}
 use Rattle.tables.specs.declared.refusal.Refusal as tables
 use Rattle.tables.specs.declared.refusal.Refusal.TheVariants as refusals
 use Rattle.tables.specs.Commands.{PlainCommand}
 use Rattle.store.specs.declared.store.Store as stores
 use Rattle.store_runs.specs.Calls.{counted}
-use Rattle.store_runs.specs.Deciding.{reads_device}
+use Rattle.store_runs.specs.Deciding.{has_entry, reads_device}
 use Rattle.store_runs.specs.Reading.{ended}
 use Rattle.store.specs.Applying.{IsApplied, IsKept, IsApplyingAtEachMoment, IsDoneOnDisk}
 use Rattle.store.specs.Answering.{TakesInput}
@@ -63,6 +63,14 @@ pub record AnswersInput {D : Type 0} {g : Ghosts D} {R : Type 0} (size : D → �
     (old new : stores.Store D g) : Type 0 where
   pub takes : TakesInput size story failed tells (remaining input) command old answer new
   pub reads : ReadsFrom remaining (is_halted old) passes why input left (new ≡ old) answer
+
+-- a store that is not halted has a table of this name
+abbrev pub is_listed : (halted : Bool) → PlainCatalogue → (name : List ℕ) → Bool
+is_listed halted c name = not halted && has_entry c name
+
+-- why a table that must be new is refused if one has its name: for that, or memory was refused
+abbrev pub RefusesTaken : Refusal → Type 0
+RefusesTaken refusal = (refusal ≡ Store refusals.NameTaken) ⊎ (refusal ≡ Store refusals.OutOfMemory)
 
 -- the store does not give the schema of a table of this name, with this entry if there is one, and nothing was read; or the input is refused
 abbrev pub RefusesAppend : {R : Type 0} → (remaining : R → Option (List ℕ)) → (halted : Bool) → (found : Option PlainEntry) → (old new : R) → Refusal → Type 0

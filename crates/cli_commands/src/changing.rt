@@ -1,18 +1,18 @@
 // Commands that change the tables of an open store.
-ghost use Rattle.std.specs.Prelude.{◌≡◌, ◌≢◌, true, codes, IfErr, OnOk};
+ghost use Rattle.std.specs.Prelude.{◌≡◌, ◌≢◌, true, false, codes, IfErr, IsErrAnd, MatchResult, OnOk};
 ghost use Rattle.std.specs.Io.KnownBytes.{Appends};
 ghost use Rattle.catalogue.specs.Entries.{is_name};
 ghost use Rattle.tables.specs.Commands.{import_stream, append_stream};
 ghost use Rattle.tables.specs.Tables.{Tables};
-ghost use Rattle.tables.specs.declared.refusal.Refusal.TheVariants.{BadName, NoTable};
+ghost use Rattle.tables.specs.declared.refusal.Refusal.TheVariants.{BadName, NoTable, OutOfMemory};
 ghost use Rattle.tables.specs.View.{command_of};
 ghost use Rattle.store.specs.Applying.{GoesOn};
 ghost use Rattle.store_runs.specs.Calls.{apply_call};
 ghost use Rattle.store_runs.specs.Deciding.{has_entry};
-ghost use Rattle.store.specs.Fits.{StoreFits, listed_in};
+ghost use Rattle.store.specs.Fits.{StoreFits, is_halted, listed_in};
 ghost use Rattle.store_runs.specs.Machine.{Machine};
 ghost use Rattle.store_runs.specs.Reading.{ended};
-ghost use Rattle.cli_commands.specs.Changing.{Answered, AnswersCommand, AnswersInput};
+ghost use Rattle.cli_commands.specs.Changing.{Answered, AnswersCommand, AnswersInput, RefusesTaken, is_listed};
 
 use cli_refusals::{Refusal, Side, write_whole};
 use sector_dev::SectorDevice;
@@ -66,6 +66,52 @@ pub fn import_input<D: SectorDevice, R: Read, W: Write>(
 {
     store.import_from(alloc, name, input)?;
     write_whole(output, b"ok\n")
+}
+
+// Returns whether the store has a table of this name. A halted store has none.
+fn is_listed<D: SectorDevice>(
+    alloc: Global,
+    store: &Store<D>,
+    name: &str,
+) -> Result<bool, tables::Refusal>
+    ensures { MatchResult result
+        (λ listed. listed ≡ is_listed (is_halted store.now) (listed_in store.now) name.now)
+        (λ e. (e ≡ OutOfMemory) × (is_listed (is_halted store.now) (listed_in store.now) name.now ≡ true)) }
+{
+    match store.schema(alloc, name) {
+        Ok(_) => Ok(true),
+        Err(tables::Refusal::OutOfMemory) => Err(tables::Refusal::OutOfMemory),
+        Err(_) => Ok(false),
+    }
+}
+
+/// Reads the whole input as a stream, makes its table if no table has this name, and writes `ok`.
+///
+/// A halted store, then a table of this name, and then a bad name is reported before anything is read.
+///
+/// # Errors
+/// `Store` with `NameTaken` if a table has the name, or else as [`import_input`].
+pub fn import_new<D: SectorDevice, R: Read, W: Write>(
+    alloc: Global,
+    store: &mut Store<D>,
+    name: &str,
+    input: &mut R,
+    output: &mut W,
+) -> Result<(), Refusal>
+    // If a table has the name, that is reported, unless memory is refused: nothing is read or changed.
+    ensures taken { is_listed (is_halted store.old) (listed_in store.old) name.now ≡ true
+        → IsErrAnd result RefusesTaken × (input.new ≡ input.old) × (store.new ≡ store.old) }
+    // If none has it, or the store is halted, the answer is that of an import.
+    ensures told { is_listed (is_halted store.old) (listed_in store.old) name.now ≡ false
+        → Answered (λ answer. AnswersInput D.size D.story D.failed D.tells R.remaining (import_stream name.now) (is_name name.now) BadName
+        input.old input.new answer store.old store.new) result }
+    ensures written { OnOk result (Appends (W.contents output.old) (W.contents output.new) (codes "ok\n")) }
+    ensures silent { IfErr result (λ refusal. refusal ≢ Refusal.Io Side.Output → output.new ≡ output.old) }
+{
+    if is_listed(alloc, store, name)? {
+        return Err(Refusal::Store(tables::Refusal::NameTaken));
+    }
+    import_input(alloc, store, name, input, output)
 }
 
 /// Reads the whole input as a stream, appends its rows to a table, and writes `ok`.

@@ -19,7 +19,7 @@ use Rattle.clap.specs.declared.error.kind.ErrorKind.{ErrorKind}
 use Rattle.clap.specs.declared.parser.matches.ArgMatches.{ArgMatches}
 use Rattle.clap.proofs.OnLiterals.{clap_on_literals}
 use Rattle.clap.proofs.WalkLemmas.{first_value-rows, one_text-rows, raw_values-rows}
-use Rattle.cli_requests.specs.Apps.{info_app, format_app, copy_app, store_app, table_app, rename_app, create_app, append_app, query_app, other_parameters, parameters_of, IsAppWith, IsOwnApp, value_of, values_of}
+use Rattle.cli_requests.specs.Apps.{info_app, format_app, copy_app, store_app, table_app, import_app, rename_app, create_app, append_app, query_app, other_parameters, parameters_of, IsAppWith, IsOwnApp, value_of, values_of}
 use Rattle.cli_requests.specs.Apps.{HasFound}
 use Rattle.cli_requests.specs.Asked.{request_word}
 use Rattle.cli_requests.specs.Operands.{version_named, operands, names_file, names_table, IsNamedBy, Names}
@@ -56,6 +56,14 @@ pub table_plain : (name : Text) (p : ℕ) → ends_options (arg_by_index (built 
 table_plain name p = by_each (1 == p) (2 == p) refl refl
   where
     by_each : (a b : Bool) → (1 == p) ≡ a → (2 == p) ≡ b → ends_options (arg_by_index (built (table_app name)).top.rules p) ≡ false
+    by_each true b d e = rw d refl
+    by_each false true d e = rw (d, e) refl
+    by_each false false d e = rw (d, e) refl
+
+pub import_plain : (name : Text) (p : ℕ) → ends_options (arg_by_index (built (import_app name)).top.rules p) ≡ false
+import_plain name p = by_each (1 == p) (2 == p) refl refl
+  where
+    by_each : (a b : Bool) → (1 == p) ≡ a → (2 == p) ≡ b → ends_options (arg_by_index (built (import_app name)).top.rules p) ≡ false
     by_each true b d e = rw d refl
     by_each false true d e = rw (d, e) refl
     by_each false false d e = rw (d, e) refl
@@ -124,6 +132,9 @@ info_top name = (built (info_app name)).top
 abbrev pub table_top : Text → Shape
 table_top name = (built (table_app name)).top
 
+abbrev pub import_top : Text → Shape
+import_top name = (built (import_app name)).top
+
 abbrev pub rename_top : Text → Shape
 rename_top name = (built (rename_app name)).top
 
@@ -173,6 +184,22 @@ table_named name [] e = absurd (some_kind _ _ e)
 table_named name (a ∷ []) e = absurd (some_kind _ _ e)
 table_named name (a ∷ b ∷ []) e = refl
 table_named name (a ∷ b ∷ c ∷ rest) e = absurd (some_kind _ _ e)
+
+import_named : (name : Text) (ops : List Text) → operands_fault (import_top name) ops ≡ []
+    → ops ≡ row_value (codes "STORE") (operand_rows (import_top name) ops) ∷ row_value (codes "NAME") (operand_rows (import_top name) ops) ∷ []
+unfolding clap_on_literals
+import_named name [] e = absurd (some_kind _ _ e)
+import_named name (a ∷ []) e = absurd (some_kind _ _ e)
+import_named name (a ∷ b ∷ []) e = refl
+import_named name (a ∷ b ∷ c ∷ rest) e = absurd (some_kind _ _ e)
+
+-- without its option
+import_alone : (name : Text) (ops : List Text) → operands_fault (import_top name) ops ≡ [] → one_of (codes "new") (operand_rows (import_top name) ops) ≡ Some (codes "false")
+unfolding clap_on_literals
+import_alone name [] e = absurd (some_kind _ _ e)
+import_alone name (a ∷ []) e = absurd (some_kind _ _ e)
+import_alone name (a ∷ b ∷ []) e = refl
+import_alone name (a ∷ b ∷ c ∷ rest) e = absurd (some_kind _ _ e)
 
 rename_named : (name : Text) (ops : List Text) → operands_fault (rename_top name) ops ≡ []
     → ops ≡ row_value (codes "STORE") (operand_rows (rename_top name) ops) ∷ row_value (codes "NAME") (operand_rows (rename_top name) ops)
@@ -364,6 +391,18 @@ module _ (word : Text) (words : List Text) (m : ArgMatches) (a : App) (name : Te
       table_named name ops (sym reads.fault ∙ p.faultless refl)
       ∙ (λ i. found_value m _ (codes "STORE") rows i ∷ found_value m _ (codes "NAME") rows i ∷ [])
 
+  import_found : a ≡ import_app name → (ops : List Text) → operands words ≡ Some ops
+      → (ops ≡ value_of (found_of m) (codes "STORE") ∷ value_of (found_of m) (codes "NAME") ∷ []) × (one_text (found_of m) (codes "new") ≡ Some (codes "false"))
+  unfolding clap_on_literals
+  import_found is ops e =
+      let reads = reads_operands (import_app name) word words ops e refl refl (import_plain name) in
+      let p : Parsed (import_app name) (word ∷ words) m = subst (λ (x : App). Parsed x (word ∷ words) m) is parsed in
+      let rows = (p.matches refl).0 ∙ reads.rows in
+      let faultless = sym reads.fault ∙ p.faultless refl in (
+        import_named name ops faultless ∙ (λ i. found_value m _ (codes "STORE") rows i ∷ found_value m _ (codes "NAME") rows i ∷ []),
+        sym (found_one m _ (codes "new") rows) ∙ import_alone name ops faultless,
+      )
+
   rename_found : a ≡ rename_app name → (ops : List Text) → operands words ≡ Some ops
       → ops ≡ value_of (found_of m) (codes "STORE") ∷ value_of (found_of m) (codes "NAME") ∷ value_of (found_of m) (codes "NEW") ∷ []
   unfolding clap_on_literals
@@ -474,6 +513,10 @@ module _ (word : Text) (words : List Text) (m : ArgMatches) (a : App) (own : IsO
       → ops ≡ value_of (found_of m) (codes "STORE") ∷ value_of (found_of m) (codes "NAME") ∷ []
   names_one_table is ops e = table_found word words m a word parsed (subst (λ (b : Parameters). IsAppWith word b a) is own) ops e
 
+  names_import : parameters_of word ≡ parameters.TableToImport → (ops : List Text) → operands words ≡ Some ops
+      → (ops ≡ value_of (found_of m) (codes "STORE") ∷ value_of (found_of m) (codes "NAME") ∷ []) × (one_text (found_of m) (codes "new") ≡ Some (codes "false"))
+  names_import is ops e = import_found word words m a word parsed (subst (λ (b : Parameters). IsAppWith word b a) is own) ops e
+
   names_two : parameters_of word ≡ parameters.TableAndNewName → (ops : List Text) → operands words ≡ Some ops
       → ops ≡ value_of (found_of m) (codes "STORE") ∷ value_of (found_of m) (codes "NAME") ∷ value_of (found_of m) (codes "NEW") ∷ []
   names_two is ops e = rename_found word words m a word parsed (subst (λ (b : Parameters). IsAppWith word b a) is own) ops e
@@ -551,7 +594,10 @@ module _ (word : Text) (words : List Text) (m : ArgMatches) (a : App) (own : IsO
       (λ ops e. (names_file_only (of_word (codes "compact") parameters.Nothing is refl) ops e ∙ ap (λ (v : Text). v ∷ []) (sym found.0), tt))
   names_command (requests.Command file (commands.Import name)) is found =
       named (requests.Command file (commands.Import name))
-      (λ ops e. (names_one_table (of_word (codes "import") parameters.Table is refl) ops e ∙ (λ i. sym found.0 i ∷ sym found.1 i ∷ []), tt))
+      (λ ops e. ((names_import (of_word (codes "import") parameters.TableToImport is refl) ops e).0 ∙ (λ i. sym found.0 i ∷ sym found.1.0 i ∷ []), tt))
+  names_command (requests.Command file (commands.ImportNew name)) is found =
+      named (requests.Command file (commands.ImportNew name))
+      (λ ops e. absurd (true≢false (found.1.1.left_out (names_import (of_word (codes "import") parameters.TableToImport is refl) ops e).1)))
   names_command (requests.Command file (commands.Drop name)) is found =
       named (requests.Command file (commands.Drop name))
       (λ ops e. (names_one_table (of_word (codes "drop") parameters.Table is refl) ops e ∙ (λ i. sym found.0 i ∷ sym found.1 i ∷ []), tt))
@@ -568,7 +614,7 @@ module _ (word : Text) (words : List Text) (m : ArgMatches) (a : App) (own : IsO
       named (requests.Command file (commands.Info as_json))
       (λ ops e.
       let has = names_form (of_word (codes "info") parameters.FileAndForm is refl) ops e in
-      (has.0 ∙ ap (λ (v : Text). v ∷ []) (sym found.0), found.1.lines has.1))
+      (has.0 ∙ ap (λ (v : Text). v ∷ []) (sym found.0), found.1.left_out has.1))
   names_command (requests.Command file (commands.Rename from to)) is found =
       named (requests.Command file (commands.Rename from to))
       (λ ops e. (

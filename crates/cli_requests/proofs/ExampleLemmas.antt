@@ -1,6 +1,7 @@
 -- Command lines with options, which `clap` takes.
-use Rattle.std.proofs.Common.{◌≡◌, ◌⊎◌, ◌∙◌, ◌≤◌, ◌++◌, Bool, true, refl, sym, ap, subst, List, [], ◌∷◌, length, drop, codes, Option, Some, None, inl, inr, true≢false}
+use Rattle.std.proofs.Common.{◌≡◌, ◌⊎◌, ◌∙◌, ◌≤◌, ◌++◌, Bool, true, false, refl, sym, ap, subst, List, [], ◌∷◌, length, drop, codes, Option, Some, None, inl, inr, true≢false}
 use Rattle.std.specs.Prelude.{unwrap_or, fold, if◌then◌else◌}
+use Rattle.std.specs.Str.{bytes_eq}
 use Rattle.clap.specs.Kinds.{Kinds, or_else}
 use Rattle.clap.specs.Values.{reading_of, refused_kind}
 use Rattle.clap.specs.declared.parser.matches.ValueSource.TheVariants.{CommandLine}
@@ -13,7 +14,7 @@ use Rattle.clap.specs.Lexer.{usize_max}
 use Rattle.clap.specs.declared.builder.value_parser.ValueParser.TheVariants as parsers
 use Rattle.clap.proofs.OnLiterals.{clap_on_literals}
 use Rattle.clap.specs.declared.builder.value_parser.ValueParser.{ValueParser}
-use Rattle.cli_requests.specs.Apps.{AreForms, IsOwnApp, info_app, format_app, query_app, replay_app, append_app, other_parameters, parameters_of}
+use Rattle.cli_requests.specs.Apps.{AreForms, IsOwnApp, info_app, format_app, import_app, query_app, replay_app, append_app, other_parameters, parameters_of}
 use Rattle.cli_requests.specs.Examples.{AreExamples, AreFound, AreReadAs, AreValuesRead, IsVersion, Valued, called}
 use Rattle.cli_requests.specs.Numbers.{is_number, is_number_if_any}
 use Rattle.cli_requests.specs.Operands.{names_file, names_table}
@@ -40,33 +41,32 @@ module _ (first : Text → Option Text) (objects : Option Text) where
     played = λ e. absurd (true≢false (sym e));
   }
 
+  -- a command of which nothing that is found is refused
+  plain_takable : (word : Text) → makes_word word ≡ false → bytes_eq (codes "format") word ≡ false → bytes_eq (codes "query") word ≡ false
+      → bytes_eq (codes "replay") word ≡ false → IsTakable word first objects
+  plain_takable word makes format query replay = record {
+    sectors = λ e. absurd (true≢false (sym e ∙ makes));
+    version = λ e. absurd (true≢false (sym e ∙ format));
+    limit = λ e. absurd (true≢false (sym e ∙ query));
+    printed = λ e. absurd (true≢false (sym e ∙ query));
+    size = λ e. absurd (true≢false (sym e ∙ replay));
+    fail = λ e. absurd (true≢false (sym e ∙ replay));
+    stop = λ e. absurd (true≢false (sym e ∙ replay));
+    choice = λ e. absurd (true≢false (sym e ∙ replay));
+    played = λ e. absurd (true≢false (sym e ∙ replay));
+  }
+
   info_takable : IsTakable (codes "info") first objects
   unfolding makes_word
-  info_takable = record {
-    sectors = λ e. absurd (true≢false (sym e));
-    version = λ e. absurd (true≢false (sym e));
-    limit = λ e. absurd (true≢false (sym e));
-    printed = λ e. absurd (true≢false (sym e));
-    size = λ e. absurd (true≢false (sym e));
-    fail = λ e. absurd (true≢false (sym e));
-    stop = λ e. absurd (true≢false (sym e));
-    choice = λ e. absurd (true≢false (sym e));
-    played = λ e. absurd (true≢false (sym e));
-  }
+  info_takable = plain_takable (codes "info") refl refl refl refl
+
+  import_takable : IsTakable (codes "import") first objects
+  unfolding makes_word
+  import_takable = plain_takable (codes "import") refl refl refl refl
 
   append_takable : IsTakable (codes "append") first objects
   unfolding makes_word
-  append_takable = record {
-    sectors = λ e. absurd (true≢false (sym e));
-    version = λ e. absurd (true≢false (sym e));
-    limit = λ e. absurd (true≢false (sym e));
-    printed = λ e. absurd (true≢false (sym e));
-    size = λ e. absurd (true≢false (sym e));
-    fail = λ e. absurd (true≢false (sym e));
-    stop = λ e. absurd (true≢false (sym e));
-    choice = λ e. absurd (true≢false (sym e));
-    played = λ e. absurd (true≢false (sym e));
-  }
+  append_takable = plain_takable (codes "append") refl refl refl refl
 
   query_takable : is_number_if_any (first (codes "limit")) ≡ true → (first (codes "save") ≡ None) ⊎ (objects ≡ Some (codes "false"))
       → IsTakable (codes "query") first objects
@@ -120,6 +120,11 @@ info_example : AreReadAs (called (codes "info" ∷ codes "--json" ∷ codes "sto
     ((codes "STORE", codes "store" ∷ []) ∷ (codes "json", codes "true" ∷ []) ∷ [])
 unfolding names_file names_table other_parameters parameters_of first_word makes_word is_number walked clap_on_literals
 info_example = read_as _ _ (info_app (codes "info")) (λ command own. sym own) refl (info_takable _ _) (refl, (refl, tt))
+
+import_example : AreReadAs (called (codes "import" ∷ codes "store" ∷ codes "--new" ∷ codes "readings" ∷ []))
+    ((codes "STORE", codes "store" ∷ []) ∷ (codes "NAME", codes "readings" ∷ []) ∷ (codes "new", codes "true" ∷ []) ∷ [])
+unfolding names_file names_table other_parameters parameters_of first_word makes_word is_number walked clap_on_literals
+import_example = read_as _ _ (import_app (codes "import")) (λ command own. sym own) refl (import_takable _ _) (refl, (refl, (refl, tt)))
 
 -- of `append` any command that knows the forms
 
@@ -209,6 +214,11 @@ info_values : (file : Text) → AreReadAs (called (codes "info" ∷ codes "--jso
     ((codes "STORE", file ∷ []) ∷ (codes "json", codes "true" ∷ []) ∷ [])
 unfolding names_file names_table other_parameters parameters_of first_word makes_word is_number walked clap_on_literals
 info_values file = read_as _ _ (info_app (codes "info")) (λ command own. sym own) refl (info_takable _ _) (refl, (refl, tt))
+
+import_values : (file name : Text) → AreReadAs (called (codes "import" ∷ codes "--new" ∷ codes "--" ∷ file ∷ name ∷ []))
+    ((codes "STORE", file ∷ []) ∷ (codes "NAME", name ∷ []) ∷ (codes "new", codes "true" ∷ []) ∷ [])
+unfolding names_file names_table other_parameters parameters_of first_word makes_word is_number walked clap_on_literals
+import_values file name = read_as _ _ (import_app (codes "import")) (λ command own. sym own) refl (import_takable _ _) (refl, (refl, (refl, tt)))
 
 module _ (forms : ValueParser) (known : AreForms forms) where
   abbrev words_of_append : (form null file name : Text) → List Text
@@ -376,6 +386,7 @@ pub examples : AreExamples
 examples = record {
   format = format_example;
   info = info_example;
+  imported = import_example;
   append = append_example;
   printed = printed_example;
   objects = objects_example;
@@ -387,6 +398,7 @@ pub values_read : AreValuesRead
 values_read = record {
   format = format_values;
   info = info_values;
+  imported = import_values;
   append = append_values;
   objects = objects_values;
   saved = saved_values;

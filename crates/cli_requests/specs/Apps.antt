@@ -41,12 +41,12 @@ store_app name = with_rule (new_app name) (required_rule (codes "STORE"))
 abbrev pub sectors_rule : Rule
 sectors_rule = record (required_rule (codes "SECTORS")) { parser = Some (parsers.Unsigned 0 18446744073709551615) }
 
--- an option without a value, and a command that takes it
-abbrev pub json_rule : Rule
-json_rule = record (new_rule (codes "json")) { long = Some (codes "json"); action = Some SetTrue }
+-- an option without a value, and a command that takes one
+abbrev pub flag_rule : Text → Rule
+flag_rule id = record (new_rule id) { long = Some id; action = Some SetTrue }
 
 abbrev pub info_app : Text → App
-info_app name = with_rule (store_app name) json_rule
+info_app name = with_rule (store_app name) (flag_rule (codes "json"))
 
 -- an option with a value
 abbrev pub option_rule : Text → Rule
@@ -73,6 +73,10 @@ table_app name = with_rule (store_app name) (required_rule (codes "NAME"))
 abbrev pub rename_app : Text → App
 rename_app name = with_rule (table_app name) (required_rule (codes "NEW"))
 
+-- a command that also says whether the table must be new
+abbrev pub import_app : Text → App
+import_app name = with_rule (table_app name) (flag_rule (codes "new"))
+
 -- a word that may be given any number of times
 abbrev pub repeated_rule : Text → Rule
 repeated_rule id = record (new_rule id) { range = Some (record { start_inclusive = 0; end_inclusive = usize_max }) }
@@ -95,16 +99,12 @@ append_app forms name = with_rule (with_rule (table_app name) (form_rule forms))
 abbrev pub limit_rule : Rule
 limit_rule = record (option_rule (codes "limit")) { parser = Some (parsers.Unsigned 0 18446744073709551615) }
 
--- an option without a value
-abbrev pub objects_rule : Rule
-objects_rule = record (new_rule (codes "objects")) { long = Some (codes "objects"); action = Some SetTrue }
-
 abbrev pub conditions_app : Text → App
 conditions_app name = with_rule (table_app name) (repeated_rule (codes "CONDITION"))
 
 abbrev pub query_app : Text → App
 query_app name = with_rule (with_rule (with_rule (with_rule (conditions_app name) (option_rule (codes "columns"))) limit_rule) (option_rule (codes "save")))
-    objects_rule
+    (flag_rule (codes "objects"))
 
 -- a script, and what goes wrong while it is played
 abbrev pub number_rule : Text → Rule
@@ -135,6 +135,7 @@ abbrev pub IsAppWith : Text → Parameters → App → Type 0
 IsAppWith name parameters.Nothing command = command ≡ store_app name
 IsAppWith name parameters.FileAndForm command = command ≡ info_app name
 IsAppWith name parameters.Table command = command ≡ table_app name
+IsAppWith name parameters.TableToImport command = command ≡ import_app name
 IsAppWith name parameters.TableAndNewName command = command ≡ rename_app name
 IsAppWith name parameters.Sectors command = command ≡ format_app name
 IsAppWith name parameters.NewStore command = command ≡ copy_app name
@@ -149,7 +150,7 @@ other_parameters word =
     if bytes_eq (codes "format") word then parameters.Sectors
     else (if bytes_eq (codes "copy") word then parameters.NewStore else (if bytes_eq (codes "create") word then parameters.TableAndFields else (if bytes_eq
     (codes "append") word then parameters.TableAndRows else (if bytes_eq (codes "replay") word then parameters.ScriptAndFaults else (if bytes_eq
-    (codes "info") word then parameters.FileAndForm else parameters.TableAndQuery)))))
+    (codes "info") word then parameters.FileAndForm else (if bytes_eq (codes "import") word then parameters.TableToImport else parameters.TableAndQuery))))))
 
 unfoldable pub parameters_of : Text → Parameters
 parameters_of word =
@@ -180,10 +181,10 @@ pub record HasForm (found : Found) (form : RowForm) : Type 0 where
   pub arrays : one_text found (codes "objects") ≡ Some (codes "false") → form ≡ Array
   pub objects : one_text found (codes "objects") ≡ Some (codes "true") → form ≡ Object
 
--- the summary is printed as JSON if the option is given
-pub record HasJson (found : Found) (as_json : Bool) : Type 0 where
-  pub lines : one_text found (codes "json") ≡ Some (codes "false") → as_json ≡ false
-  pub object : one_text found (codes "json") ≡ Some (codes "true") → as_json ≡ true
+-- the flag says whether this option without a value is given
+pub record HasFlag (found : Found) (id : Text) (flag : Bool) : Type 0 where
+  pub left_out : one_text found id ≡ Some (codes "false") → flag ≡ false
+  pub given : one_text found id ≡ Some (codes "true") → flag ≡ true
 
 -- the form of a text is the one that was found, and in CSV the text that was found stands for null
 abbrev pub HasTextForm : Found → TextForm → Type 0
@@ -192,7 +193,8 @@ HasTextForm found text_forms.JsonLines = value_of found (codes "as") ≢ codes "
 
 -- a command has the names that were found
 abbrev pub HasNames : Found → StoreCommand → Type 0
-HasNames found (commands.Import name) = name.now ≡ value_of found (codes "NAME")
+HasNames found (commands.Import name) = (name.now ≡ value_of found (codes "NAME")) × HasFlag found (codes "new") false
+HasNames found (commands.ImportNew name) = (name.now ≡ value_of found (codes "NAME")) × HasFlag found (codes "new") true
 HasNames found (commands.Create name fields) = (name.now ≡ value_of found (codes "NAME")) × (texts fields.items ≡ values_of found (codes "FIELD"))
 HasNames found (commands.Append name) = (name.now ≡ value_of found (codes "NAME")) × (bytes_eq (value_of found (codes "as")) (codes "stream") ≡ true)
 HasNames found (commands.AppendText name form) =
@@ -203,7 +205,7 @@ HasNames found (commands.SaveAs from to query) =
 HasNames found (commands.Drop name) = name.now ≡ value_of found (codes "NAME")
 HasNames found (commands.Schema name) = name.now ≡ value_of found (codes "NAME")
 HasNames found (commands.Export name) = name.now ≡ value_of found (codes "NAME")
-HasNames found (commands.Info as_json) = HasJson found as_json
+HasNames found (commands.Info as_json) = HasFlag found (codes "json") as_json
 HasNames found (commands.Rename from to) = (from.now ≡ value_of found (codes "NAME")) × (to.now ≡ value_of found (codes "NEW"))
 HasNames found _ = Unit {0}
 

@@ -30,6 +30,8 @@ pub record AreExamples : Type 0 where
       ((codes "STORE", codes "store" ∷ []) ∷ (codes "SECTORS", codes "4096" ∷ []) ∷ (codes "format-version", codes "1" ∷ []) ∷ [])
   pub info : AreReadAs (called (codes "info" ∷ codes "--json" ∷ codes "store" ∷ []))
       ((codes "STORE", codes "store" ∷ []) ∷ (codes "json", codes "true" ∷ []) ∷ [])
+  pub imported : AreReadAs (called (codes "import" ∷ codes "store" ∷ codes "--new" ∷ codes "readings" ∷ []))
+      ((codes "STORE", codes "store" ∷ []) ∷ (codes "NAME", codes "readings" ∷ []) ∷ (codes "new", codes "true" ∷ []) ∷ [])
   pub append : AreReadAs (called (codes "append" ∷ codes "store" ∷ codes "readings" ∷ codes "--as" ∷ codes "csv" ∷ codes "--null=NA" ∷ []))
       ((codes "STORE", codes "store" ∷ []) ∷ (codes "NAME", codes "readings" ∷ []) ∷ (codes "as", codes "csv" ∷ []) ∷ (codes "null", codes "NA" ∷ []) ∷ [])
   pub printed : AreReadAs
@@ -58,6 +60,8 @@ pub record AreValuesRead : Type 0 where
       ((codes "STORE", file ∷ []) ∷ (codes "SECTORS", number ∷ []) ∷ (codes "format-version", version ∷ []) ∷ [])
   pub info : (file : Text) → AreReadAs (called (codes "info" ∷ codes "--json" ∷ codes "--" ∷ file ∷ []))
       ((codes "STORE", file ∷ []) ∷ (codes "json", codes "true" ∷ []) ∷ [])
+  pub imported : (file name : Text) → AreReadAs (called (codes "import" ∷ codes "--new" ∷ codes "--" ∷ file ∷ name ∷ []))
+      ((codes "STORE", file ∷ []) ∷ (codes "NAME", name ∷ []) ∷ (codes "new", codes "true" ∷ []) ∷ [])
   pub append : (form null file name : Text) → (form ≡ codes "csv") ⊎ (form ≡ codes "jsonl")
       → AreReadAs (called (codes "append" ∷ (codes "--as=" ++ form) ∷ (codes "--null=" ++ null) ∷ codes "--" ∷ file ∷ name ∷ []))
       ((codes "STORE", file ∷ []) ∷ (codes "NAME", name ∷ []) ∷ (codes "as", form ∷ []) ∷ (codes "null", null ∷ []) ∷ [])

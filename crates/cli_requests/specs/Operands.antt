@@ -29,15 +29,14 @@ operands (word ∷ rest) = if bytes_eq word (codes "--") then Some rest else (if
 abbrev pub words_after_command : List Text → List Text
 words_after_command arguments = drop 2 arguments
 
--- the commands that name a store alone, and those that name a table in it
+-- the commands that name a store alone, and those that name a table in it and nothing else
 unfoldable pub names_file : Text → Bool
 names_file word =
     bytes_eq (codes "tables") word || (bytes_eq (codes "check") word || (bytes_eq (codes "compact") word || bytes_eq (codes "upgrade") word))
 
 unfoldable pub names_table : Text → Bool
 names_table word =
-    bytes_eq (codes "import") word || (bytes_eq (codes "drop") word || (bytes_eq (codes "schema") word || (bytes_eq (codes "export") word
-    || bytes_eq (codes "salvage") word)))
+    bytes_eq (codes "drop") word || (bytes_eq (codes "schema") word || (bytes_eq (codes "export") word || bytes_eq (codes "salvage") word))
 
 -- the version of a store that the word of an option names; without the option, the newest
 abbrev pub version_named : Option Text → FormatVersion
@@ -48,6 +47,7 @@ version_named (Some word) = if digits_value 10 word == 1 then One else Two
 abbrev pub names_in : StoreCommand → List Text
 names_in (commands.Create name fields) = name.now ∷ texts fields.items
 names_in (commands.Import name) = name.now ∷ []
+names_in (commands.ImportNew name) = name.now ∷ []
 names_in (commands.Append name) = name.now ∷ []
 names_in (commands.AppendText name form) = name.now ∷ []
 names_in (commands.Query name query form) = name.now ∷ texts query.conditions.items
@@ -62,8 +62,10 @@ names_in (commands.Info as_json) = []
 names_in commands.Compact = []
 names_in commands.Upgrade = []
 
--- a command without options: rows are appended from a stream, all columns of all rows are printed as arrays, and the summary as lines
+-- a command without options: an import may replace a table, rows are appended from a stream, all columns of all rows are printed as arrays, and the
+-- summary as lines
 abbrev pub IsWithoutOptions : StoreCommand → Type 0
+IsWithoutOptions (commands.ImportNew name) = ⊥
 IsWithoutOptions (commands.AppendText name form) = ⊥
 IsWithoutOptions (commands.Query name query form) = (query.columns ≡ None) × (query.limit ≡ None) × (form ≡ Array)
 IsWithoutOptions (commands.SaveAs from to query) = ⊥

@@ -26,6 +26,7 @@ abbrev pub takes : Parameters → List Text → Bool
 takes parameters.Nothing words = length words == 1
 takes parameters.FileAndForm words = length words == 1
 takes parameters.Table words = length words == 2
+takes parameters.TableToImport words = length words == 2
 takes parameters.TableAndNewName words = length words == 3
 takes parameters.Sectors words = are_file_and_number words
 takes parameters.NewStore words = are_files_and_number words

@@ -38,7 +38,8 @@ table has no columns.",
         about: abouts::IMPORT,
         example: "Example: arrowstore import store measurements < readings.arrows
 
-For CSV and JSON Lines use create, and then append with --as.",
+With --new, a table of this name is not replaced: it is refused (S2 NameTaken), and
+nothing is read. For CSV and JSON Lines use create, and then append with --as.",
     },
     CommandHelp {
         name: "append",

@@ -2,8 +2,8 @@
 ghost use Rattle.std.specs.Prelude.{◌≡◌, false, codes, IfOk};
 ghost use Rattle.clap.specs.Words.{app_of, new_app, rule_of, with_rule};
 ghost use Rattle.clap.specs.declared.builder.value_parser.ValueParser.{ValueParser};
-ghost use Rattle.cli_requests.specs.Apps.{required_rule, json_rule, sectors_rule, version_rule, repeated_rule, option_rule, form_rule, null_rule, limit_rule, objects_rule};
-ghost use Rattle.cli_requests.specs.Apps.{store_app, info_app, format_app, new_file_app, copy_app, table_app, rename_app, create_app, append_app, conditions_app, query_app};
+ghost use Rattle.cli_requests.specs.Apps.{required_rule, flag_rule, sectors_rule, version_rule, repeated_rule, option_rule, form_rule, null_rule, limit_rule};
+ghost use Rattle.cli_requests.specs.Apps.{store_app, info_app, format_app, new_file_app, copy_app, table_app, import_app, rename_app, create_app, append_app, conditions_app, query_app};
 ghost use Rattle.cli_requests.specs.Apps.{AreForms, other_parameters, parameters_of, IsOwnApp};
 ghost use Rattle.cli_requests.specs.Operands.{names_file, names_table};
 
@@ -24,6 +24,7 @@ enum Parameters {
     Sectors,
     NewStore,
     Table,
+    TableToImport,
     TableAndFields,
     TableAndRows,
     TableAndNewName,
@@ -50,13 +51,14 @@ pub(crate) fn option<'a>(alloc: Global, id: &'a str, value: &'a str, help: &'a s
     Arg::new(alloc, id).long(id).value_name(value).help(help)
 }
 
-fn json<'a>(alloc: Global) -> Arg<'a>
-    ensures { (rule_of result ≡ json_rule) × (result.global ≡ false) }
+// Makes an option without a value.
+fn flag<'a>(alloc: Global, id: &'a str, help: &'a str) -> Arg<'a>
+    ensures { (rule_of result ≡ flag_rule id.entry.now) × (result.global ≡ false) }
 {
-    Arg::new(alloc, "json")
-        .long("json")
+    Arg::new(alloc, id)
+        .long(id)
         .action(ArgAction::SetTrue)
-        .help("Prints one JSON object on one line")
+        .help(help)
 }
 
 fn sectors<'a>(alloc: Global) -> Arg<'a>
@@ -108,15 +110,6 @@ fn null_text<'a>(alloc: Global) -> Arg<'a>
     .hide_default_value(true)
 }
 
-fn objects<'a>(alloc: Global) -> Arg<'a>
-    ensures { (rule_of result ≡ objects_rule) × (result.global ≡ false) }
-{
-    Arg::new(alloc, "objects")
-        .long("objects")
-        .action(ArgAction::SetTrue)
-        .help("Prints each row as an object with the names of the columns, which must all differ")
-}
-
 fn limit<'a>(alloc: Global) -> Arg<'a>
     ensures { (rule_of result ≡ limit_rule) × (result.global ≡ false) }
 {
@@ -137,7 +130,7 @@ fn names_file(word: &str) -> bool
 fn names_table(word: &str) -> bool
     ensures { result ≡ names_table word.now }
 {
-    matches!(word, "import" | "drop" | "schema" | "export" | "salvage")
+    matches!(word, "drop" | "schema" | "export" | "salvage")
 }
 
 #[tactic(auto, unfolding(crate::specs::Apps::other_parameters))]
@@ -151,6 +144,7 @@ fn other_parameters(word: &str) -> Parameters
         "append" => Parameters::TableAndRows,
         "replay" => Parameters::ScriptAndFaults,
         "info" => Parameters::FileAndForm,
+        "import" => Parameters::TableToImport,
         _ => Parameters::TableAndQuery,
     }
 }
@@ -196,13 +190,24 @@ fn with_file<'a>(alloc: Global, name: &'a str) -> Result<Command<'a>, AllocError
 fn with_form<'a>(alloc: Global, name: &'a str) -> Result<Command<'a>, AllocError>
     ensures { IfOk result (λ c. app_of c ≡ info_app name.now) }
 {
-    with_file(alloc, name)?.arg(json(alloc))
+    with_file(alloc, name)?.arg(flag(alloc, "json", "Prints one JSON object on one line"))
 }
 
 fn with_table<'a>(alloc: Global, name: &'a str) -> Result<Command<'a>, AllocError>
     ensures { IfOk result (λ c. app_of c ≡ table_app name.now) }
 {
     with_file(alloc, name)?.arg(required(alloc, "NAME", "The name of the table"))
+}
+
+// Makes a command that takes `--new`.
+fn with_import<'a>(alloc: Global, name: &'a str) -> Result<Command<'a>, AllocError>
+    ensures { IfOk result (λ c. app_of c ≡ import_app name.now) }
+{
+    with_table(alloc, name)?.arg(flag(
+        alloc,
+        "new",
+        "Replaces no table: the name of a table is refused before the input is read",
+    ))
 }
 
 fn with_new_name<'a>(alloc: Global, name: &'a str) -> Result<Command<'a>, AllocError>
@@ -277,11 +282,16 @@ pub(crate) fn with_query<'a>(alloc: Global, name: &'a str) -> Result<Command<'a>
         "NEW",
         "Saves the rows as a new table NEW, instead of printing them",
     );
+    let objects = flag(
+        alloc,
+        "objects",
+        "Prints each row as an object with the names of the columns, which must all differ",
+    );
     with_conditions(alloc, name)?
         .arg(columns)?
         .arg(limit(alloc))?
         .arg(save)?
-        .arg(objects(alloc))
+        .arg(objects)
 }
 
 fn command<'a>(alloc: Global, name: &'a str) -> Result<Command<'a>, AllocError>
@@ -291,6 +301,7 @@ fn command<'a>(alloc: Global, name: &'a str) -> Result<Command<'a>, AllocError>
         Parameters::Nothing => with_file(alloc, name),
         Parameters::FileAndForm => with_form(alloc, name),
         Parameters::Table => with_table(alloc, name),
+        Parameters::TableToImport => with_import(alloc, name),
         Parameters::TableAndNewName => with_new_name(alloc, name),
         Parameters::Sectors => with_sectors(alloc, name),
         Parameters::NewStore => with_new_store(alloc, name),

@@ -24,7 +24,9 @@ fn name_of<'a>(command: &StoreCommand<'a>) -> Option<&'a str> {
 // Returns the name that a table is to get.
 fn new_name_of<'a>(command: &StoreCommand<'a>) -> Option<&'a str> {
     match command {
-        StoreCommand::Create { name, .. } | StoreCommand::Import { name } => Some(name),
+        StoreCommand::Create { name, .. }
+        | StoreCommand::Import { name }
+        | StoreCommand::ImportNew { name } => Some(name),
         StoreCommand::SaveAs { to, .. } | StoreCommand::Rename { to, .. } => Some(to),
         _ => None,
     }

@@ -2,7 +2,7 @@
 ghost use Rattle.std.specs.Prelude.{◌≡◌, true, false, codes, map, drop, IfOk, IfErr, IsOk};
 ghost use Rattle.clap.specs.Words.{first_value, found_of};
 ghost use Rattle.cli_requests.specs.declared.store_command_line.Mistake.TheVariants as mistakes;
-ghost use Rattle.cli_requests.specs.Apps.{value_of, HasQuery, HasForm, HasJson, HasTextForm, HasNames, HasFound, IsOfMemory};
+ghost use Rattle.cli_requests.specs.Apps.{value_of, HasQuery, HasForm, HasFlag, HasTextForm, HasNames, HasFound, IsOfMemory};
 ghost use Rattle.cli_requests.specs.Asked.{command_word, request_word};
 ghost use Rattle.cli_requests.specs.Numbers.{is_number, is_number_if_any};
 ghost use Rattle.cli_requests.specs.Operands.{Names};
@@ -209,6 +209,25 @@ fn text_form<'a>(form: &str, words: &ArgMatches<'a>) -> TextForm<'a>
     }
 }
 
+fn has_flag(words: &ArgMatches<'_>, id: &str) -> bool
+    ensures { HasFlag (found_of words.now) id.now result }
+{
+    words.get_flag(id)
+}
+
+// A table of this name is replaced, or its name is refused.
+fn import_command<'a>(name: &'a str, words: &ArgMatches<'a>) -> StoreCommand<'a>
+    requires { name.now ≡ value_of (found_of words.now) (codes "NAME") }
+    ensures word { command_word result ≡ codes "import" }
+    ensures named { HasNames (found_of words.now) result }
+{
+    if has_flag(words, "new") {
+        StoreCommand::ImportNew { name }
+    } else {
+        StoreCommand::Import { name }
+    }
+}
+
 // Rows are appended from a stream or from a text.
 fn append_command<'a>(name: &'a str, words: &ArgMatches<'a>) -> StoreCommand<'a>
     requires { name.now ≡ value_of (found_of words.now) (codes "NAME") }
@@ -295,12 +314,6 @@ fn create_command<'a>(
     })
 }
 
-fn asks_json(words: &ArgMatches<'_>) -> bool
-    ensures { HasJson (found_of words.now) result }
-{
-    words.get_flag("json")
-}
-
 fn command_of<'a>(
     alloc: Global,
     command: &str,
@@ -313,7 +326,7 @@ fn command_of<'a>(
     let name = word(words, "NAME");
     match command {
         "create" => Ok(create_command(alloc, name, words)?),
-        "import" => Ok(StoreCommand::Import { name }),
+        "import" => Ok(import_command(name, words)),
         "append" => Ok(append_command(name, words)),
         "query" => query_command(alloc, name, words),
         "rename" => Ok(StoreCommand::Rename {
@@ -325,7 +338,7 @@ fn command_of<'a>(
         "export" => Ok(StoreCommand::Export { name }),
         "check" => Ok(StoreCommand::Check),
         "info" => Ok(StoreCommand::Info {
-            as_json: asks_json(words),
+            as_json: has_flag(words, "json"),
         }),
         "compact" => Ok(StoreCommand::Compact),
         "upgrade" => Ok(StoreCommand::Upgrade),

@@ -58,6 +58,10 @@ pub enum StoreCommand<'a> {
     Import {
         name: &'a str,
     },
+    /// Makes the table of a stream, if no table has this name.
+    ImportNew {
+        name: &'a str,
+    },
     /// Appends the rows of a stream to the table.
     Append {
         name: &'a str,

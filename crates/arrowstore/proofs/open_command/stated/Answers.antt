@@ -13,6 +13,10 @@ pub returns-in-Import-clause-reads : goal.returns-in-Import-clause-reads
 unfolding takes_input_word
 returns-in-Import-clause-reads c = rw c.in-Import.is refl
 
+pub returns-in-ImportNew-clause-reads : goal.returns-in-ImportNew-clause-reads
+unfolding takes_input_word
+returns-in-ImportNew-clause-reads c = rw c.in-ImportNew.is refl
+
 pub returns-in-Append-clause-reads : goal.returns-in-Append-clause-reads
 unfolding takes_input_word
 returns-in-Append-clause-reads c = rw c.in-Append.is refl
@@ -70,6 +74,10 @@ returns-in-Compact-clause-reads c = rw c.in-Compact.is refl
 pub returns-in-Import-clause-stated : goal.returns-in-Import-clause-stated
 unfolding States
 returns-in-Import-clause-stated c = rw c.in-Import.is refl
+
+pub returns-in-ImportNew-clause-stated : goal.returns-in-ImportNew-clause-stated
+unfolding States
+returns-in-ImportNew-clause-stated c = rw c.in-ImportNew.is refl
 
 pub returns-in-Append-clause-stated : goal.returns-in-Append-clause-stated
 unfolding States

@@ -1,7 +1,7 @@
 use Rattle.std.proofs.Common.{inr, refl}
 use Rattle.arrowstore.specs.declared.open_command.OpenCommand.TheVariants as opened
 use Rattle.arrowstore.specs.Serving.{channels, Serves}
-use Rattle.arrowstore.proofs.ServingLemmas.{serves_import, serves_append, serves_text, serves_as}
+use Rattle.arrowstore.proofs.ServingLemmas.{serves_import, serves_new, serves_append, serves_text, serves_as}
 use Rattle.arrowstore.proofs.serving_open.serve_open.Goals as goal
 
 pub returns-in-Import-clause-serves : goal.returns-in-Import-clause-serves
@@ -10,6 +10,14 @@ returns-in-Import-clause-serves g c =
     let new = c.import_input.new in
     serves_import g.R.Read.remaining g.W.Write.contents c.args.command c.in-Import.name c.args.store.now new.store (channels c.args.input.now c.args.output.now c.args.hint.now)
     (channels new.input new.output c.args.hint.now) c.import_input.result c.in-Import.is (record { told = e.told; written = e.written; silent = e.silent; unhinted = refl })
+
+pub returns-in-ImportNew-clause-serves : goal.returns-in-ImportNew-clause-serves
+returns-in-ImportNew-clause-serves g c =
+    let e = c.import_new.ensures in
+    let new = c.import_new.new in
+    serves_new g.R.Read.remaining g.W.Write.contents c.args.command c.in-ImportNew.name c.args.store.now new.store (channels c.args.input.now c.args.output.now c.args.hint.now)
+    (channels new.input new.output c.args.hint.now) c.import_new.result c.in-ImportNew.is
+    (record { taken = e.taken; told = e.told; written = e.written; silent = e.silent; unhinted = refl })
 
 pub returns-in-Append-clause-serves : goal.returns-in-Append-clause-serves
 returns-in-Append-clause-serves g c =

@@ -10,6 +10,9 @@ returns-in-FileAndForm c = own_of _ _ _ _ c.parameters_of.ensures c.in-FileAndFo
 pub returns-in-Table : goal.returns-in-Table
 returns-in-Table c = own_of _ _ _ _ c.parameters_of.ensures c.in-Table.is c.with_table.ensures
 
+pub returns-in-TableToImport : goal.returns-in-TableToImport
+returns-in-TableToImport c = own_of _ _ _ _ c.parameters_of.ensures c.in-TableToImport.is c.with_import.ensures
+
 pub returns-in-TableAndNewName : goal.returns-in-TableAndNewName
 returns-in-TableAndNewName c = own_of _ _ _ _ c.parameters_of.ensures c.in-TableAndNewName.is c.with_new_name.ensures
 

@@ -1,0 +1,18 @@
+use Rattle.std.proofs.Common.{refl, codes}
+use Rattle.cli_requests.specs.Apps.{other_parameters}
+use Rattle.cli_requests.proofs.WordLemmas.{other_word}
+use Rattle.cli_requests.proofs.command_parameters.other_parameters.Goals as goal
+
+pub returns-in_default : goal.returns-in_default
+unfolding other_parameters
+returns-in_default c =
+    let word = c.args.word.now in
+    let other = c.in_default in
+    let format = other_word (codes "format") word other.not-format in
+    let copy = other_word (codes "copy") word other.not-copy in
+    let create = other_word (codes "create") word other.not-create in
+    let append = other_word (codes "append") word other.not-append in
+    let replay = other_word (codes "replay") word other.not-replay in
+    let info = other_word (codes "info") word other.not-info in
+    let import = other_word (codes "import") word other.not-import in
+    rw (format, copy, create, append, replay, info, import) refl
