@@ -170,10 +170,17 @@ pub(crate) fn about_tables(alloc: Global, tables: &[(String, u64)]) -> Option<St
     Some(text)
 }
 
+// Returns the column that has a part of this name, unless a column has the name itself: then two of them have it.
+fn column_of_part<'a>(fields: &'a [Field], name: &str) -> Option<&'a Field> {
+    if fields.iter().any(|field| field.name.as_str() == name) {
+        return None;
+    }
+    fields.iter().find(|field| is_below(field, name))
+}
+
 // Returns that a name is that of a part of a column, or which columns there are.
 fn about_name(alloc: Global, table: &Table, name: &str) -> Option<String> {
-    let fields = &table.schema().fields;
-    let Some(field) = fields.iter().find(|field| is_below(field, name)) else {
+    let Some(field) = column_of_part(&table.schema().fields, name) else {
         return about_columns(alloc, table);
     };
     let column = field.name.as_str();

@@ -4,6 +4,9 @@ use cli_requests::{StoreCommand, StoreRequest};
 use std::alloc::Global;
 use text_import::TextForm;
 
+// A text may begin with this mark, which is no part of its first record.
+const UTF_8_MARK: [u8; 3] = [0xef, 0xbb, 0xbf];
+
 // Where a byte of a CSV text stands.
 #[derive(Clone, Copy, PartialEq, Eq)]
 enum Place {
@@ -51,7 +54,8 @@ fn line_of_record(text: &[u8], number: u64) -> Option<u64> {
 
 // Returns the line of a record, unless it is the one after the lines of the header and of as many records as precede it.
 fn about_record(alloc: Global, text: &[u8], number: u64) -> Option<String> {
-    let line = line_of_record(text, number)?;
+    let unmarked = text.strip_prefix(&UTF_8_MARK).unwrap_or(text);
+    let line = line_of_record(unmarked, number)?;
     if number == 0 || Some(line) == number.checked_add(1) {
         return None;
     }
