@@ -10,7 +10,8 @@
    then, or nobody was told yet.
    Each call reaches the system as well, whose failures are told.
    The call of number DISK_CALL, counted from 1, goes wrong as DISK_HOW says: `fail` with DISK_ERROR, a write after DISK_PART bytes; `short`, it moves at most
-   DISK_PART bytes; `kill`, the process is killed before it; `killed`, after it. */
+   DISK_PART bytes; `kill`, the process is killed before it; `killed`, after it; `drop`, before it the system has used the memory of
+   all clean pages for something else, and reads show the disk again. */
 #define _GNU_SOURCE
 #include <errno.h>
 #include <fcntl.h>
@@ -151,11 +152,19 @@ static int is_how(const char *name) {
     return number == call && !strcmp(how, name);
 }
 
+static void drop_clean(void) {
+    for (long page = 0; page * PAGE < length(); page++)
+        if (state_of(page) == CLEAN)
+            copy(media, file, page * PAGE, PAGE);
+}
+
 /* Counts a call; whether it goes wrong by itself. */
 static int goes_wrong(void) {
     number++;
     if (is_how("kill"))
         kill(getpid(), SIGKILL);
+    if (is_how("drop"))
+        drop_clean();
     return is_how("fail") || is_how("short");
 }
 
