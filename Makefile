@@ -8,7 +8,7 @@ TESTS := $(foreach crate,$(REFUSING),crates/$(crate)/out/$(crate)_tests)
 
 PREFIX ?= /usr/local
 
-.PHONY: all proved dist install uninstall test gate-cost gate wrong-bodies memory vectors bench bench-recode bench-dictionaries bench-shapes bench-texts bench-store bench-device bench-bitmap
+.PHONY: all proved dist install uninstall test gate-cost gate wrong-bodies memory vectors bench bench-recode bench-dictionaries bench-shapes bench-texts bench-store bench-commits bench-device bench-bitmap
 .DELETE_ON_ERROR:
 
 # Puts the program into bin/ and runs it once, on the stream of examples/.
@@ -95,7 +95,7 @@ vectors: bin/arrowstore
 	tests/costs bin/arrowstore
 	tests/dist bin/arrowstore
 
-bench: bench-recode bench-dictionaries bench-shapes bench-texts bench-store bench-device bench-bitmap
+bench: bench-recode bench-dictionaries bench-shapes bench-texts bench-store bench-commits bench-device bench-bitmap
 
 bench-recode: bin/arrowstore
 	bench/recode bin/arrowstore
@@ -112,6 +112,9 @@ bench-texts: bin/arrowstore
 
 bench-store: bin/arrowstore crates/bench/out/bench
 	bench/store $^
+
+bench-commits: bin/arrowstore
+	bench/commits bin/arrowstore
 
 bench-device: crates/bench/out/bench
 	bench/device.sh $<

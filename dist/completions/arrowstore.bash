@@ -28,7 +28,7 @@ _arrowstore() {
     case "${COMP_WORDS[1]}" in
     format) flags='--format-version -h --help' ;;
     create) flags='-h --help' ;;
-    import) flags='-h --help' ;;
+    import) flags='--new -h --help' ;;
     append) flags='--as --null -h --help' ;;
     query) flags='--columns --limit --save --objects -h --help' ;;
     export) flags='-h --help' ;;

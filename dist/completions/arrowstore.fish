@@ -27,6 +27,7 @@ complete -c arrowstore -n '__fish_seen_subcommand_from format' -s h -l help -d '
 complete -c arrowstore -n '__fish_seen_subcommand_from create; and test (count (commandline -opc)) -eq 2' -F
 complete -c arrowstore -n '__fish_seen_subcommand_from create' -s h -l help -d 'Print help'
 complete -c arrowstore -n '__fish_seen_subcommand_from import; and test (count (commandline -opc)) -eq 2' -F
+complete -c arrowstore -n '__fish_seen_subcommand_from import' -l new -d 'Replaces no table: the name of a table is refused before the input is read'
 complete -c arrowstore -n '__fish_seen_subcommand_from import' -s h -l help -d 'Print help'
 complete -c arrowstore -n '__fish_seen_subcommand_from append; and test (count (commandline -opc)) -eq 2' -F
 complete -c arrowstore -n '__fish_seen_subcommand_from append' -l as -x -a 'stream csv jsonl' -d 'The form of the input: csv begins with a line of the names of the columns, jsonl has a row on each line'
