@@ -22,6 +22,8 @@ mod interleavings;
 #[cfg(test)]
 mod limits;
 #[cfg(test)]
+mod lists;
+#[cfg(test)]
 mod lowest_runs;
 #[cfg(test)]
 mod made;

@@ -144,6 +144,15 @@ fn command_of(alloc: Global, step: Step) -> Result<Command, NotMade> {
     }
 }
 
+/// Returns the commands of steps.
+pub fn commands_of(alloc: Global, steps: &[Step]) -> Result<Vec<Command>, NotMade> {
+    let mut commands = Vec::new(alloc);
+    for step in steps {
+        commands.push(command_of(alloc, *step)?)?;
+    }
+    Ok(commands)
+}
+
 fn reader(alloc: Global, input: Input, pieces: Pieces) -> Result<PieceReader, NotMade> {
     Ok(PieceReader::new(bytes_of(alloc, input)?, pieces))
 }
@@ -276,6 +285,7 @@ fn add_reply(alloc: Global, text: &mut String, reply: &Reply) -> Result<(), NotM
         Reply::Nothing => Ok(text.push_str("nothing")?),
         Reply::Already => Ok(text.push_str("already")?),
         Reply::Refused(refusal) => Ok(write!(text, "{refusal}")?),
+        Reply::RefusedAt { place, refusal } => Ok(write!(text, "{refusal} of {place}")?),
         Reply::NotOpened(refusal) => Ok(write!(text, "{refusal}")?),
     }
 }
