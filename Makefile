@@ -83,6 +83,7 @@ vectors: bin/arrowstore
 	tests/killed bin/arrowstore
 	tests/power_cuts bin/arrowstore
 	tests/failing_disks bin/arrowstore
+	tests/block_devices bin/arrowstore
 	tests/types bin/arrowstore
 	tests/shapes bin/arrowstore
 	tests/metadata bin/arrowstore

@@ -3,9 +3,9 @@ ghost use Rattle.std.specs.Prelude.{◌≡◌, string_bytes, IfOk};
 ghost use Rattle.cli_refusals.specs.Page.{file_refusals, table_refusals, refusals_page};
 
 use crate::remedies::{
-    BYTES_OF_THE_TYPE, CHECK_FILES, CLOSE_AN_EXPORT, CLOSE_QUOTATION_MARKS, CONVERT_COLUMN,
-    DONE_ALREADY, EARLIER_COPY, ESCAPE_CONTROLS, FEWER_FIELDS, FEWER_ROWS, FEWER_SEGMENTS,
-    FEWER_TABLES, FEWER_VALUES, FIELDS_OF_THE_TABLE, FILE_OF_A_STORE, FIX_ROW,
+    BLANK_DEVICE, BYTES_OF_THE_TYPE, CHECK_FILES, CLOSE_AN_EXPORT, CLOSE_QUOTATION_MARKS,
+    CONVERT_COLUMN, DONE_ALREADY, EARLIER_COPY, ESCAPE_CONTROLS, FEWER_FIELDS, FEWER_ROWS,
+    FEWER_SEGMENTS, FEWER_TABLES, FEWER_VALUES, FIELDS_OF_THE_TABLE, FILE_OF_A_STORE, FIX_ROW,
     FOLDER_OF_A_NEW_FILE, FORM_OF_A_CONDITION, FORM_OF_A_FIELD, FORM_OF_A_NAME, GIVE_A_NUMBER,
     GIVE_A_STREAM, GIVE_A_VALUE, GIVE_ALL, GIVE_ARRAYS, GIVE_JSON_LINES, GIVE_LESS, GIVE_THE_NAME,
     IMPORT_AGAIN, ITEMS_OF_A_LINE, KIND_OF_THE_TYPE, LATER_PROGRAM, LEAVE_OUT_MESSAGES,
@@ -13,15 +13,15 @@ use crate::remedies::{
     NAME_OF_A_TABLE, NAMES_FIRST, NAMES_OF_COLUMNS, NAMES_OF_THE_SCHEMA, NEW_OUTPUT, NEW_PATH,
     NEW_STORE, NO_COMPRESSION, NO_FOLDER, NUMBER_OF_SECTORS, ONE_STREAM, OTHER_NAME, OTHER_TABLE,
     PATH_AND_RIGHTS, READ_INPUT, READABLE_FILE, ROOM_FOR_THE_NEW_FILE, ROOM_ON_THE_DISK,
-    ROW_ON_A_LINE, SCHEMA_FIRST, SHORTER_BATCHES, SHORTER_VALUES, SMALLER_FIELDS, TEST_FOR_NULL,
-    TRY_AGAIN, UNFINISHED_COPY, WAIT, WHOLE_FILE, WITHIN_THE_RANGE, WRITE_A_BOOLEAN, WRITE_AGAIN,
-    WRITE_DIGITS, WRITE_HEXADECIMAL, WRITE_UTF_8, WRITE_V5,
+    ROW_ON_A_LINE, SCHEMA_FIRST, SHORTER_BATCHES, SHORTER_VALUES, SIZE_OF_THE_DEVICE,
+    SMALLER_FIELDS, TEST_FOR_NULL, TRY_AGAIN, UNFINISHED_COPY, WAIT, WHOLE_FILE, WITHIN_THE_RANGE,
+    WRITE_A_BOOLEAN, WRITE_AGAIN, WRITE_DIGITS, WRITE_HEXADECIMAL, WRITE_UTF_8, WRITE_V5,
 };
 use std::alloc::{AllocError, Global};
 
 /// The pieces of the page of which its first sections are made: what each refusal of a stream, a file, a store or a field text means and what to do
 /// about it, among them the sentences of `remedies`. The file `docs/refusals.md` has the same bytes as the page.
-pub const FILE_REFUSALS: [&str; 85] = [
+pub const FILE_REFUSALS: [&str; 89] = [
     "# What each refusal means
 
 A refusal is one line on standard error: `refused`, a code, a name, and for some of them a detail, as in
@@ -163,6 +163,14 @@ or appended. If no advice follows a fault, the cause is the program that wrote t
     "
   For a folder, a named pipe or a device that is not a disk: ",
     NO_FOLDER,
+    "
+  For a block device that does not have the given number of sectors:
+  ",
+    SIZE_OF_THE_DEVICE,
+    "
+  For a block device that something is on:
+  ",
+    BLANK_DEVICE,
     "
 - G2 BadSize: a store has 16 to 4,194,304 sectors, and its file has exactly 512 bytes for each of them.
   The given number of sectors, or the length of the file, is not possible. Such a file is not a store, or
@@ -474,7 +482,7 @@ change.
 
 G1 has eight words, which say whether the command was done:
 
-- `locked`: another program holds the file. The command was not done; it can be run again later.
+- `locked`: another program holds the file. The command was not done; it can be run again later, or with `--wait`.
 - `missing`: the file, or the folder of a file to be made, does not exist. The command was not done.
 - `denied`: the system does not permit it, for lack of rights or since the file system is only read. The
   command was not done.

@@ -53,7 +53,8 @@ pub const DONE_ALREADY: &str = "The command is done: do not run it again.";
 
 pub const NEW_OUTPUT: &str = "Check the output, and run the command again: it changes nothing.";
 
-pub const WAIT: &str = "Wait until the other program is done with it, and try again.";
+pub const WAIT: &str =
+    "Wait until the other program is done with it, and try again; with `--wait` the command does so.";
 
 pub const NEW_PATH: &str =
     "Give a path where nothing is: no file is overwritten. This one may be what an interrupted `format` or `copy` has left.";
@@ -81,6 +82,12 @@ pub const UNFINISHED_COPY: &str =
 
 pub const LENGTH_OF_THE_STORE: &str =
     "Use an earlier copy of the file. Or give a copy of it the length of its store, as by `truncate -s`, and run `check` on that.";
+
+pub const SIZE_OF_THE_DEVICE: &str =
+    "Give the number of sectors that the device has. If that is more than 4194304, make a partition or a volume of a size that fits.";
+
+pub const BLANK_DEVICE: &str =
+    "If nothing on the device is needed, write zeros over its first MiB, as `dd if=/dev/zero of=DEVICE bs=1M count=1` does, and try again.";
 
 pub const NO_FOLDER: &str = "Give the file of a store, or a disk that holds one.";
 

@@ -33,18 +33,19 @@ use Rattle.text_import.specs.declared.form.TextForm.TheVariants as text_forms
 abbrev pub required_rule : Text → Rule
 required_rule id = record (new_rule id) { required = true }
 
--- a command that names the file of its store
+-- an option without a value
+abbrev pub flag_rule : Text → Rule
+flag_rule id = record (new_rule id) { long = Some id; action = Some SetTrue }
+
+-- a command that names the file of its store, and may wait for its lock
 abbrev pub store_app : Text → App
-store_app name = with_rule (new_app name) (required_rule (codes "STORE"))
+store_app name = with_rule (with_rule (new_app name) (required_rule (codes "STORE"))) (flag_rule (codes "wait"))
 
 -- an unsigned number of 64 bits
 abbrev pub sectors_rule : Rule
 sectors_rule = record (required_rule (codes "SECTORS")) { parser = Some (parsers.Unsigned 0 18446744073709551615) }
 
--- an option without a value, and a command that takes one
-abbrev pub flag_rule : Text → Rule
-flag_rule id = record (new_rule id) { long = Some id; action = Some SetTrue }
-
+-- a command that takes an option without a value
 abbrev pub info_app : Text → App
 info_app name = with_rule (store_app name) (flag_rule (codes "json"))
 

@@ -17,7 +17,8 @@ pub(crate) const COMMANDS: [CommandHelp; 17] = [
 
 The size is fixed, and every sector is written now, so that no later change lacks space
 on the disk: 4096 sectors are 2 MiB, and the maximum, 4194304, is 2 GiB. `copy` makes a
-larger store of one that is full.",
+larger store of one that is full. A block device with nothing on it gets a store, too,
+if it has exactly that number of sectors, as `blockdev --getsz DEVICE` prints it.",
     },
     CommandHelp {
         name: "create",

@@ -183,7 +183,11 @@ pub(crate) fn with_operand<'a>(
 fn with_file<'a>(alloc: Global, name: &'a str) -> Result<Command<'a>, AllocError>
     ensures { IfOk result (λ c. app_of c ≡ store_app name.now) }
 {
-    with_operand(alloc, name, "STORE", "The file of the store")
+    with_operand(alloc, name, "STORE", "The file of the store")?.arg(flag(
+        alloc,
+        "wait",
+        "Waits for other commands on the store, instead of being refused",
+    ))
 }
 
 // Makes a command that takes `--json`.

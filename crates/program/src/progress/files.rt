@@ -4,20 +4,23 @@ use arrowstore::{Failures, NotedFile};
 use sector_dev::LockFile;
 use std::alloc::{Allocator, Global};
 use std::fs::{Metadata, OpenFile, OpenOptions, Permissions};
-use std::io::{self, PipeReader, PipeWriter, Read, Seek, SeekFrom, Write};
+use std::io::{self, ErrorKind, PipeReader, PipeWriter, Read, Seek, SeekFrom, Write};
 use std::os::fd::BorrowedFd;
+use std::os::unix::fs::MetadataExt;
 use std::os::unix::net::SocketAddr;
 use std::path::PathBuf;
 use std::rt::Files;
 use std::time::Clock;
 
-/// The files of `files`, except that of `output`. While one is read or written, the line shows how much; a failed call is noted in `failures`.
+/// The files of `files`, except that of `output`. While one is read or written, the line shows how much; a failed call is noted in `failures`. If it
+/// `waits`, the lock of a file is waited for.
 #[derive(Drop)]
 pub struct ProgressFiles<'a, C: Clock, T, H> {
     files: &'a H,
     line: Option<&'a ProgressLine<'a, C, T>>,
     failures: Option<&'a Failures>,
     output: Target,
+    waits: bool,
 }
 
 impl<'a, C: Clock, T, H> ProgressFiles<'a, C, T, H> {
@@ -26,12 +29,14 @@ impl<'a, C: Clock, T, H> ProgressFiles<'a, C, T, H> {
         line: Option<&'a ProgressLine<'a, C, T>>,
         failures: Option<&'a Failures>,
         output: Target,
+        waits: bool,
     ) -> ProgressFiles<'a, C, T, H> {
         ProgressFiles {
             files,
             line,
             failures,
             output,
+            waits,
         }
     }
 }
@@ -69,6 +74,7 @@ impl<'a, C: Clock, T: Write + Copy, H: Files + AllocGlobal> Files for ProgressFi
         let file = ProgressFile {
             file: opened?,
             line: self.line,
+            waits: self.waits,
             bytes_read: 0,
             bytes_written: 0,
         };
@@ -152,11 +158,12 @@ impl<'a, C: Clock, T: Write + Copy, H: Files + AllocGlobal> Files for ProgressFi
     }
 }
 
-/// A file whose reads and writes are shown.
+/// A file whose reads and writes are shown, and that waits for its lock if it is to.
 #[derive(Drop)]
 pub struct ProgressFile<'a, C: Clock, T, F> {
     file: F,
     line: Option<&'a ProgressLine<'a, C, T>>,
+    waits: bool,
     bytes_read: u64,
     bytes_written: u64,
 }
@@ -236,12 +243,58 @@ impl<C: Clock, T, F: OpenFile> OpenFile for ProgressFile<'_, C, T, F> {
     }
 }
 
-impl<C: Clock, T, F: LockFile> LockFile for ProgressFile<'_, C, T, F> {
+impl<C: Clock, T: Write + Copy, F: OpenFile> ProgressFile<'_, C, T, F> {
+    // Returns whether to wait for a lock that was refused so, and says that.
+    fn is_to_wait(&self, refused: &io::Result<()>) -> bool {
+        let waits = self.waits && is_held(refused);
+        if waits && let Some(line) = self.line {
+            line.say_waiting();
+        }
+        waits
+    }
+
+    // The lock that was waited for may be that of a file which another one has replaced since: what is done to it would be lost.
+    fn unless_replaced(&self, locked: io::Result<()>) -> io::Result<()> {
+        locked?;
+        if self.file.metadata()?.nlink() == 0 {
+            return Err(io::Error::other("it was replaced or removed meanwhile"));
+        }
+        Ok(())
+    }
+}
+
+// Returns whether a lock was refused since another open file has one.
+fn is_held(refused: &io::Result<()>) -> bool {
+    match refused {
+        Err(error) => error.kind() == ErrorKind::WouldBlock,
+        Ok(()) => false,
+    }
+}
+
+impl<C: Clock, T: Write + Copy, F: LockFile + OpenFile> LockFile for ProgressFile<'_, C, T, F> {
     fn lock_to_write(&self) -> io::Result<()> {
-        self.file.lock_to_write()
+        let locked = self.file.lock_to_write();
+        if self.is_to_wait(&locked) {
+            self.wait_to_write()
+        } else {
+            locked
+        }
     }
 
     fn lock_to_read(&self) -> io::Result<()> {
-        self.file.lock_to_read()
+        let locked = self.file.lock_to_read();
+        if self.is_to_wait(&locked) {
+            self.wait_to_read()
+        } else {
+            locked
+        }
+    }
+
+    fn wait_to_write(&self) -> io::Result<()> {
+        self.unless_replaced(self.file.wait_to_write())
+    }
+
+    fn wait_to_read(&self) -> io::Result<()> {
+        self.unless_replaced(self.file.wait_to_read())
     }
 }
