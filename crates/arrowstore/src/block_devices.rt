@@ -12,7 +12,8 @@ fn bytes_of_device<F: Seek + OpenFile + Drop, H: Files<File = F>>(
     rt: &H,
     path: &str,
 ) -> Option<u64> {
-    if !fs::metadata(rt, path).ok()?.file_type().is_block_device() {
+    let found = fs::metadata(rt, path).ok()?;
+    if !found.file_type().is_block_device() {
         return None;
     }
     let mut device = fs::open(rt, path).ok()?;

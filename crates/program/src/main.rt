@@ -33,7 +33,7 @@ fn main(rt: HostRuntime) -> ExitCode {
                 line.as_ref(),
                 noted_at(audience, &failures),
                 target,
-                asks_to_wait(&arguments),
+                asks_to_wait(arguments.as_slice()),
             ),
             arguments.as_slice(),
             &mut KeptStart::new(

@@ -246,17 +246,20 @@ impl<C: Clock, T, F: OpenFile> OpenFile for ProgressFile<'_, C, T, F> {
 impl<C: Clock, T: Write + Copy, F: OpenFile> ProgressFile<'_, C, T, F> {
     // Returns whether to wait for a lock that was refused so, and says that.
     fn is_to_wait(&self, refused: &io::Result<()>) -> bool {
-        let waits = self.waits && is_held(refused);
-        if waits && let Some(line) = self.line {
+        if !self.waits || !is_held(refused) {
+            return false;
+        }
+        if let Some(line) = self.line {
             line.say_waiting();
         }
-        waits
+        true
     }
 
     // The lock that was waited for may be that of a file which another one has replaced since: what is done to it would be lost.
     fn unless_replaced(&self, locked: io::Result<()>) -> io::Result<()> {
         locked?;
-        if self.file.metadata()?.nlink() == 0 {
+        let found = self.file.metadata()?;
+        if found.nlink() == 0 {
             return Err(io::Error::other("it was replaced or removed meanwhile"));
         }
         Ok(())
