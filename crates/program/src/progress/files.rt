@@ -42,13 +42,14 @@ impl<'a, C: Clock, T, H> ProgressFiles<'a, C, T, H> {
 }
 
 impl<C: Clock, T, H: Files> ProgressFiles<'_, C, T, H> {
-    // Opens a file, unless the output is written to it: that would spoil a store.
-    fn open_unless_output(&self, how: &OpenOptions, path: &str) -> io::Result<H::File> {
+    // Opens a file, unless the output is written to it: that would spoil a store. Returns it with the number of its names.
+    fn open_unless_output(&self, how: &OpenOptions, path: &str) -> io::Result<(H::File, u64)> {
         let file = self.files.open_file(how, path)?;
-        if self.output.is_file(&file.metadata()?) {
+        let found = file.metadata()?;
+        if self.output.is_file(&found) {
             return Err(io::Error::other("it is the output"));
         }
-        Ok(file)
+        Ok((file, found.nlink()))
     }
 }
 
@@ -71,10 +72,12 @@ impl<'a, C: Clock, T: Write + Copy, H: Files + AllocGlobal> Files for ProgressFi
         if let Some(failures) = self.failures {
             failures.note_opening(self.files.alloc(), path, &opened);
         }
+        let (file, names) = opened?;
         let file = ProgressFile {
-            file: opened?,
+            file,
             line: self.line,
             waits: self.waits,
+            names,
             bytes_read: 0,
             bytes_written: 0,
         };
@@ -164,6 +167,8 @@ pub struct ProgressFile<'a, C: Clock, T, F> {
     file: F,
     line: Option<&'a ProgressLine<'a, C, T>>,
     waits: bool,
+    // how many it had when it was opened
+    names: u64,
     bytes_read: u64,
     bytes_written: u64,
 }
@@ -255,11 +260,11 @@ impl<C: Clock, T: Write + Copy, F: OpenFile> ProgressFile<'_, C, T, F> {
         true
     }
 
-    // The lock that was waited for may be that of a file which another one has replaced since: what is done to it would be lost.
+    // The lock that was waited for may be that of a file which another one has replaced since, so that it lost a name: what is done to it would be lost.
     fn unless_replaced(&self, locked: io::Result<()>) -> io::Result<()> {
         locked?;
         let found = self.file.metadata()?;
-        if found.nlink() == 0 {
+        if found.nlink() < self.names {
             return Err(io::Error::other("it was replaced or removed meanwhile"));
         }
         Ok(())
