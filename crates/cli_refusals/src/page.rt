@@ -3,9 +3,9 @@ ghost use Rattle.std.specs.Prelude.{◌≡◌, string_bytes, IfOk};
 ghost use Rattle.cli_refusals.specs.Page.{file_refusals, table_refusals, refusals_page};
 
 use crate::remedies::{
-    BYTES_OF_THE_TYPE, CHECK_FILES, CLOSE_AN_EXPORT, CLOSE_QUOTATION_MARKS, CONVERT_COLUMN,
-    DONE_ALREADY, EARLIER_COPY, ESCAPE_CONTROLS, FEWER_FIELDS, FEWER_ROWS, FEWER_SEGMENTS,
-    FEWER_TABLES, FEWER_VALUES, FIELDS_OF_THE_TABLE, FILE_OF_A_STORE, FIX_ROW,
+    BYTES_OF_THE_TYPE, CHECK_FILES, CLOSE_AN_EXPORT, CLOSE_QUOTATION_MARKS, COMMIT_FIRST,
+    CONVERT_COLUMN, DONE_ALREADY, EARLIER_COPY, ESCAPE_CONTROLS, FEWER_FIELDS, FEWER_ROWS,
+    FEWER_SEGMENTS, FEWER_TABLES, FEWER_VALUES, FIELDS_OF_THE_TABLE, FILE_OF_A_STORE, FIX_ROW,
     FOLDER_OF_A_NEW_FILE, FORM_OF_A_CONDITION, FORM_OF_A_FIELD, FORM_OF_A_NAME, GIVE_A_NUMBER,
     GIVE_A_STREAM, GIVE_A_VALUE, GIVE_ALL, GIVE_ARRAYS, GIVE_JSON_LINES, GIVE_LESS, GIVE_THE_NAME,
     IMPORT_AGAIN, ITEMS_OF_A_LINE, KIND_OF_THE_TYPE, LATER_PROGRAM, LEAVE_OUT_MESSAGES,
@@ -439,6 +439,11 @@ appended.
   not the one that the store keeps. `check` reports this in the same way as S13.
   ",
     IMPORT_AGAIN,
+    "
+- S16 RowsUnwritten: a command of several that are applied together has to read rows that one before it puts
+  into the table. Nothing is written before all of them are decided, so they cannot be read yet.
+  ",
+    COMMIT_FIRST,
     "
 
 ## A store that does not open

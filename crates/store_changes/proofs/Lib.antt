@@ -10,4 +10,6 @@ mod Undamaged
 mod Streamed
 mod StepFound
 mod Digesting
+mod Refilled
+mod AtLine
 mod NewDigests

@@ -276,6 +276,7 @@ fn add_reply(alloc: Global, text: &mut String, reply: &Reply) -> Result<(), NotM
         Reply::Nothing => Ok(text.push_str("nothing")?),
         Reply::Already => Ok(text.push_str("already")?),
         Reply::Refused(refusal) => Ok(write!(text, "{refusal}")?),
+        Reply::RefusedAt { place, refusal } => Ok(write!(text, "{refusal} of {place}")?),
         Reply::NotOpened(refusal) => Ok(write!(text, "{refusal}")?),
     }
 }

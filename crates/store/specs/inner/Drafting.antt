@@ -1,0 +1,15 @@
+-- One command of a list.
+use Rattle.std.specs.Prelude.{Bool, Ok}
+use Rattle.sector_dev.specs.Disk.{Image}
+use Rattle.catalogue.specs.View.{catalogue_of}
+use Rattle.tables.specs.Commands.{PlainCommand}
+use Rattle.store_runs.specs.Changes.{PlainChange}
+use Rattle.store_runs.specs.Deciding.{IsDecided, Leaves}
+use Rattle.store_changes.specs.declared.drafting.Draft.{Draft}
+use Rattle.store_changes.specs.Draft.{laid, streams_of}
+
+-- it is decided on what the draft shows over this image, and leads to the next one
+abbrev pub StepsTo : (tells : Bool) → Image → (old : Draft) → PlainCommand → (next : Draft) → Type 0
+StepsTo tells image old command next =
+    (change : PlainChange) × IsDecided tells (laid old.from (streams_of old) image) (catalogue_of old.made) command (Ok change)
+    × Leaves old.next (laid old.from (streams_of old) image) (catalogue_of old.made) change next.next (laid next.from (streams_of next) image) (catalogue_of next.made)
