@@ -1,6 +1,7 @@
 -- Several commands as one are decided, and then the change is carried out, or they are refused.
 use Rattle.std.specs.Prelude.{◌≢◌, ◌↔◌, ◌||◌, ◌⊎◌, ◌+◌, ◌-◌, ◌^◌, min, if◌then◌else◌, IfErr, OnOk}
-use Rattle.std.proofs.Common.{◌≡◌, ℕ, Bool, true, false, List, Result, Ok, Err, inl, inr, refl, sym, ap, ◌∙◌, subst}
+use Rattle.std.specs.List.{AllByRecursion}
+use Rattle.std.proofs.Common.{◌≡◌, ℕ, Bool, true, false, List, [], ◌∷◌, map, Result, Ok, Err, inl, inr, refl, sym, ap, ◌∙◌, subst}
 use Rattle.std.proofs.lemmas.Bool.{true≢false}
 use Rattle.std.proofs.lemmas.Result.{IfErr-weaker, on_ok_weaker}
 use Rattle.sector_dev.specs.Disk.{Disk, Story, Image, now, shown_image}
@@ -10,9 +11,15 @@ use Rattle.sector_dev.specs.Time.{OnlyReads}
 use Rattle.catalogue.specs.Entries.{PlainCatalogue}
 use Rattle.tables.specs.declared.refusal.Refusal.{Refusal}
 use Rattle.tables.specs.declared.refusal.Refusal.TheVariants as refusals
+use Rattle.tables.specs.declared.command.Command.{Command}
 use Rattle.tables.specs.Commands.{PlainCommand, all_of, commands_of}
+use Rattle.tables.specs.Refusals.{origin_of}
+use Rattle.tables.specs.Tables.{Tables}
+use Rattle.tables.specs.View.{command_of}
 use Rattle.store.specs.declared.store.Store.{Store}
-use Rattle.store_runs.specs.Calls.{PlainReply, done, refused, refused_at, is_failure, is_device_reply, counted}
+use Rattle.store_runs.specs.Machine.{Machine, tables_now}
+use Rattle.store_runs.specs.Steps.{IsNoList, RefusesLine}
+use Rattle.store_runs.specs.Calls.{apply_call, PlainReply, done, refused, refused_at, is_failure, is_device_reply, counted}
 use Rattle.store_runs.specs.Changes.{PlainChange}
 use Rattle.store_runs.specs.Deciding.{reads_device, IsDecided, IsAnswered}
 use Rattle.store_runs.specs.Reading.{OnlyReadsDevice, ended}
@@ -21,11 +28,11 @@ use Rattle.store_changes.specs.laws.Leading.{refusal_answered}
 use Rattle.store.specs.declared.applying_all.ListRefusal.{ListRefusal}
 use Rattle.store.specs.declared.applying_all.ListRefusal.TheVariants.{At, Whole}
 use Rattle.store.specs.Answering.{Applies}
-use Rattle.store.specs.Applying.{EndsAs, IsKept, IsCarryingAtEachMoment, IsCarriedOnDisk}
-use Rattle.store.specs.Fits.{book_of, listed_in, IsOnDisk}
-use Rattle.store.specs.Lists.{refusal_of, ended_list, RefusesList, NamesLine}
+use Rattle.store.specs.Applying.{GoesOn, EndsAs, IsKept, IsCarryingAtEachMoment, IsCarriedOnDisk}
+use Rattle.store.specs.Fits.{setting_of, StoreFits, book_of, listed_in, IsOnDisk}
+use Rattle.store.specs.Lists.{refusal_of, ended_by, RefusesList, NamesLine}
 use Rattle.store.specs.Reading.{OnlyReadsStore}
-use Rattle.store.proofs.Applied.{is_device, ends_after, kept_after, on_disk_after, decided_after, stood, writes_after, written_after, read_kept, read_halts}
+use Rattle.store.proofs.Applied.{single_command, refuses_line, refuses_memory, refuses_device, is_device, ends_after, kept_after, on_disk_after, decided_after, stood, writes_after, written_after, read_kept, read_halts}
 use Rattle.store.proofs.Goings.{command_writes, command_written}
 
 -- ---- the reply
@@ -43,7 +50,7 @@ no_failure tells image c commands (At place r) why = by_test (is_failure r) refl
     by_test true is = absurd (why.0 (is_device r is))
 no_failure tells image c commands (Whole r) why = tt
 
-same_reply : (e : ListRefusal) → NamesNoFailure e → is_device_reply (ended_list {T = Unit {0}} (Err e)) ≡ is_device_reply (refused (refusal_of e))
+same_reply : (e : ListRefusal) → NamesNoFailure e → is_device_reply (ended_by e) ≡ is_device_reply (refused (refusal_of e))
 same_reply (At place r) quiet = sym quiet
 same_reply (Whole r) quiet = refl
 
@@ -57,17 +64,17 @@ module _ {D : Type 0} {g : Ghosts D} (size : D → ℕ) (story : D → Story) (f
     halts = reads.halts ∙ ap (λ (t : Bool). old.halted || t) same;
   }
 
-  pub reads_one : (e : ListRefusal) → NamesNoFailure e → OnlyReadsStore size story failed tells (ended_list {T = Unit {0}} (Err e)) old new → OnlyReadsStore size story failed tells (refused (refusal_of e)) old new
-  reads_one e quiet reads = reads_alike (ended_list {T = Unit {0}} (Err e)) (refused (refusal_of e)) (same_reply e quiet) reads
+  pub reads_one : (e : ListRefusal) → NamesNoFailure e → OnlyReadsStore size story failed tells (ended_by e) old new → OnlyReadsStore size story failed tells (refused (refusal_of e)) old new
+  reads_one e quiet reads = reads_alike (ended_by e) (refused (refusal_of e)) (same_reply e quiet) reads
 
   -- ---- what is refused before anything is written
 
   pub applies_first : (c : PlainCommand) (r : Refusal) → old.halted ≡ false → OnlyReadsStore size story failed tells (refused r) old new → r ≢ refusals.Halted
-      → IsAnswered tells (shown_image (now (story old.device))) (listed_in old) c (Err r) → (reads_device c ≡ false → new ≡ old) → Applies size story tells old c (Err r) new
+      → IsAnswered tells (shown_image (now (story old.device))) (listed_in old) c (Err r) → (reads_device c ≡ false → story new.device ≡ story old.device) → Applies size story tells old c (Err r) new
   applies_first c r on reads other answered quiet = record {
     applied = λ off. record { decision = Err r; decides = answered; ends = refl };
     refused = read_kept size story failed tells old new (refused r) reads;
-    quiet = λ device plain. ap (λ (s : Store D g). story s.device) (quiet plain);
+    quiet = λ device plain. quiet plain;
     reads = λ device told. reads.device.moments told;
     halted = (λ is. absurd (other (cc is)), λ off. absurd (true≢false (sym off ∙ on)));
     still = λ off. absurd (true≢false (sym off ∙ on));
@@ -102,6 +109,41 @@ pub names_line : (tells : Bool) (image : Image) (c : PlainCatalogue) (commands :
 names_line tells image c commands (At place r) why = why.2
 names_line tells image c commands (Whole r) why = tt
 
+-- what all commands together are refused for names no line
+pub whole_line : {T : Type 0} (tells : Bool) (image : Image) (c : PlainCatalogue) (commands : List PlainCommand) (r : Result T ListRefusal) → IfErr r (λ e. e ≡ Whole (refusal_of e)) → IfErr r (NamesLine tells image c commands)
+whole_line tells image c commands (Ok x) is = tt
+whole_line tells image c commands (Err e) is = subst (NamesLine tells image c commands) (sym is) tt
+
+-- the commands of the code are no lists
+pub single_commands : (commands : List Command) → AllByRecursion IsNoList (map command_of commands)
+single_commands [] = tt
+single_commands (c ∷ cs) = (single_command c, single_commands cs)
+
+-- ---- on a store that represents a machine
+
+module _ {D : Type 0} {g : Ghosts D} (size : D → ℕ) (story : D → Story) (failed : D → ℕ) (base : Tables) (m : Machine) (tells : Bool) (told : tells ≡ true) (old new : Store D g) (on : old.halted ≡ false) (fits : StoreFits size story base m old)
+    (image : Image) (commands : List PlainCommand) where
+  abbrev held_now : Tables
+  held_now = tables_now (setting_of (size old.device) base) m
+
+  abbrev AtLine : ℕ → Refusal → Type 0
+  AtLine place r = (r ≡ refusals.OutOfMemory) ⊎ (r ≡ refusals.Device) ⊎ RefusesLine (origin_of r) held_now (all_of (commands_of commands)) place r
+
+  pub goes_refused : (e : ListRefusal) → RefusesList tells image (listed_in old) commands e → ((place : ℕ) (r : Refusal) → IsRefusedAt true image (listed_in old) commands place r → AtLine place r)
+      → OnlyReadsStore size story failed tells (ended_by e) old new → GoesOn size story failed base m (apply_call (all_of (commands_of commands))) (ended_by e) old new
+  goes_refused (At place r) why line reads = by_line (line place r (subst (λ (b : Bool). IsRefusedAt b image (listed_in old) commands place r) told why.2))
+    where
+      by_line : AtLine place r → GoesOn size story failed base m (apply_call (all_of (commands_of commands))) (refused_at place r) old new
+      by_line (inl memory) = absurd (why.1 memory)
+      by_line (inr (inl device)) = absurd (why.0 device)
+      by_line (inr (inr is)) = refuses_line size story failed base m (all_of (commands_of commands)) tells told place r old new on fits reads is
+  goes_refused (Whole r) (inl memory) line reads =
+      subst (λ (x : Refusal). GoesOn size story failed base m (apply_call (all_of (commands_of commands))) (refused x) old new) (sym memory)
+      (refuses_memory size story failed base m (all_of (commands_of commands)) tells told old new on fits (subst (λ (x : Refusal). OnlyReadsStore size story failed tells (refused x) old new) memory reads))
+  goes_refused (Whole r) (inr (device, at)) line reads =
+      subst (λ (x : Refusal). GoesOn size story failed base m (apply_call (all_of (commands_of commands))) (refused x) old new) (sym device)
+      (refuses_device size story failed base m (all_of (commands_of commands)) tells told old new on fits (subst (λ (x : Refusal). OnlyReadsStore size story failed tells (refused x) old new) device reads))
+
 -- ---- what is carried out
 
 never_halted : (r : Result (Unit {0}) Refusal) → IfErr r (λ e. e ≢ refusals.Halted) → r ≢ Err refusals.Halted
@@ -109,7 +151,7 @@ never_halted (Ok x) other is = cc is
 never_halted (Err e) other is = other (cc is)
 
 module _ {D : Type 0} {g : Ghosts D} (size : D → ℕ) (story : D → Story) (failed : D → ℕ) (tells : Bool) (old mid new : Store D g) (c : PlainCommand) (change : PlainChange) (result : Result (Unit {0}) Refusal) (on : old.halted ≡ false)
-    (reads : OnlyReadsStore size story failed tells done old mid) (decided : IsDecided tells (shown_image (now (story old.device))) (listed_in old) c (Ok change)) (still : reads_device c ≡ false → mid ≡ old)
+    (reads : OnlyReadsStore size story failed tells done old mid) (decided : IsDecided tells (shown_image (now (story old.device))) (listed_in old) c (Ok change)) (still : reads_device c ≡ false → story mid.device ≡ story old.device)
     (carried : EndsAs size mid (Ok change) result new) (halts : (new.halted ≡ true) ↔ (result ≡ Err refusals.Device)) (not_halted : IfErr result (λ e. e ≢ refusals.Halted)) (kept : IfErr result (λ e. IsKept mid new))
     (book : book_of new ≡ book_of mid) (quiet : IfErr result (λ e. e ≢ refusals.Device → story new.device ≡ story mid.device))
     (carries : tells ≡ true → IsOnDisk size story mid → IsCarryingAtEachMoment size story mid change new) (does : OnOk result (tells ≡ true → IsOnDisk size story mid → IsCarriedOnDisk size story mid change new)) where
@@ -121,7 +163,7 @@ module _ {D : Type 0} {g : Ghosts D} (size : D → ℕ) (story : D → Story) (f
     applied = λ off. record { decision = Ok change; decides = inr (inr decided); ends = ends_after size story failed tells old mid done reads (Ok change) result new carried };
     refused = IfErr-weaker result (λ e. IsKept mid new) (λ e. IsKept old new) (λ e is. kept_after size story failed tells old mid done reads new is) kept;
     quiet = IfErr-weaker result (λ e. e ≢ refusals.Device → story new.device ≡ story mid.device) (λ e. e ≢ refusals.Device → reads_device c ≡ false → story new.device ≡ story old.device)
-        (λ e is other plain. is other ∙ ap (λ (s : Store D g). story s.device) (still plain)) quiet;
+        (λ e is other plain. is other ∙ still plain) quiet;
     reads = IfErr-weaker result (λ e. e ≢ refusals.Device → story new.device ≡ story mid.device) (λ e. e ≢ refusals.Device → tells ≡ true → OnlyReads (story old.device) (story new.device))
         (λ e is other told. subst (λ (s : Story). OnlyReads (story old.device) s) (sym (is other)) (reads.device.moments told)) quiet;
     halted = (λ is. absurd (never_halted result not_halted is), λ off. absurd (true≢false (sym off ∙ on)));

@@ -80,6 +80,14 @@ single_command (SaveAs from to query) = tt
 single_command (Rename from to) = tt
 single_command (Drop name) = tt
 
+-- runs on a device lie before its end
+pub on_before : (size : ℕ) (runs : List Run) → all_on_device size runs ≡ true → AreBefore size runs
+on_before size [] is = tt
+on_before size (r ∷ rs) is =
+    let parts = and_parts (is_on_device size r) (all_on_device size rs) is in
+    let own = and_parts (nat_le 2 r.start) (nat_le 1 r.count && nat_le (r.start + r.count) size) parts.0 in
+    (leb-true (r.start + r.count) size (and_parts (nat_le 1 r.count) (nat_le (r.start + r.count) size) own.1).1, on_before size rs parts.1)
+
 -- why a command is refused before anything is written, by where its refusal comes from
 abbrev RefusesFirst : Origin → Tables → PlainCommand → Refusal → Type 0
 RefusesFirst by_tables t c r = verdict t c ≡ Err r

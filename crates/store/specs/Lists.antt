@@ -20,10 +20,13 @@ as_one (Ok x) = Ok x
 as_one (Err e) = Err (refusal_of e)
 
 -- as a reply
+abbrev pub ended_by : ListRefusal → PlainReply
+ended_by (At place r) = refused_at place r
+ended_by (Whole r) = refused r
+
 abbrev pub ended_list : {T : Type 0} → Result T ListRefusal → PlainReply
 ended_list (Ok x) = done
-ended_list (Err (At place r)) = refused_at place r
-ended_list (Err (Whole r)) = refused r
+ended_list (Err e) = ended_by e
 
 -- why they are refused before anything is written: one of them is, or while one was decided the device failed or memory was refused
 abbrev pub RefusesList : (tells : Bool) → Image → PlainCatalogue → List PlainCommand → ListRefusal → Type 0

@@ -8,7 +8,7 @@ ghost use Rattle.store_runs.specs.Changes.{CanChange};
 ghost use Rattle.store_runs.specs.Deciding.{IsDecided, reads_device};
 ghost use Rattle.store_runs.specs.Reading.{ended};
 ghost use Rattle.store_changes.specs.Change.{change_of};
-ghost use Rattle.store.specs.Lists.{refusal_of, as_one, ended_list, RefusesList, NamesLine};
+ghost use Rattle.store.specs.Lists.{refusal_of, as_one, ended_by, ended_list, RefusesList, NamesLine};
 
 use crate::Store;
 use crate::drafting::draft_commands;
@@ -26,11 +26,11 @@ pub enum ListRefusal {
     Whole(Refusal),
 }
 
-// Returns whether deciding on several commands halts the store, since its device failed.
-fn halts_list<T>(decided: &Result<T, ListRefusal>) -> bool
-    ensures { result ≡ is_device_reply (ended_list decided.now) }
+// Returns whether the refusal of several commands halts the store, since its device failed.
+fn halts_list(refusal: ListRefusal) -> bool
+    ensures { result ≡ is_device_reply (ended_by refusal) }
 {
-    matches!(decided, Err(ListRefusal::Whole(Refusal::Device)))
+    matches!(refusal, ListRefusal::Whole(Refusal::Device))
 }
 
 // Returns how all commands together end.
@@ -57,7 +57,7 @@ impl<D: SectorDevice> Store<D> {
     fn decide_all(&mut self, alloc: Global, commands: Vec<Command>) -> Result<Change, ListRefusal>
         requires on { is_halted self.old ≡ false }
         ensures reads { OnlyReadsStore D.size D.story D.failed D.tells (ended_list result) self.old self.new }
-        ensures still { reads_device (list_of commands.items) ≡ false → self.new ≡ self.old }
+        ensures still { reads_device (list_of commands.items) ≡ false → D.story (device_of self.new) ≡ D.story (device_of self.old) }
         ensures ok { IfOk result (λ change. CanChange (listed_in self.old) (change_of change)) }
         ensures decided { IfOk result (λ change. IsDecided D.tells (shown_image (now (D.story (device_of self.old)))) (listed_in self.old)
             (list_of commands.items) (Ok (change_of change))) }
@@ -67,14 +67,15 @@ impl<D: SectorDevice> Store<D> {
     {
         let sectors = self.opened.commit.device_sectors;
         let list = &self.opened.catalogue.list;
-        let draft = draft_commands(alloc, &mut self.device, list, sectors, commands);
-        self.halted = halts_list(&draft);
-        match draft {
+        match draft_commands(alloc, &mut self.device, list, sectors, commands) {
             Ok(draft) => match draft.finish(alloc) {
                 Ok(change) => Ok(change),
                 Err(_) => Err(ListRefusal::Whole(Refusal::OutOfMemory)),
             },
-            Err(refusal) => Err(refusal),
+            Err(refusal) => {
+                self.halted = halts_list(refusal);
+                Err(refusal)
+            }
         }
     }
 

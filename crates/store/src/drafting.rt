@@ -1,6 +1,6 @@
 // Decides on several commands, one after another, before anything is written. Each is decided on the catalogue that those before it leave.
-ghost use Rattle.std.specs.Prelude.{◌≡◌, ◌≢◌, ◌⊎◌, true, false, map, Err, IfOk, IfErr, string_bytes};
-ghost use Rattle.sector_dev.specs.Disk.{now, shown_image};
+ghost use Rattle.std.specs.Prelude.{◌≡◌, ◌≢◌, true, false, map, IfOk, IfErr, string_bytes};
+ghost use Rattle.sector_dev.specs.Disk.{Image, now, shown_image};
 ghost use Rattle.catalogue.specs.Entries.{runs_of};
 ghost use Rattle.catalogue.specs.View.{catalogue_of};
 ghost use Rattle.commit.specs.Standing.{is_size, all_on_device};
@@ -16,7 +16,7 @@ ghost use Rattle.store_changes.specs.Draft.{laid, streams_of, IsDraft};
 ghost use Rattle.store_changes.specs.Tests.{decision_of};
 ghost use Rattle.store_changes.specs.Verdicts.{LeadsThrough, IsLineAnswered, EndsAtLine};
 ghost use Rattle.store.specs.Lists.{refusal_of, ended_list, RefusesList};
-ghost use Rattle.store.specs.inner.Drafting.{StepsTo};
+ghost use Rattle.store.specs.inner.Drafting.{Shows, StepsTo, IsToldAt};
 
 use crate::applying_all::ListRefusal;
 use crate::saving::{save_from_entry, save_from_unwritten};
@@ -43,8 +43,9 @@ fn append_line<D: SectorDevice>(
     requires placed { all_on_device (D.size device.old) (runs_of (catalogue_of draft.now.old)) ≡ true }
     ensures reads { OnlyReadsDevice D.size D.story D.failed D.tells (ended result) device.old device.new }
     ensures ok { IfOk result (λ change. CanChange (catalogue_of draft.now.made) (change_of change)) }
-    ensures answers { IsLineAnswered D.tells draft.now.from (laid draft.now.from (streams_of draft.now) (shown_image (now (D.story device.old))))
-        (catalogue_of draft.now.made) (append_of (string_bytes name) new) (decision_of result) }
+    ensures answers { (image : Image) → Shows D.tells (D.story device.old) image
+        → IsLineAnswered D.tells draft.now.from (laid draft.now.from (streams_of draft.now) image) (catalogue_of draft.now.made)
+        (append_of (string_bytes name) new) (decision_of result) }
     ensures not_halted { IfErr result (λ e. e ≢ Refusal.Halted) }
 {
     match draft.made.get(&name) {
@@ -77,8 +78,9 @@ fn save_line<D: SectorDevice>(
     requires placed { all_on_device (D.size device.old) (runs_of (catalogue_of draft.now.old)) ≡ true }
     ensures reads { OnlyReadsDevice D.size D.story D.failed D.tells (ended result) device.old device.new }
     ensures ok { IfOk result (λ change. CanChange (catalogue_of draft.now.made) (change_of change)) }
-    ensures answers { IsLineAnswered D.tells draft.now.from (laid draft.now.from (streams_of draft.now) (shown_image (now (D.story device.old))))
-        (catalogue_of draft.now.made) (save_as (string_bytes from) (string_bytes to) (query_in query)) (decision_of result) }
+    ensures answers { (image : Image) → Shows D.tells (D.story device.old) image
+        → IsLineAnswered D.tells draft.now.from (laid draft.now.from (streams_of draft.now) image) (catalogue_of draft.now.made)
+        (save_as (string_bytes from) (string_bytes to) (query_in query)) (decision_of result) }
     ensures not_halted { IfErr result (λ e. e ≢ Refusal.Halted) }
 {
     match draft.made.get(&from) {
@@ -106,8 +108,9 @@ fn decide_line<D: SectorDevice>(
     ensures reads { OnlyReadsDevice D.size D.story D.failed D.tells (ended result) device.old device.new }
     ensures still { reads_device (command_of command) ≡ false → device.new ≡ device.old }
     ensures ok { IfOk result (λ change. CanChange (catalogue_of draft.now.made) (change_of change)) }
-    ensures answers { IsLineAnswered D.tells draft.now.from (laid draft.now.from (streams_of draft.now) (shown_image (now (D.story device.old))))
-        (catalogue_of draft.now.made) (command_of command) (decision_of result) }
+    ensures answers { (image : Image) → Shows D.tells (D.story device.old) image
+        → IsLineAnswered D.tells draft.now.from (laid draft.now.from (streams_of draft.now) image) (catalogue_of draft.now.made)
+        (command_of command) (decision_of result) }
     ensures not_halted { IfErr result (λ e. e ≢ Refusal.Halted) }
 {
     match command {
@@ -142,9 +145,10 @@ fn add_line<D: SectorDevice>(
     ensures still { reads_device (command_of command) ≡ false → device.new ≡ device.old }
     ensures draft { IfOk result IsDraft }
     ensures same { IfOk result (λ next. (next.from ≡ draft.from) × (catalogue_of next.old ≡ catalogue_of draft.old)) }
-    ensures steps { IfOk result (StepsTo D.tells (shown_image (now (D.story device.old))) draft (command_of command)) }
-    ensures ends { IfErr result (EndsAtLine D.tells draft.from draft.next
-        (laid draft.from (streams_of draft) (shown_image (now (D.story device.old)))) (catalogue_of draft.made) (command_of command)) }
+    ensures steps { IfOk result (λ next. (image : Image) → Shows D.tells (D.story device.old) image
+        → StepsTo D.tells image draft (command_of command) next) }
+    ensures ends { IfErr result (λ e. (image : Image) → Shows D.tells (D.story device.old) image
+        → EndsAtLine D.tells draft.from draft.next (laid draft.from (streams_of draft) image) (catalogue_of draft.made) (command_of command) e) }
     ensures not_halted { IfErr result (λ e. e ≢ Refusal.Halted) }
 {
     match decide_line(alloc, device, &draft, command) {
@@ -158,8 +162,7 @@ fn add_line<D: SectorDevice>(
 
 // Returns the refusal of a list that ends at this place. Where memory was refused or the device failed, no command is to blame.
 fn list_refusal(place: usize, refusal: Refusal) -> ListRefusal
-    ensures same { refusal_of result ≡ refusal }
-    ensures is { ended_list (Err result) ≡ ended (Err refusal) ⊎ (result ≡ ListRefusal.At place refusal) }
+    ensures { IsToldAt place refusal result }
 {
     match refusal {
         Refusal::Device | Refusal::OutOfMemory => ListRefusal::Whole(refusal),

@@ -11,5 +11,6 @@ mod Streamed
 mod StepFound
 mod Digesting
 mod Refilled
+mod Drafts
 mod AtLine
 mod NewDigests

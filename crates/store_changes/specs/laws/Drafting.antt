@@ -33,7 +33,7 @@ use Rattle.store_changes.specs.laws.ExchangedRuns.{run_of}
 use Rattle.store_changes.specs.laws.Filled.{all_kept, all_placed}
 use Rattle.store_changes.specs.laws.Laid.{end_on, end_more, starts_more, places_count, AreWithin, places_within, laid_more, laid_below, laid_holds, new_holds, none_placed, all_new, HaveStreams, new_have, still_have}
 use Rattle.store_changes.specs.laws.LineEdits.{OfEdited, each_edited}
-use Rattle.store_changes.specs.laws.Placed.{placed_runs, placed_number}
+use Rattle.store_changes.specs.laws.Segments.{placed_runs, placed_number}
 
 -- an edit of a single command
 abbrev pub IsLine : PlainEdit → Type 0
@@ -413,7 +413,7 @@ new_are_sound from (e ∷ es) sound =
     let parts = and_parts (is_entry e) (list_all is_entry es) sound in
     both_sound (new_in from e.segments) (new_segments from es) (all_kept is_segment (λ (s : Segment). not (has_place from s)) e.segments (entry_is e parts.0).segments) (new_are_sound from es parts.1)
 
-all_have : (from : ℕ) (streams : List (List ℕ)) (c : PlainCatalogue) → AllByRecursion (HasNew from streams) c → HaveStreams (starts_from from streams) streams (new_segments from c)
+pub all_have : (from : ℕ) (streams : List (List ℕ)) (c : PlainCatalogue) → AllByRecursion (HasNew from streams) c → HaveStreams (starts_from from streams) streams (new_segments from c)
 all_have from streams [] kept = tt
 all_have from streams (e ∷ es) kept = both_have (starts_from from streams) streams (new_in from e.segments) (new_segments from es) kept.0 (all_have from streams es kept.1)
 

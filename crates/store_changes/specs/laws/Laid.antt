@@ -14,7 +14,7 @@ use Rattle.commit.specs.declared.sector.FormatVersion.TheVariants.{One}
 use Rattle.store_runs.specs.Changes.{placed_segments, HoldsStreams}
 use Rattle.store_runs.specs.Filling.{has_place, placed_in, new_in}
 use Rattle.store_changes.specs.Draft.{end_of, starts_from, places_from, with_stream, laid, HasStream}
-use Rattle.store_changes.specs.laws.Placed.{IsStream, segment_is}
+use Rattle.store_changes.specs.laws.Segments.{IsStream, segment_is}
 
 -- ---- where they lie
 

@@ -119,14 +119,15 @@ module _ (from : ℕ) (old made : PlainCatalogue) (gone : List Run) (streams : L
   pub old_placed : (size : ℕ) → all_on_device size (runs_of old) ≡ true → all_on_device size (runs_in_segments e.segments) ≡ true
   old_placed size placed = each_on size (runs_in_segments e.segments) (λ run is. all_on size (runs_of old) run placed (old_run run is))
 
-  pub old_agrees : (image : Image) → Agree image (laid from streams image) e.segments
-  old_agrees image n within = laid_below from streams image n (sector_before from (runs_in_segments e.segments) n old_before within)
+  pub old_agrees : (tells : Bool) (shown image : Image) → (tells ≡ true → image ≡ shown) → tells ≡ true → Agree shown (laid from streams image) e.segments
+  old_agrees tells shown image same told n within =
+      laid_below from streams image n (sector_before from (runs_in_segments e.segments) n old_before within) ∙ ap (λ (i : Image). i n) (same told)
 
 -- ---- a command of a list
 
 module _ (tells : Bool) (from : ℕ) (shown over : Image) (c : PlainCatalogue) (name : List ℕ) (e : PlainEntry) (there : entry_of c name ≡ Some e) where
   -- rows for a table that is read
-  appended_alike : (new : NewRows) (d : Result PlainChange Refusal) → is_entry e ≡ true → Agree shown over e.segments → IsAppended tells shown name (added_to new e) d → IsAppended tells over name (added_to new e) d
+  appended_alike : (new : NewRows) (d : Result PlainChange Refusal) → is_entry e ≡ true → (tells ≡ true → Agree shown over e.segments) → IsAppended tells shown name (added_to new e) d → IsAppended tells over name (added_to new e) d
   appended_alike new d sound same (inl memory) = inl memory
   appended_alike new d sound same (inr (inl not)) = inr (inl (not_read_alike shown over tells (entry_added (added_to new e)) e d (entry_own (added_to new e) e (added_own new e)) sound same not))
   appended_alike new d sound same (inr (inr is)) = inr (inr (added_alike shown over tells name (added_to new e) e d (added_own new e) sound same is))
@@ -136,7 +137,7 @@ module _ (tells : Bool) (from : ℕ) (shown over : Image) (c : PlainCatalogue) (
   answered_at (Given rows) d is = subst (λ (o : Option PlainEntry). IsAppended tells over name (of_entry o (given_rows (map row_of rows.items))) d) (sym there) is
   answered_at (OfTable new) d is = subst (λ (o : Option PlainEntry). IsAppended tells over name (of_entry o (given_rows (table_of new.table).rows)) d) (sym there) is
 
-  pub append_read : (new : NewRows) (d : Result PlainChange Refusal) → is_entry e ≡ true → Agree shown over e.segments → IsAppended tells shown name (added_to new e) d → IsLineAnswered tells from over c (append_of name new) d
+  pub append_read : (new : NewRows) (d : Result PlainChange Refusal) → is_entry e ≡ true → (tells ≡ true → Agree shown over e.segments) → IsAppended tells shown name (added_to new e) d → IsLineAnswered tells from over c (append_of name new) d
   append_read new d sound same is = inr (answered_at new d (appended_alike new d sound same is))
 
   -- and for one that has new segments
@@ -161,7 +162,7 @@ module _ (tells : Bool) (from : ℕ) (shown over : Image) (c : PlainCatalogue) (
     abbrev Saved : Image → Result PlainEntry Refusal → Result PlainChange Refusal → Type 0
     Saved image test d = (d ≡ Err refusals.OutOfMemory) ⊎ IsNotRead tells image (entry_selected test) d ⊎ IsSaved tells image to query test d
 
-    pub save_read : (d : Result PlainChange Refusal) → is_entry e ≡ true → Agree shown over e.segments → Saved shown tested d → IsLineAnswered tells from over c (save_as name to query) d
+    pub save_read : (d : Result PlainChange Refusal) → is_entry e ≡ true → (tells ≡ true → Agree shown over e.segments) → Saved shown tested d → IsLineAnswered tells from over c (save_as name to query) d
     save_read d sound same is = inr (subst (λ (o : Option PlainEntry). Saved over (of_entry o (selected_entry c to query)) d) (sym there) (alike is))
       where
         alike : Saved shown tested d → Saved over tested d

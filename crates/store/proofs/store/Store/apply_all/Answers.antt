@@ -1,32 +1,32 @@
-use Rattle.std.proofs.Common.{◌≡◌, ◌≢◌, Bool, true, false, Some, List, Result, Ok, Err, inl, inr, refl, sym, ap, ◌∙◌, subst, ⊎_elim}
-use Rattle.std.specs.Prelude.{IfErr, OnOk, ℕ, ◌⊎◌}
-use Rattle.std.proofs.lemmas.Bool.{true≢false}
-use Rattle.std.proofs.lemmas.Result.{IfErr-weaker, on_ok_weaker}
-use Rattle.sector_dev.specs.Disk.{Disk, Story, Image, now, shown_image}
-use Rattle.sector_dev.specs.declared.device.SectorDevice.{Ghosts}
-use Rattle.catalogue.specs.Entries.{PlainCatalogue, IsCatalogue, runs_of}
-use Rattle.commit.specs.laws.Frame.{fault_none}
+use Rattle.std.specs.Prelude.{ℕ, IfErr, OnOk}
+use Rattle.std.proofs.Common.{◌≡◌, Bool, true, false, Some, List, map, Result, Ok, Err, refl, sym, ap, ◌∙◌, subst}
+use Rattle.sector_dev.specs.Disk.{now, shown_image}
+use Rattle.segments.specs.laws.Usages.{or_false}
 use Rattle.catalogue.specs.laws.Kept.{catalogue_is}
-use Rattle.tables.specs.declared.refusal.Refusal.{Refusal}
-use Rattle.tables.specs.declared.refusal.Refusal.TheVariants as refusals
-use Rattle.tables.specs.View.{list_of}
-use Rattle.tables.specs.Tables.{Tables}
+use Rattle.catalogue.specs.View.{catalogue_of}
+use Rattle.commit.specs.declared.recovery.Opened.{Opened}
+use Rattle.pages.specs.declared.stored.StoredCatalogue.{StoredCatalogue}
 use Rattle.tables.specs.declared.command.Command.{Command}
-use Rattle.tables.specs.Commands.{PlainCommand, BringsTables}
-use Rattle.store_runs.specs.Calls.{done, refused, counted, is_failure}
-use Rattle.store_changes.specs.Change.{change_of}
-use Rattle.store_changes.specs.Verdicts.{IsUndecided, IsVerdict}
-use Rattle.store_runs.specs.Changes.{PlainChange}
-use Rattle.store_runs.specs.Deciding.{AreBefore, IsDecided, IsAnswered}
+use Rattle.tables.specs.declared.refusal.Refusal.{Refusal}
+use Rattle.tables.specs.Commands.{BringsTables}
+use Rattle.tables.specs.Verdict.{verdict}
+use Rattle.tables.specs.View.{command_of, list_of}
+use Rattle.store_runs.specs.Calls.{PlainReply, apply_call, done, counted}
+use Rattle.store_runs.specs.Changes.{PlainChange, CanChange}
+use Rattle.store_runs.specs.Deciding.{IsDecided}
 use Rattle.store_runs.specs.Held.{tables_held}
 use Rattle.store_runs.specs.Machine.{tables_now}
-use Rattle.store.specs.Fits.{setting_of, listed_in}
-use Rattle.store.specs.Applying.{IsKept}
 use Rattle.store_runs.specs.Reading.{ended}
+use Rattle.store_changes.specs.Change.{change_of}
+use Rattle.store.specs.Answering.{Applies}
+use Rattle.store.specs.Applying.{GoesOn}
+use Rattle.store.specs.Fits.{setting_of, listed_in}
+use Rattle.store.specs.Lists.{refusal_of}
 use Rattle.store.proofs.Asked.{is_running}
-use Rattle.store.proofs.ReadsStore.{shown}
-use Rattle.store.proofs.Applied.{refuses_first, refuses_halted, reads_nothing, stood, read_halts, on_before}
-use Rattle.store.proofs.Goings.{carried_goes, command_writes, command_written}
+use Rattle.store.proofs.ReadsStore.{shown, fits_reading}
+use Rattle.store.proofs.Applied.{refuses_halted, goes_after, tells_command, decided_after}
+use Rattle.store.proofs.AllApplied.{no_failure, reads_one, applies_first, applies_halted, applies_then, list_answered, names_line, whole_line, single_commands, goes_refused}
+use Rattle.store.proofs.Goings.{carried_goes}
 use Rattle.store.proofs.store.Store.apply_all.Goals as goal
 
 -- where it was done
@@ -34,151 +34,113 @@ told_done : (A B : Type 0) (tells : Bool) (result : Result (Unit {0}) Refusal) �
 told_done A B tells (Ok unit) told on does = does told on
 told_done A B tells (Err e) told on does = tt
 
--- what is decided without a read, whatever reads show
-no_answer : (tells : Bool) (image : Image) (c : PlainCatalogue) (command : PlainCommand) (r : Refusal) → (r ≡ refusals.OutOfMemory) ⊎ ((told : Bool) (i : Image) → IsDecided told i c command (Err r))
-    → IsAnswered tells image c command (Err r)
-no_answer tells image c command r (inl memory) = inl (ap Err memory)
-no_answer tells image c command r (inr is) = inr (inr (is tells image))
-
-no_verdict : (image : Image) (c : PlainCatalogue) (t : Tables) (command : PlainCommand) (r : Refusal)
-    → ((d : Result PlainChange Refusal) → IsDecided true image c command d → IsVerdict t command d)
-    → (r ≡ refusals.OutOfMemory) ⊎ ((told : Bool) (i : Image) → IsDecided told i c command (Err r)) → IsUndecided command (Err r) ⊎ IsVerdict t command (Err r)
-no_verdict image c t command r each (inl memory) = inl (inl (ap Err memory))
-no_verdict image c t command r each (inr is) = inr (each (Err r) (is true image))
+-- ---- a store that is halted
 
 pub returns-then-self-clause-goes : goal.returns-then-self-clause-goes
 returns-then-self-clause-goes g c = λ told base m fits.
     let D = g.D.SectorDevice in refuses_halted D.size D.story D.failed base m (list_of c.args.commands.items) c.args.self.now c.if-self.true fits
 
+pub returns-then-self-clause-applies : goal.returns-then-self-clause-applies
+returns-then-self-clause-applies g c =
+    let D = g.D.SectorDevice in applies_halted D.size D.story D.tells c.args.self.now (list_of c.args.commands.items) c.if-self.true
+
+-- ---- all are accepted
+
+pub carry_out-all-requires-clause-sound : goal.carry_out-all-requires-clause-sound
+carry_out-all-requires-clause-sound g c =
+    subst (λ (opened : Opened StoredCatalogue). CanChange (catalogue_of opened.catalogue.list) (change_of c.in-Ok.change)) (sym c.in-Ok.ensures.reads.kept) c.in-Ok.ensures.ok
+
+pub carry_out-all-requires-clause-on : goal.carry_out-all-requires-clause-on
+carry_out-all-requires-clause-on g c = c.in-Ok.ensures.reads.halts ∙ or_false c.args.self.now.halted ∙ c.if-self.false
+
 pub returns-in-Ok-clause-goes : goal.returns-in-Ok-clause-goes
 returns-in-Ok-clause-goes g c = λ told base m fits.
     let D = g.D.SectorDevice in
     let old = c.args.self.now in
+    let mid = c.decide_all.new.self in
     let cmd = list_of c.args.commands.items in
     let runs = is_running m.phase old.halted fits.phase c.if-self.false in
     let sound = fits.sound runs in
     let t = tables_now (setting_of (D.size old.device) base) m in
     let image = shown_image (now (D.story old.device)) in
-    let held : tables_held image (listed_in old) ≡ Some t = ap (λ i. tables_held i (listed_in old)) (shown D.size D.story D.failed base m D.tells told old old fits runs) ∙ sound.tables in
-    let change = change_of c.in-Ok.change in
-    let is = c.in-Ok.ensures.decided true image in
-    let says = c.decisions_are_verdicts.ensures.each image (listed_in old) t cmd (Ok change) (catalogue_is (listed_in old) old.opened.catalogue.list.kept) held (subst (λ (cs : List Command). BringsTables (list_of cs)) c.deref.ensures.value c.lists_bring_tables.ensures) is in
-    let ends = c.carry_out-ended.ensures in
-    carried_goes D.size D.story D.failed base m old c.carry_out-ended.new.self fits runs ends.size ends.book old.exported change cmd says.0 says.1 says.2 is
-    c.carry_out-ended.result ends.count ends.carried ends.halts ends.kept ends.quiet (ends.carries told sound.stands) (told_done _ _ D.tells c.carry_out-ended.result told sound.stands ends.done)
+    let held : tables_held image (listed_in old) ≡ Some t = ap (λ i. tables_held i (listed_in old)) (shown D.size D.story D.failed base m D.tells told old mid fits runs) ∙ sound.tables in
+    let change : PlainChange = change_of c.in-Ok.change in
+    let reads = c.in-Ok.ensures.reads in
+    let is : IsDecided true image (listed_in old) cmd (Ok change) = subst (λ (b : Bool). IsDecided b image (listed_in old) cmd (Ok change)) told c.in-Ok.ensures.decided in
+    let brings = subst (λ (cs : List Command). BringsTables (list_of cs)) c.deref.ensures.value c.lists_bring_tables.ensures in
+    let says = c.decisions_are_verdicts.ensures.each image (listed_in old) t cmd (Ok change) (catalogue_is (listed_in old) old.opened.catalogue.list.kept) held brings is in
+    let there = fits_reading D.size D.story D.failed base m D.tells told old mid fits done refl reads in
+    let ends = c.carry_out-all.ensures in
+    let all = c.carry_out-all.result in
+    let new = c.carry_out-all.new.self in
+    subst (λ (r : PlainReply). GoesOn D.size D.story D.failed base m (apply_call cmd) r old new) (sym c.as_whole.ensures.reply)
+    (goes_after D.size D.story D.failed base m cmd D.tells told old mid new done (ended all) refl fits reads (tells_command (setting_of (D.size old.device) base) (now (D.story old.device)) all)
+    (carried_goes D.size D.story D.failed base m mid new there runs ends.size ends.book mid.exported change cmd says.0 (subst (λ (n : ℕ). verdict (tables_now (setting_of n base) m) cmd ≡ Ok says.0) (sym reads.device.same) says.1) says.2
+    (decided_after D.size D.story D.failed D.tells old mid done reads told cmd change is) all ends.count ends.carried ends.halts ends.kept ends.quiet (ends.carries told (there.sound runs).stands) (told_done _ _ D.tells all told (there.sound runs).stands ends.done)))
+
+pub returns-in-Ok-clause-applies : goal.returns-in-Ok-clause-applies
+returns-in-Ok-clause-applies g c =
+    let D = g.D.SectorDevice in
+    let old = c.args.self.now in
+    let mid = c.decide_all.new.self in
+    let new = c.carry_out-all.new.self in
+    let cmd = list_of c.args.commands.items in
+    let ends = c.carry_out-all.ensures in
+    let of = c.in-Ok.ensures in
+    subst (λ (r : Result (Unit {0}) Refusal). Applies D.size D.story D.tells old cmd r new) (sym c.as_whole.ensures.one)
+    (applies_then D.size D.story D.failed D.tells old mid new cmd (change_of c.in-Ok.change) c.carry_out-all.result c.if-self.false of.reads of.decided of.still ends.carried ends.halts ends.not_halted ends.kept ends.book ends.quiet ends.carries ends.done)
+
+pub returns-in-Ok-clause-line : goal.returns-in-Ok-clause-line
+returns-in-Ok-clause-line g c =
+    let D = g.D.SectorDevice in
+    let old = c.args.self.now in
+    whole_line D.tells (shown_image (now (D.story old.device))) (listed_in old) (map command_of c.args.commands.items) c.as_whole.result c.as_whole.ensures.no_line
+
+pub returns-in-Ok-clause-size : goal.returns-in-Ok-clause-size
+returns-in-Ok-clause-size g c = c.carry_out-all.ensures.size ∙ c.in-Ok.ensures.reads.device.same
+
+pub returns-in-Ok-clause-count : goal.returns-in-Ok-clause-count
+returns-in-Ok-clause-count g c =
+    let D = g.D.SectorDevice in
+    let failed = D.failed c.args.self.now.device in
+    c.carry_out-all.ensures.count ∙ ap (counted (ended c.carry_out-all.result)) c.in-Ok.ensures.reads.device.count ∙ ap (λ (r : PlainReply). counted r failed) (sym c.as_whole.ensures.reply)
+
+-- ---- they are refused
 
 pub returns-in-Err-clause-goes : goal.returns-in-Err-clause-goes
 returns-in-Err-clause-goes g c = λ told base m fits.
     let D = g.D.SectorDevice in
     let old = c.args.self.now in
-    let cmd = list_of c.args.commands.items in
+    let mid = c.decide_all.new.self in
+    let commands = c.args.commands.items in
     let runs = is_running m.phase old.halted fits.phase c.if-self.false in
-    let sound = fits.sound runs in
     let t = tables_now (setting_of (D.size old.device) base) m in
     let image = shown_image (now (D.story old.device)) in
-    let held : tables_held image (listed_in old) ≡ Some t = ap (λ i. tables_held i (listed_in old)) (shown D.size D.story D.failed base m D.tells told old old fits runs) ∙ sound.tables in
-    refuses_first D.size D.story D.failed base m cmd D.tells told c.in-Err.refusal old old c.if-self.false fits
-    (reads_nothing D.size D.story D.failed D.tells (refused c.in-Err.refusal) old c.in-Err.ensures.quiet.0)
-    (no_verdict image (listed_in old) t cmd c.in-Err.refusal
-    (λ d is. c.decisions_are_verdicts.ensures.each image (listed_in old) t cmd d (catalogue_is (listed_in old) old.opened.catalogue.list.kept) held (subst (λ (cs : List Command). BringsTables (list_of cs)) c.deref.ensures.value c.lists_bring_tables.ensures) is) c.in-Err.ensures.refused)
+    let held : tables_held image (listed_in old) ≡ Some t = ap (λ i. tables_held i (listed_in old)) (shown D.size D.story D.failed base m D.tells told old mid fits runs) ∙ (fits.sound runs).tables in
+    let brings = subst (λ (cs : List Command). BringsTables (list_of cs)) c.deref.ensures.value c.lists_bring_tables.ensures in
+    goes_refused D.size D.story D.failed base m D.tells told old mid c.if-self.false fits image (map command_of commands) c.in-Err.refusal c.in-Err.ensures.told
+    (λ place r is. c.decisions_are_verdicts.ensures.at_line image (listed_in old) t (map command_of commands) place r (catalogue_is (listed_in old) old.opened.catalogue.list.kept) held brings (single_commands commands) is) c.in-Err.ensures.reads
 
-pub returns-in-Ok-clause-applied : goal.returns-in-Ok-clause-applied
-returns-in-Ok-clause-applied g c = λ on.
-    let D = g.D.SectorDevice in
-    record {
-      decision = Ok (change_of c.in-Ok.change);
-      decides = inr (inr (c.in-Ok.ensures.decided D.tells (shown_image (now (D.story c.args.self.now.device)))));
-      ends = c.carry_out-ended.ensures.carried;
-    }
-
-pub returns-in-Err-clause-applied : goal.returns-in-Err-clause-applied
-returns-in-Err-clause-applied g c = λ on.
-    let D = g.D.SectorDevice in
-    record {
-      decision = Err c.in-Err.refusal;
-      decides = no_answer D.tells (shown_image (now (D.story c.args.self.now.device))) (listed_in c.args.self.now) (list_of c.args.commands.items) c.in-Err.refusal c.in-Err.ensures.refused;
-      ends = refl;
-    }
-
-pub returns-then-self-clause-applied : goal.returns-then-self-clause-applied
-returns-then-self-clause-applied g c = λ on. absurd (true≢false (sym c.if-self.true ∙ on))
-
-pub returns-in-Ok-clause-refused : goal.returns-in-Ok-clause-refused
-returns-in-Ok-clause-refused g c = c.carry_out-ended.ensures.kept
-
-pub returns-in-Err-clause-refused : goal.returns-in-Err-clause-refused
-returns-in-Err-clause-refused g c = (refl, refl, λ run. refl)
-
-pub returns-then-self-clause-refused : goal.returns-then-self-clause-refused
-returns-then-self-clause-refused g c = (refl, refl, λ run. refl)
-
-pub returns-in-Ok-clause-quiet : goal.returns-in-Ok-clause-quiet
-returns-in-Ok-clause-quiet g c = c.carry_out-ended.ensures.quiet
-
-pub returns-in-Err-clause-quiet : goal.returns-in-Err-clause-quiet
-returns-in-Err-clause-quiet g c = λ other. refl
-
-pub returns-then-self-clause-quiet : goal.returns-then-self-clause-quiet
-returns-then-self-clause-quiet g c = λ other. refl
-
-never_halted : {T : Type 0} (r : Result T Refusal) → IfErr r (λ e. e ≢ refusals.Halted) → r ≢ Err refusals.Halted
-never_halted (Ok x) other is = cc is
-never_halted (Err e) other is = other (cc is)
-
-pub returns-in-Ok-clause-halted : goal.returns-in-Ok-clause-halted
-returns-in-Ok-clause-halted g c = (λ is. absurd (never_halted c.carry_out-ended.result c.carry_out-ended.ensures.not_halted is), λ off. absurd (true≢false (sym off ∙ c.if-self.false)))
-
-pub returns-in-Err-clause-halted : goal.returns-in-Err-clause-halted
-returns-in-Err-clause-halted g c = (λ is. absurd (never_halted (Err c.in-Err.refusal) c.in-Err.ensures.quiet.1 is), λ off. absurd (true≢false (sym off ∙ c.if-self.false)))
-
-pub returns-then-self-clause-halted : goal.returns-then-self-clause-halted
-returns-then-self-clause-halted g c = (λ is. c.if-self.true, λ off. refl)
-
-pub returns-in-Ok-clause-still : goal.returns-in-Ok-clause-still
-returns-in-Ok-clause-still g c = λ off. absurd (true≢false (sym off ∙ c.if-self.false))
-
-pub returns-in-Err-clause-still : goal.returns-in-Err-clause-still
-returns-in-Err-clause-still g c = λ off. refl
-
-pub returns-then-self-clause-still : goal.returns-then-self-clause-still
-returns-then-self-clause-still g c = λ off. refl
-
-pub returns-in-Ok-clause-halts : goal.returns-in-Ok-clause-halts
-returns-in-Ok-clause-halts g c = λ on. c.carry_out-ended.ensures.halts
-
-pub returns-in-Err-clause-halts : goal.returns-in-Err-clause-halts
-returns-in-Err-clause-halts g c = λ on.
-    let D = g.D.SectorDevice in
-    read_halts D.size D.story D.failed D.tells c.args.self.now c.args.self.now c.in-Err.refusal on (reads_nothing D.size D.story D.failed D.tells (refused c.in-Err.refusal) c.args.self.now c.in-Err.ensures.quiet.0)
-
-pub returns-then-self-clause-halts : goal.returns-then-self-clause-halts
-returns-then-self-clause-halts g c = λ on. absurd (true≢false (sym c.if-self.true ∙ on))
-
-pub returns-in-Ok-clause-writes : goal.returns-in-Ok-clause-writes
-returns-in-Ok-clause-writes g c = λ off told on.
+pub returns-in-Err-clause-applies : goal.returns-in-Err-clause-applies
+returns-in-Err-clause-applies g c =
     let D = g.D.SectorDevice in
     let old = c.args.self.now in
-    command_writes D.size D.story old c.carry_out-ended.new.self (change_of c.in-Ok.change) (list_of c.args.commands.items) (c.in-Ok.ensures.decided true (shown_image (now (D.story old.device)))) (c.carry_out-ended.ensures.carries told on)
+    let mid = c.decide_all.new.self in
+    let image = shown_image (now (D.story old.device)) in
+    let commands = map command_of c.args.commands.items in
+    let e = c.in-Err.refusal in
+    let of = c.in-Err.ensures in
+    applies_first D.size D.story D.failed D.tells old mid (list_of c.args.commands.items) (refusal_of e) c.if-self.false (reads_one D.size D.story D.failed D.tells old mid e (no_failure D.tells image (listed_in old) commands e of.told) of.reads) of.not_halted
+    (list_answered D.tells image (listed_in old) commands e of.told) of.still
 
-pub returns-in-Ok-clause-written : goal.returns-in-Ok-clause-written
-returns-in-Ok-clause-written g c =
-    on_ok_weaker c.carry_out-ended.result
-    (λ written told on.
+pub returns-in-Err-clause-line : goal.returns-in-Err-clause-line
+returns-in-Err-clause-line g c =
     let D = g.D.SectorDevice in
     let old = c.args.self.now in
-    command_written D.size D.story old c.carry_out-ended.new.self (change_of c.in-Ok.change) (list_of c.args.commands.items) (c.in-Ok.ensures.decided true (shown_image (now (D.story old.device)))) (written told on))
-    c.carry_out-ended.ensures.done
+    names_line D.tells (shown_image (now (D.story old.device))) (listed_in old) (map command_of c.args.commands.items) c.in-Err.refusal c.in-Err.ensures.told
 
-pub returns-in-Err-clause-writes : goal.returns-in-Err-clause-writes
-returns-in-Err-clause-writes g c = λ off told on.
-    let D = g.D.SectorDevice in
-    stood D.size D.story D.failed D.tells c.args.self.now c.args.self.now (refused c.in-Err.refusal) (reads_nothing D.size D.story D.failed D.tells (refused c.in-Err.refusal) c.args.self.now c.in-Err.ensures.quiet.0) told (list_of c.args.commands.items) on
+pub returns-in-Err-clause-size : goal.returns-in-Err-clause-size
+returns-in-Err-clause-size g c = c.in-Err.ensures.reads.device.same
 
-pub returns-then-self-clause-writes : goal.returns-then-self-clause-writes
-returns-then-self-clause-writes g c = λ on. absurd (true≢false (sym c.if-self.true ∙ on))
-
-pub decide_all-requires : goal.decide_all-requires
-decide_all-requires g c =
-    let D = g.D.SectorDevice in
-    let old = c.args.self.now in
-    subst (λ (n : ℕ). AreBefore n (runs_of (listed_in old))) (sym old.own) (on_before (D.size old.device) (runs_of (listed_in old)) (fault_none (D.size old.device) old.opened.commit.catalogue.run (runs_of (listed_in old)) old.fit).0)
+pub returns-in-Err-clause-count : goal.returns-in-Err-clause-count
+returns-in-Err-clause-count g c = c.in-Err.ensures.reads.device.count
