@@ -1,8 +1,9 @@
 -- A draft as commands are added to it, and the change that it comes to.
-use Rattle.std.specs.Prelude.{◌≢◌, ◌<◌, ◌≤◌, ◌+◌, ◌^◌, ◌⊎◌, slice_get, get_or}
+use Rattle.std.specs.Prelude.{◌≢◌, ◌<◌, ◌≤◌, ◌+◌, ◌^◌, ◌⊎◌, nat_lt, slice_get, get_or}
 use Rattle.std.specs.Global.{Vec}
 use Rattle.std.specs.List.{list_all}
-use Rattle.std.proofs.Common.{◌≡◌, ◌++◌, ◌∙◌, ℕ, zero, suc, true, List, [], ◌∷◌, Some, map, length, refl, sym, ap, subst, arith}
+use Rattle.std.proofs.Common.{◌≡◌, ◌++◌, ◌∙◌, ℕ, zero, suc, Bool, true, false, List, [], ◌∷◌, Some, map, length, refl, sym, ap, subst, arith}
+use Rattle.std.proofs.lemmas.Bool.{ltb-true, ltb-false}
 use Rattle.std.proofs.lemmas.List.{length-map}
 use Rattle.sector_dev.specs.Disk.{Image}
 use Rattle.segments.specs.declared.run.Run.{Run}
@@ -15,7 +16,7 @@ use Rattle.commit.specs.declared.sector.FormatVersion.TheVariants.{One}
 use Rattle.store_runs.specs.Changes.{PlainChange, edited, given_up, placed_segments, IsChange}
 use Rattle.store_runs.specs.Deciding.{AreBefore, Leaves, new_behind}
 use Rattle.store_changes.specs.declared.drafting.Draft.{Draft}
-use Rattle.store_changes.specs.Draft.{end_of, starts_from, places_from, laid, IsDrafted, IsDraft, streams_of}
+use Rattle.store_changes.specs.Draft.{end_of, starts_from, places_from, laid, ArePlaces, IsDrafted, IsDraft, streams_of}
 use Rattle.store_changes.specs.laws.Drafting.{IsLine, low_runs, begins, drafted, leaves}
 use Rattle.store_changes.specs.laws.Edited.{edited_stands}
 use Rattle.store_changes.specs.laws.EditedEach.{OneSchema}
@@ -123,12 +124,24 @@ starts_rise next (s ∷ ss) zero j le low = first_most next (s ∷ ss) j low
 starts_rise next (s ∷ ss) (suc i) zero le low = absurd (omega (arith, le))
 starts_rise next (s ∷ ss) (suc i) (suc j) le low = starts_rise (next + sector_count (length s)) ss i j (omega (arith, le)) (omega (arith, low))
 
-pub number_there : (xs : List ℕ) (i x : ℕ) → i < length xs → get_or xs i 0 ≡ x → slice_get xs i ≡ Some x
-number_there [] i x low is = absurd (omega (arith, low))
-number_there (y ∷ ys) zero x low is = ap Some is
-number_there (y ∷ ys) (suc i) x low is = number_there ys i x (omega (arith, low)) is
-
 pub there_is : (xs : List ℕ) (i x : ℕ) → slice_get xs i ≡ Some x → (i < length xs) × (get_or xs i 0 ≡ x)
 there_is [] i x at = absurd (cc at)
 there_is (y ∷ ys) zero x at = let same : y ≡ x = cc at in (omega arith, same)
 there_is (y ∷ ys) (suc i) x at = let more = there_is ys i x at in (omega (arith, more.0), more.1)
+
+-- a place between smaller and larger numbers, where none is left out
+pub no_gap : (xs : List ℕ) (x i p : ℕ) → (i ≤ length xs) × ((k : ℕ) → k < i → get_or xs k 0 < x) × ((k : ℕ) → i ≤ k → k < length xs → x < get_or xs k 0) → slice_get xs p ≡ Some x → ⊥
+no_gap xs x i p (within, below, above) at = by_test (nat_lt p i) refl
+  where
+    there : (p < length xs) × (get_or xs p 0 ≡ x)
+    there = there_is xs p x at
+
+    by_test : (b : Bool) → nat_lt p i ≡ b → ⊥
+    by_test true t = let under = below p (ltb-true p i t) in let is = there.1 in omega (arith, under, is)
+    by_test false t = let beyond = above p (ltb-false p i t) there.0 in let is = there.1 in omega (arith, beyond, is)
+
+-- one place more
+pub one_place_more : (starts : List ℕ) (gs : List Segment) (ps : List ℕ) (g : Segment) (p : ℕ) → ArePlaces starts gs ps → slice_get starts p ≡ Some g.place.run.start → ArePlaces starts (gs ++ g ∷ []) (ps ++ p ∷ [])
+one_place_more starts [] ps g p are at = subst (λ (ns : List ℕ). ArePlaces starts (g ∷ []) (ns ++ p ∷ [])) (sym are) (at, refl)
+one_place_more starts (x ∷ xs) [] g p are at = absurd are
+one_place_more starts (x ∷ xs) (n ∷ ns) g p are at = (are.0, one_place_more starts xs ns g p are.1 at)

@@ -1,5 +1,5 @@
 // Several commands on a catalogue, one after another, as one change. Nothing is written here, and the device is not read.
-ghost use Rattle.std.specs.Prelude.{◌≡◌, ◌⊎◌, ◌++◌, ◌≤◌, ℕ, List, [], map, length, slice_get, Some, IfOk, IfErr};
+ghost use Rattle.std.specs.Prelude.{◌≡◌, ◌⊎◌, ◌++◌, ◌≤◌, ◌<◌, ◌^◌, ℕ, List, [], map, length, slice_get, Some, IfOk, IfErr};
 ghost use Rattle.sector_dev.specs.Disk.{Image};
 ghost use Rattle.catalogue.specs.declared.limits.TheConstants.{MAX_SEGMENTS};
 ghost use Rattle.catalogue.specs.declared.entry.Segment.{Segment};
@@ -85,6 +85,7 @@ fn place_streams(
         ≡ placed_segments One (places_from from (map (λ s. s.items) streams.now)) (map (λ s. s.items) streams.now) rows.now) }
     ensures starts { IfOk result (λ placed. placed.starts.items ≡ starts_from from (map (λ s. s.items) streams.now)) }
     ensures next { IfOk result (λ placed. placed.next ≡ end_of from (map (λ s. s.items) streams.now)) }
+    ensures counted { IfOk result (λ placed. placed.next < 2 ^ 64) }
 {
     let mut segments = Vec::with_capacity(alloc, streams.len())?;
     let mut starts = Vec::with_capacity(alloc, streams.len())?;

@@ -33,7 +33,7 @@ edited-requires-clause-sound c =
     let own : map (λ s. s.items) c.deref.result.now ≡ change.streams = ap (map (λ s. s.items)) c.deref.ensures.value ∙ c.in_ok-more.ensures ∙ c.requires.streams in
     let rows : c.deref-2.result.now ≡ change.counts = c.deref-2.ensures.value ∙ c.requires.counts in
     let segments = segments_are one d c.requires.draft change c.requires.line c.requires.sound d.next c.in_ok-placed.placed.segments.items (map (λ s. s.items) c.deref.result.now) c.deref-2.result.now refl own rows c.in_ok-placed.ensures.segments in
-    let limit = end_is_low one d c.requires.draft change c.requires.line c.requires.sound c.in_ok-placed.placed.next (c.in_ok-placed.ensures.next ∙ ap (end_of d.next) own) c.type_inv.placed.next in
+    let limit = end_is_low one d c.requires.draft change c.requires.line c.requires.sound c.in_ok-placed.placed.next (c.in_ok-placed.ensures.next ∙ ap (end_of d.next) own) c.in_ok-placed.ensures.counted in
     subst (λ (xs : List Segment). list_all is_segment xs ≡ true) (sym (c.deref-6.ensures.value ∙ segments)) (segments_sound one d c.requires.draft change c.requires.line c.requires.sound limit)
 
 pub edited-requires-clause-stands : goal.edited-requires-clause-stands
@@ -44,7 +44,7 @@ edited-requires-clause-stands c =
     let own : map (λ s. s.items) c.deref.result.now ≡ change.streams = ap (map (λ s. s.items)) c.deref.ensures.value ∙ c.in_ok-more.ensures ∙ c.requires.streams in
     let rows : c.deref-2.result.now ≡ change.counts = c.deref-2.ensures.value ∙ c.requires.counts in
     let segments = segments_are one d c.requires.draft change c.requires.line c.requires.sound d.next c.in_ok-placed.placed.segments.items (map (λ s. s.items) c.deref.result.now) c.deref-2.result.now refl own rows c.in_ok-placed.ensures.segments in
-    let limit = end_is_low one d c.requires.draft change c.requires.line c.requires.sound c.in_ok-placed.placed.next (c.in_ok-placed.ensures.next ∙ ap (end_of d.next) own) c.type_inv.placed.next in
+    let limit = end_is_low one d c.requires.draft change c.requires.line c.requires.sound c.in_ok-placed.placed.next (c.in_ok-placed.ensures.next ∙ ap (end_of d.next) own) c.in_ok-placed.ensures.counted in
     subst (λ (xs : List Segment). IsCatalogue (edited (catalogue_of d.made) change.edit xs)) (sym (c.deref-6.ensures.value ∙ segments)) (after_stands one d c.requires.draft change c.requires.line c.requires.sound limit c.requires.few)
 
 pub returns-clause-draft : goal.returns-clause-draft
@@ -56,7 +56,7 @@ returns-clause-draft c =
     let own : map (λ s. s.items) c.deref.result.now ≡ change.streams = ap (map (λ s. s.items)) c.deref.ensures.value ∙ c.in_ok-more.ensures ∙ c.requires.streams in
     let rows : c.deref-2.result.now ≡ change.counts = c.deref-2.ensures.value ∙ c.requires.counts in
     let segments = segments_are one d c.requires.draft change c.requires.line c.requires.sound d.next c.in_ok-placed.placed.segments.items (map (λ s. s.items) c.deref.result.now) c.deref-2.result.now refl own rows c.in_ok-placed.ensures.segments in
-    let limit = end_is_low one d c.requires.draft change c.requires.line c.requires.sound c.in_ok-placed.placed.next (c.in_ok-placed.ensures.next ∙ ap (end_of d.next) own) c.type_inv.placed.next in
+    let limit = end_is_low one d c.requires.draft change c.requires.line c.requires.sound c.in_ok-placed.placed.next (c.in_ok-placed.ensures.next ∙ ap (end_of d.next) own) c.in_ok-placed.ensures.counted in
     is_next one d c.requires.draft change c.requires.line c.requires.sound _ (record {
       from = refl;
       old = refl;
@@ -76,7 +76,7 @@ returns-clause-leaves c =
     let own : map (λ s. s.items) c.deref.result.now ≡ change.streams = ap (map (λ s. s.items)) c.deref.ensures.value ∙ c.in_ok-more.ensures ∙ c.requires.streams in
     let rows : c.deref-2.result.now ≡ change.counts = c.deref-2.ensures.value ∙ c.requires.counts in
     let segments = segments_are one d c.requires.draft change c.requires.line c.requires.sound d.next c.in_ok-placed.placed.segments.items (map (λ s. s.items) c.deref.result.now) c.deref-2.result.now refl own rows c.in_ok-placed.ensures.segments in
-    let limit = end_is_low one d c.requires.draft change c.requires.line c.requires.sound c.in_ok-placed.placed.next (c.in_ok-placed.ensures.next ∙ ap (end_of d.next) own) c.type_inv.placed.next in
+    let limit = end_is_low one d c.requires.draft change c.requires.line c.requires.sound c.in_ok-placed.placed.next (c.in_ok-placed.ensures.next ∙ ap (end_of d.next) own) c.in_ok-placed.ensures.counted in
     leaves_next one d c.requires.draft change c.requires.line c.requires.sound _ (record {
       from = refl;
       old = refl;
