@@ -259,7 +259,7 @@ or appended. If no advice follows a fault, the cause is the program that wrote t
 ];
 
 /// The pieces of the page of which the other sections are made: refusals of a text, of a query and of an open store.
-pub const TABLE_REFUSALS: [&str; 83] = [
+pub const TABLE_REFUSALS: [&str; 85] = [
     "
 ## X: a text that was to be appended
 
@@ -512,7 +512,7 @@ Each other code has one word. After S5 it is the word of the fault (F), and afte
 - Q1 `unknown-column`, Q2 `bad-condition`, Q3 `not-comparable`.
 - S1 `no-table`, S2 `name-taken`, S3 `bad-name`, S4 `schema-mismatch`, S6 `row-unfit`, S7 `too-many`,
   S8 `no-room`, S9 `device`, S10 `halted`, S13 `segment-unread`, S15 `segment-damaged`,
-  and `out-of-memory`.
+  S16 `rows-unwritten`, and `out-of-memory`.
 
 After `device` the command is done as a whole or not at all. After every other word but `output-after` no
 table is changed, except that the steps of a `compact` before the refused one are done. Wrong arguments,
