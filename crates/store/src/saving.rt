@@ -151,7 +151,11 @@ pub(crate) fn save_from_unwritten(
     ensures not_halted { result ≢ Refusal.Halted }
 {
     match test_save(alloc, catalogue, entry.schema(), to, query) {
-        Ok(_) => Refusal::RowsUnwritten,
+        Ok(builder) => {
+            // Dropped by a call, since a value that is left out of a pattern is dropped behind the match.
+            drop(builder);
+            Refusal::RowsUnwritten
+        }
         Err(refusal) => refusal,
     }
 }

@@ -144,11 +144,12 @@ more_is t u w (x ∷ xs) zero c here one other =
     then_ok t w w x no_command (ap (verdict t) same ∙ ap (λ (v : Tables). verdict v c) tables ∙ other) refl
 more_is t u w (x ∷ xs) (suc n) c here one other =
     let count : suc n + 1 ≡ suc (n + 1) = omega arith in
-    subst (λ (k : ℕ). verdict_in_turn t (commands_of (take k (x ∷ xs))) ≡ Ok w) (sym count) (by_verdict (verdict t x) refl one)
+    subst (λ (k : ℕ). verdict_in_turn t (commands_of (take k (x ∷ xs))) ≡ Ok w) (sym count) (by_verdict (verdict t x) refl one (λ v then. more_is v u w xs n c here then other))
   where
-    by_verdict : (v : Result Tables Refusal) → verdict t x ≡ v → Then (commands_of (take n xs)) v ≡ Ok u → verdict_in_turn t (and_command x (commands_of (take (n + 1) xs))) ≡ Ok w
-    by_verdict (Err e) is then = absurd (cc then)
-    by_verdict (Ok v) is then = then_ok t v w x (commands_of (take (n + 1) xs)) is (more_is v u w xs n c here then other)
+    by_verdict : (v : Result Tables Refusal) → verdict t x ≡ v → Then (commands_of (take n xs)) v ≡ Ok u → ((v : Tables) → verdict_in_turn v (commands_of (take n xs)) ≡ Ok u → verdict_in_turn v (commands_of (take (n + 1) xs)) ≡ Ok w)
+        → verdict_in_turn t (and_command x (commands_of (take (n + 1) xs))) ≡ Ok w
+    by_verdict (Err e) is then later = absurd (cc then)
+    by_verdict (Ok v) is then later = then_ok t v w x (commands_of (take (n + 1) xs)) is (later v then)
 
 -- ---- the law
 
@@ -210,14 +211,14 @@ module _ (laws : LawsBelow) (image : Image) (c : PlainCatalogue) (t : Tables) (c
       let own : Contains (changed_by_each (first_commands place cs)) found.name =
       subst (λ (xs : PlainCommands). Contains (changed_by_each xs) found.name) (sym (first_is place commands)) (subst (Contains (changed_by_each (commands_of front))) named changed) in
       inr (inr (subst (λ (q : Refusal). RefusesLine (origin_of q) t (all_of cs) place q) (sym same)
-      (refl, subst IsOk (sym before_is) tt, (is.command, found.name, command_is place commands is.command is.at, found.named, own))))
+      (refl, (subst (λ (v : Result Tables Refusal). IsOk v) (sym before_is) refl, (is.command, found.name, command_is place commands is.command is.at, found.named, own)))))
 
   by_room : (r ≡ refusals.TooMany limits.Segments) × ((change : PlainChange) × IsDecided true is.over is.made is.command (Ok change) × ExceedsSegments is.next is.made change) → Tells
   by_room (same, (change, decided, exceeds)) =
       let says = decided_held laws is.over is.made so_far.tables is.command (Ok change) so_far.stands so_far.held (brings_at place commands is.command is.at brings) decided in
       let through = more_is t so_far.tables says.0 commands place is.command is.at so_far.says says.1 in
       inr (inr (subst (λ (q : Refusal). RefusesLine (origin_of q) t (all_of cs) place q) (sym same)
-      (refl, subst IsOk (sym (ap (verdict_in_turn t) (first_is (place + 1) commands) ∙ through)) tt)))
+      (refl, subst (λ (v : Result Tables Refusal). IsOk v) (sym (ap (verdict_in_turn t) (first_is (place + 1) commands) ∙ through)) refl)))
 
   by_end : EndsAtLine true is.from is.next is.over is.made is.command r → Tells
   by_end (inl (inl unwritten)) = by_unwritten unwritten

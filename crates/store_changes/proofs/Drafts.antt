@@ -93,13 +93,15 @@ module _ (one : OneSchema) (d : Draft) (is : IsDraft d) (change : PlainChange) (
       next = end_is ∙ (λ i. end_of (sym f.from i) (others i));
     }
 
-    pub leaves_next : (image : Image) → Leaves d.next (laid d.from (streams_of d) image) (catalogue_of d.made) change e.next (laid e.from (streams_of e) image) (catalogue_of e.made)
-    leaves_next image =
-        subst (λ (n : ℕ). Leaves n (laid d.from (streams_of d) image) (catalogue_of d.made) change e.next (laid e.from (streams_of e) image) (catalogue_of e.made)) (sym is.next)
-        (subst (λ (n : ℕ). Leaves at (laid d.from (streams_of d) image) (catalogue_of d.made) change n (laid e.from (streams_of e) image) (catalogue_of e.made)) (sym end_is)
-        (subst (λ (i : Image). Leaves at (laid d.from (streams_of d) image) (catalogue_of d.made) change (end_of d.from (streams_of d ++ change.streams)) i (catalogue_of e.made)) (λ i. laid (sym f.from i) (others i) image)
-        (subst (λ (c : PlainCatalogue). Leaves at (laid d.from (streams_of d) image) (catalogue_of d.made) change (end_of d.from (streams_of d ++ change.streams)) (laid d.from (streams_of d ++ change.streams) image) c) (sym f.made)
-        (leaves one d.from (catalogue_of d.old) (catalogue_of d.made) d.gone.items (streams_of d) is.drafted change line sound image stands))))
+  -- what it leaves for the next command
+  pub leaves_next : (next : ℕ) (others : List (List ℕ)) (after : PlainCatalogue) → after ≡ edited (catalogue_of d.made) change.edit next_segments → others ≡ streams_of d ++ change.streams → next ≡ end_of d.next change.streams
+      → IsCatalogue (edited (catalogue_of d.made) change.edit next_segments) → (image : Image) → Leaves d.next (laid d.from (streams_of d) image) (catalogue_of d.made) change next (laid d.from others image) after
+  leaves_next next others after made streams end stands image =
+      subst (λ (n : ℕ). Leaves n (laid d.from (streams_of d) image) (catalogue_of d.made) change next (laid d.from others image) after) (sym is.next)
+      (subst (λ (n : ℕ). Leaves at (laid d.from (streams_of d) image) (catalogue_of d.made) change n (laid d.from others image) after) (sym (end ∙ ap (λ (n : ℕ). end_of n change.streams) is.next ∙ sym (end_more d.from (streams_of d) change.streams)))
+      (subst (λ (ss : List (List ℕ)). Leaves at (laid d.from (streams_of d) image) (catalogue_of d.made) change (end_of d.from (streams_of d ++ change.streams)) (laid d.from ss image) after) (sym streams)
+      (subst (λ (c : PlainCatalogue). Leaves at (laid d.from (streams_of d) image) (catalogue_of d.made) change (end_of d.from (streams_of d ++ change.streams)) (laid d.from (streams_of d ++ change.streams) image) c) (sym made)
+      (leaves one d.from (catalogue_of d.old) (catalogue_of d.made) d.gone.items (streams_of d) is.drafted change line sound image stands))))
 
 -- streams and numbers of rows, as many as each other
 pub as_many : (streams : List (Vec ℕ)) (rows : List ℕ) (change : PlainChange) → map (λ (s : Vec ℕ). s.items) streams ≡ change.streams → rows ≡ change.counts → length change.streams ≡ length change.counts → length streams ≡ length rows

@@ -305,8 +305,12 @@ impl Pair {
         };
         self.seen.kept = self.seen.kept.saturating_add(1);
         match step {
-            Together(seed) => drop(self.plain.change_together(alloc, seed)?),
-            step => drop(self.plain.change(alloc, step)?),
+            Together(seed) => {
+                self.plain.change_together(alloc, seed)?;
+            }
+            step => {
+                self.plain.change(alloc, step)?;
+            }
         }
         self.shows(alloc, found)
     }

@@ -24,7 +24,9 @@ parted : (commands : List PlainCommand) (place : ℕ) (command : PlainCommand) �
     → in_front (take place commands) (and_command command (commands_of (drop (place + 1) commands))) ≡ commands_of commands
 parted [] place command at = absurd (cc at)
 parted (c ∷ cs) zero command at = let same : c ≡ command = cc at in ap (λ (x : PlainCommand). and_command x (commands_of cs)) (sym same)
-parted (c ∷ cs) (suc place) command at = ap (and_command c) (parted cs place command at)
+parted (c ∷ cs) (suc place) command at =
+    let count : suc place + 1 ≡ suc (place + 1) = omega arith in
+    ap (λ (n : ℕ). and_command c (in_front (take place cs) (and_command command (commands_of (drop n (c ∷ cs)))))) count ∙ ap (and_command c) (parted cs place command at)
 
 module _ (tells : Bool) where
   -- one command more

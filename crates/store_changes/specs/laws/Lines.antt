@@ -81,15 +81,15 @@ chosen_own (Ok x) e own y is = let same : x ≡ y = cc is in sym same ∙ own x 
 
 all_low : (from : ℕ) (ss : List Segment) (run : Run) → new_in from ss ≡ [] → is_among (runs_in_segments ss) run ≡ true → run.start < from
 all_low from [] run none is = absurd (cc is)
-all_low from (s ∷ ss) run none is = by_place (has_place from s) refl none
+all_low from (s ∷ ss) run none is = by_place (has_place from s) refl none (all_low from ss run)
   where
-    by_run : (t : Bool) → same_run s.place.run run ≡ t → s.place.run.start < from → new_in from ss ≡ [] → (t || is_among (runs_in_segments ss) run) ≡ true → run.start < from
-    by_run true same low rest or = subst (λ (r : Run). r.start < from) (same_run_is s.place.run run same) low
-    by_run false same low rest or = all_low from ss run rest or
+    by_run : (t : Bool) → same_run s.place.run run ≡ t → s.place.run.start < from → (is_among (runs_in_segments ss) run ≡ true → run.start < from) → (t || is_among (runs_in_segments ss) run) ≡ true → run.start < from
+    by_run true same low later or = subst (λ (r : Run). r.start < from) (same_run_is s.place.run run same) low
+    by_run false same low later or = later or
 
-    by_place : (b : Bool) → has_place from s ≡ b → (if not b then s ∷ new_in from ss else new_in from ss) ≡ [] → run.start < from
-    by_place true low rest = by_run (same_run s.place.run run) refl (ltb-true s.place.run.start from low) rest is
-    by_place false high rest = absurd (cc rest)
+    by_place : (b : Bool) → has_place from s ≡ b → (if not b then s ∷ new_in from ss else new_in from ss) ≡ [] → (new_in from ss ≡ [] → is_among (runs_in_segments ss) run ≡ true → run.start < from) → run.start < from
+    by_place true low rest later = by_run (same_run s.place.run run) refl (ltb-true s.place.run.start from low) (later rest) is
+    by_place false high rest later = absurd (cc rest)
 
 among_entry : (c : PlainCatalogue) (name : List ℕ) (e : PlainEntry) (run : Run) → entry_of c name ≡ Some e → is_among (runs_in_segments e.segments) run ≡ true → is_among (runs_of c) run ≡ true
 among_entry [] name e run there is = absurd (cc there)

@@ -15,8 +15,8 @@ use Rattle.store.proofs.drafting.draft_commands.Given as goal
 -- the commands so far lead to this draft, and the device was only read
 abbrev pub invariant-loop-command : goal.invariant-loop-command
 invariant-loop-command g l = let D = g.D.SectorDevice in record {
-  next : goal.iterator-loop-command.can_next l.command-iterator;
-  ends : goal.iterator-loop-command.is_finite l.command-iterator;
+  next : (goal.iterator-loop-command g).can_next l.command-iterator;
+  ends : (goal.iterator-loop-command g).is_finite l.command-iterator;
   reads : OnlyReadsDevice D.size D.story D.failed D.tells done l.fn.device l.device;
   draft : IsDraft l.draft;
   from : l.draft.from ≡ l.sectors;

@@ -1,4 +1,4 @@
-use Rattle.std.specs.Prelude.{◌≢◌}
+use Rattle.std.specs.Prelude.{◌≢◌, ◌⊎◌}
 use Rattle.std.proofs.Common.{◌≡◌, Some, None, List, ℕ, Ok, Err, inr, refl, sym, ap, ◌∙◌, subst, string_bytes}
 use Rattle.sector_dev.specs.Disk.{now, shown_image}
 use Rattle.catalogue.specs.Edits.{entry_of}
@@ -41,18 +41,18 @@ returns-then-has_new-clause-answers g c = λ image shows.
     let r = c.save_from_unwritten.result in
     let found : entry_of made (string_bytes c.args.from) ≡ Some e = ap (entry_of made) (sym c.deref.ensures) ∙ sym c.in-Some.ensures.entry in
     save_unwritten D.tells d.from image (laid d.from (streams_of d) image) made (string_bytes c.args.from) e found (string_bytes c.args.to) query r (c.has_new.ensures.new c.if-has_new.true)
-    (rw sym c.deref-2.ensures c.save_from_unwritten.ensures.answers)
+    (subst (λ (n : List ℕ). (r ≡ refusals.OutOfMemory) ⊎ ((selected_entry made n query e ≡ Ok e) × (r ≡ refusals.RowsUnwritten)) ⊎ (selected_entry made n query e ≡ Err r)) c.deref-2.ensures c.save_from_unwritten.ensures.answers)
 
 pub returns-then-has_new-clause-not_halted : goal.returns-then-has_new-clause-not_halted
 returns-then-has_new-clause-not_halted g c = c.save_from_unwritten.ensures.not_halted
 
 -- ---- one that is on the device
 
-pub returns-else-has_new-clause-reads : goal.returns-else-has_new-clause-reads
-returns-else-has_new-clause-reads g c = c.save_from_entry.ensures.reads
+pub returns-in-Some-clause-reads : goal.returns-in-Some-clause-reads
+returns-in-Some-clause-reads g c = c.save_from_entry.ensures.reads
 
-pub returns-else-has_new-clause-answers : goal.returns-else-has_new-clause-answers
-returns-else-has_new-clause-answers g c = λ image shows.
+pub returns-in-Some-clause-answers : goal.returns-in-Some-clause-answers
+returns-in-Some-clause-answers g c = λ image shows.
     let D = g.D.SectorDevice in
     let d = c.args.draft.now in
     let made = catalogue_of d.made in
@@ -64,17 +64,17 @@ returns-else-has_new-clause-answers g c = λ image shows.
     (found_passes is_entry made _ e c.in-Some.ensures.kept.entries found) (old_agrees d.from (catalogue_of d.old) made d.gone.items (streams_of d) c.requires.draft.drafted (string_bytes c.args.from) e found none D.tells shown image shows)
     c.save_from_entry.ensures.answers
 
-pub returns-else-has_new-clause-not_halted : goal.returns-else-has_new-clause-not_halted
-returns-else-has_new-clause-not_halted g c = c.save_from_entry.ensures.not_halted
+pub returns-in-Some-clause-not_halted : goal.returns-in-Some-clause-not_halted
+returns-in-Some-clause-not_halted g c = c.save_from_entry.ensures.not_halted
 
 -- ---- no table
 
-pub returns-in-None-clause-reads : goal.returns-in-None-clause-reads
-returns-in-None-clause-reads g c =
+pub returns-clause-reads : goal.returns-clause-reads
+returns-clause-reads g c =
     let D = g.D.SectorDevice in reads_quiet D.size D.story D.failed D.tells (refused refusals.NoTable) c.args.device.now refl
 
-pub returns-in-None-clause-answers : goal.returns-in-None-clause-answers
-returns-in-None-clause-answers g c = λ image shows.
+pub returns-clause-answers : goal.returns-clause-answers
+returns-clause-answers g c = λ image shows.
     let D = g.D.SectorDevice in
     let d = c.args.draft.now in
     let made = catalogue_of d.made in

@@ -12,18 +12,26 @@ returns-in-Ok-clause-goes g c = λ told base m fits.
 pub returns-in-Err-At-clause-goes : goal.returns-in-Err-At-clause-goes
 returns-in-Err-At-clause-goes g c = λ told base m fits.
     let D = g.D.SectorDevice in
-    stays_open D.size D.story D.failed base m (apply_call (list_of c.args.commands.items)) (refused_at c.in-Err-At.place c.in-Err-At.refusal) c.args.store c.apply_all.new.self (c.in-Err-At.ensures.goes told base m fits)
+    stays_open D.size D.story D.failed base m (apply_call (list_of c.args.commands.items)) (refused_at c.in-Err-At.place c.in-Err-At.refusal) c.args.store c.apply_all.new.self ((rw c.in-Err-At.field-0-is at c.in-Err-At.ensures.goes) told base m fits)
 
 pub returns-in-Err-Whole-clause-goes : goal.returns-in-Err-Whole-clause-goes
 returns-in-Err-Whole-clause-goes g c = λ told base m fits.
     let D = g.D.SectorDevice in
-    stays_open D.size D.story D.failed base m (apply_call (list_of c.args.commands.items)) (refused c.in-Err-Whole.refusal) c.args.store c.apply_all.new.self (c.in-Err-Whole.ensures.goes told base m fits)
+    stays_open D.size D.story D.failed base m (apply_call (list_of c.args.commands.items)) (refused c.in-Err-Whole.refusal) c.args.store c.apply_all.new.self ((rw c.in-Err-Whole.field-0-is at c.in-Err-Whole.ensures.goes) told base m fits)
 
 pub returns-in-Ok-clause-answers : goal.returns-in-Ok-clause-answers
 returns-in-Ok-clause-answers g c = let e = c.in-Ok.ensures in record { answers = e.applies; same = e.size; count = e.count }
 
 pub returns-in-Err-At-clause-answers : goal.returns-in-Err-At-clause-answers
-returns-in-Err-At-clause-answers g c = let e = c.in-Err-At.ensures in record { answers = (e.applies, (map command_of c.args.commands.items, refl, e.line)); same = e.size; count = e.count }
+returns-in-Err-At-clause-answers g c =
+    let e = c.in-Err-At.ensures in
+    record {
+      answers = (rw c.in-Err-At.field-0-is at e.applies, (map command_of c.args.commands.items, refl, rw c.in-Err-At.field-0-is at e.line));
+      same = e.size;
+      count = rw c.in-Err-At.field-0-is at e.count;
+    }
 
 pub returns-in-Err-Whole-clause-answers : goal.returns-in-Err-Whole-clause-answers
-returns-in-Err-Whole-clause-answers g c = let e = c.in-Err-Whole.ensures in record { answers = e.applies; same = e.size; count = e.count }
+returns-in-Err-Whole-clause-answers g c =
+    let e = c.in-Err-Whole.ensures in
+    record { answers = rw c.in-Err-Whole.field-0-is at e.applies; same = e.size; count = rw c.in-Err-Whole.field-0-is at e.count }

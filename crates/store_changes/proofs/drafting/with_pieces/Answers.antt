@@ -77,12 +77,6 @@ returns-clause-leaves c =
     let rows : c.deref-2.result.now ≡ change.counts = c.deref-2.ensures.value ∙ c.requires.counts in
     let segments = segments_are one d c.requires.draft change c.requires.line c.requires.sound d.next c.in_ok-placed.placed.segments.items (map (λ s. s.items) c.deref.result.now) c.deref-2.result.now refl own rows c.in_ok-placed.ensures.segments in
     let limit = end_is_low one d c.requires.draft change c.requires.line c.requires.sound c.in_ok-placed.placed.next (c.in_ok-placed.ensures.next ∙ ap (end_of d.next) own) c.in_ok-placed.ensures.counted in
-    leaves_next one d c.requires.draft change c.requires.line c.requires.sound _ (record {
-      from = refl;
-      old = refl;
-      made = c.in_ok-made.ensures ∙ ap (edited made change.edit) (c.deref-6.ensures.value ∙ segments);
-      gone = c.in_ok-extend_from_slice.ensures.items ∙ ap (λ (rs : List Run). d.gone.items ++ rs) (c.deref-5.ensures.value ∙ c.in_ok-low.ensures ∙ ap (low_runs d.from) (c.deref-4.ensures.value ∙ c.in_ok-lost.ensures ∙ ap (given_up made change.edit) (c.deref-3.ensures.value ∙ segments)));
-      streams = ap (map (λ s. s.items)) c.in_ok-append.ensures.items ∙ map-append (λ s. s.items) d.streams.items c.in_ok-more.more.items ∙ ap (λ (ss : List (List ℕ)). streams_of d ++ ss) (c.in_ok-more.ensures ∙ c.requires.streams);
-      starts = c.in_ok-extend_from_slice-2.ensures.items ∙ ap (λ (ns : List ℕ). d.starts.items ++ ns) (c.deref-7.ensures.value ∙ c.in_ok-placed.ensures.starts ∙ ap (starts_from d.next) own);
-      next = c.in_ok-placed.ensures.next ∙ ap (end_of d.next) own;
-    }) (after_stands one d c.requires.draft change c.requires.line c.requires.sound limit c.requires.few)
+    leaves_next one d c.requires.draft change c.requires.line c.requires.sound _ _ _ (c.in_ok-made.ensures ∙ ap (edited made change.edit) (c.deref-6.ensures.value ∙ segments))
+    (ap (map (λ s. s.items)) c.in_ok-append.ensures.items ∙ map-append (λ s. s.items) d.streams.items c.in_ok-more.more.items ∙ ap (λ (ss : List (List ℕ)). streams_of d ++ ss) (c.in_ok-more.ensures ∙ c.requires.streams))
+    (c.in_ok-placed.ensures.next ∙ ap (end_of d.next) own) (after_stands one d c.requires.draft change c.requires.line c.requires.sound limit c.requires.few)

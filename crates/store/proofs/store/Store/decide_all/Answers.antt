@@ -66,7 +66,7 @@ returns-in-Err-finish-clause-told g c = inl refl
 
 pub returns-in-Err-clause-reads : goal.returns-in-Err-clause-reads
 returns-in-Err-clause-reads g c =
-    record { device = c.in-Err.ensures.reads; kept = refl; book = refl; halts = c.halts_list.ensures ∙ sym (ap (λ (b : Bool). b || is_device_reply (ended_by c.in-Err.refusal)) c.requires.on) }
+    record { device = c.in-Err.ensures.reads; kept = refl; book = refl; halts = c.halts_list-self.ensures ∙ sym (ap (λ (b : Bool). b || is_device_reply (ended_by c.in-Err.refusal)) c.requires.on) }
 
 pub returns-in-Err-clause-told : goal.returns-in-Err-clause-told
 returns-in-Err-clause-told g c = c.in-Err.ensures.told
