@@ -7,8 +7,8 @@ use crate::playing::{Slot, is_played, new_slot, replies_of_run, shut};
 use crate::shown::contents;
 use crate::steps::{Call, Step, Steps, call_of, says};
 use Step::{
-    Close, CloseExport, Compact, Export, ExportNext, Format, Open, OpenExport, Read, Schema, Tables,
-    Together,
+    Close, CloseExport, Compact, Export, ExportNext, Format, Open, OpenExport, Read, Schema,
+    Tables, Together,
 };
 use sector_dev::{CrashChoice, SectorDevice};
 use std::alloc::Global;
