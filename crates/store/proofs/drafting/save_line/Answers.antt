@@ -41,7 +41,7 @@ returns-then-has_new-clause-answers g c = λ image shows.
     let r = c.save_from_unwritten.result in
     let found : entry_of made (string_bytes c.args.from) ≡ Some e = ap (entry_of made) (sym c.deref.ensures) ∙ sym c.in-Some.ensures.entry in
     save_unwritten D.tells d.from image (laid d.from (streams_of d) image) made (string_bytes c.args.from) e found (string_bytes c.args.to) query r (c.has_new.ensures.new c.if-has_new.true)
-    (subst (λ (n : List ℕ). (r ≡ refusals.OutOfMemory) ⊎ ((selected_entry made n query e ≡ Ok e) × (r ≡ refusals.RowsUnwritten)) ⊎ (selected_entry made n query e ≡ Err r)) c.deref-2.ensures c.save_from_unwritten.ensures.answers)
+    (subst (λ (n : List ℕ). (r ≡ refusals.OutOfMemory) ⊎ ((selected_entry made n query e ≡ Ok e) × (r ≡ refusals.RowsUnwritten)) ⊎ (selected_entry made n query e ≡ Err r)) c.deref-then-has_new.ensures c.save_from_unwritten.ensures.answers)
 
 pub returns-then-has_new-clause-not_halted : goal.returns-then-has_new-clause-not_halted
 returns-then-has_new-clause-not_halted g c = c.save_from_unwritten.ensures.not_halted
