@@ -1,7 +1,7 @@
 -- What a text says is what it is a text of, and what it is a text of it says.
 use Rattle.std.proofs.Common.{◌≡◌, ℕ, ◌<◌, ◌≤◌, ◌==◌, ◌++◌, nat_lt, Bool, true, false, List, [], append-nil, take-append-drop, inl, inr, ◌⊎◌, length, take, drop, Option, Some, None, IfSome, refl, sym, ap, subst, ◌∙◌, arith, ℤ}
 use Rattle.std.specs.Option.{option_and_then}
-use Rattle.std.specs.Prelude.{option_map}
+use Rattle.std.specs.Prelude.{option_map, if◌then◌else◌}
 use Rattle.std.proofs.lemmas.Bool.Decides.{nat_tests}
 use Rattle.std.proofs.lemmas.List.{take_at, drop_at, nil_from_length}
 use Rattle.civil_days.specs.declared.read_time.ReadTime.{ReadTime}
@@ -43,7 +43,7 @@ behind_day_exact places t s u z h =
 time_shown_at : (places n : ℕ) (t : List ℕ) (day : ℤ) (s u : ℕ) (z : Zone) → take n t ≡ text_of_day day → IsBehindDay places (drop n t) s u z → IsTime places t day s u z
 time_shown_at places n t day s u z date (inl h) = inl (time_joined places t (take n t) (drop n t) day s u z (sym (take-append-drop n t)) date h)
 time_shown_at places n t day s u z date (inr h) =
-    inr (sym (take-append-drop n t) ∙ ap (λ (r : List ℕ). take n t ++ r) h.0 ∙ append-nil (take n t) ∙ date, h.1)
+    inr (sym (take-append-drop n t) ∙ ap (λ (r : List ℕ). take n t ++ r) h.0 ∙ append-nil (take n t) ∙ date, h.1, h.2, h.3)
 
 shown_at : (places n : ℕ) (t : List ℕ) (r : ReadTime) → option_and_then (λ day. option_map (with_day day) (behind_day places (drop n t))) (date_in (take n t)) ≡ Some r → IsTime places t r.day r.second r.units r.zone
 shown_at places n t r e = go (date_in (take n t)) (behind_day places (drop n t)) refl refl e
@@ -84,9 +84,9 @@ time_in-exact places t day s u z year (inl h) =
 time_in-exact places t day s u z year (inr h) =
     let whole : t ≡ text_of_day day ++ [] = h.0 ∙ sym (append-nil (text_of_day day)) in
     let size = ap date_length whole ∙ plain_run (text_of_day day) [] (plain_day day year) (inl refl) in
-    rw (h.1.0, h.1.1, h.1.2) (split_read places t [] day 0 0 Unzoned year whole size refl)
+    rw (h.1, h.2, h.3) (split_read places t [] day 0 0 Unzoned year whole size refl)
 
 -- a time is within its day, and its offset within a day
 pub time_bounds : (places : ℕ) (t : List ℕ) (day : ℤ) (second units : ℕ) (zone : Zone) → IsTime places t day second units zone → (second < 86_400) × IsZone zone
 time_bounds places t day second units zone (inl h) = (h.is_clock.0, h.is_zone)
-time_bounds places t day second units zone (inr h) = (omega (arith, h.1.0), subst IsZone (sym h.1.1.1) tt)
+time_bounds places t day second units zone (inr h) = (omega (arith, h.1), subst IsZone (sym h.3) tt)

@@ -53,7 +53,7 @@ fn zone_of(timezone: &str) -> ColumnZone
 }
 
 /// Returns what the numbers of a column of this type count, or `None` if they are no dates or times.
-pub fn date_column(data_type: &DataType) -> Option<DateColumn>
+pub fn date_column_of(data_type: &DataType) -> Option<DateColumn>
     ensures { result ≡ date_column (kind_of data_type.now) }
 {
     match data_type {
