@@ -202,10 +202,11 @@ fn text_form<'a>(form: &str, words: &ArgMatches<'a>) -> TextForm<'a>
     ensures { HasTextForm (found_of words.now) result }
 {
     match form {
-        "csv" => TextForm::Csv {
-            null_text: word(words, "null"),
-        },
-        _ => TextForm::JsonLines,
+        "csv" => TextForm::Csv(FieldForm {
+            null_text: word(words, "null").as_bytes(),
+            dates: date_form(words),
+        }),
+        _ => TextForm::JsonLines(date_form(words)),
     }
 }
 
