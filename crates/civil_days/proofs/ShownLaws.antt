@@ -12,7 +12,7 @@ use Rattle.std.proofs.lemmas.Int.Digits.{digits_value_push}
 use Rattle.std.proofs.Math.Nat.{pow-suc}
 use Rattle.jiff_core.specs.Calendar.{days_in_year, days_of_months}
 use Rattle.jiff_core.proofs.CalendarLemmas.{days_in_year_bounds}
-use Rattle.jiff_core.proofs.SignedLemmas.{signed_arith, int_rem_euclid-parts}
+use Rattle.jiff_core.proofs.SignedLemmas.{signed_arith, int_rem_euclid-parts, one_part}
 use Rattle.civil_days.specs.declared.date_column.ColumnZone.{ColumnZone}
 use Rattle.civil_days.specs.declared.date_column.ColumnZone.TheVariants.{Absent, Universal, Other}
 use Rattle.civil_days.specs.declared.date_column.DateColumn.{DateColumn}
@@ -50,10 +50,10 @@ unfolding day_number
 day_year y m d z civil same few = elim (side (y -ℤ pos 1970)) [
   | inl after ↦ (let n = after.0 in
       let e : y ≡ pos 1970 +ℤ pos n = omega (arith, signed_arith, after.1) in
-      omega (arith, signed_arith, same, few, after_many n, year_start-after y n e, e))
+      omega (arith, signed_arith, same, few, after_many n, year_start-after y n e, e, one_part y, one_part z))
   | inr before ↦ (let n = before.0 in
       let e : y ≡ pos 1970 -ℤ pos n = omega (arith, signed_arith, before.1) in
-      omega (arith, signed_arith, same, few, before_many n, year_start-before y n e, e, day_in_year y m d civil, days_in_year_bounds y, civil.1))
+      omega (arith, signed_arith, same, few, before_many n, year_start-before y n e, e, one_part y, one_part z, day_in_year y m d civil, days_in_year_bounds y, civil.1))
 ]
   where
     side : (z : ℤ) → ((n : ℕ) × (z ≡ pos n)) ⊎ ((n : ℕ) × (z ≡ neg_ℤ (pos n)))
@@ -176,7 +176,7 @@ time_back zone places v some few =
     stated_is_time zone places _ _ read (takes_shown zone) ∙ ap Ok value
   where
     day_small : (s : ℤ) → unsigned_abs s < 10_000_000_000_000_000_000 → unsigned_abs (int_div_euclid s (pos 86_400)) < 300_000_000_000_000
-    day_small s few = omega (arith, signed_arith, few)
+    day_small s few = omega (arith, signed_arith, few, one_part s, one_part (int_div_euclid s (pos 86_400)))
 
 midnight_back : (day : ℤ) (v : ℤ) → unsigned_abs day < 300_000_000_000_000 → day *ℤ pos 86_400_000 ≡ v → stated_time Absent 3 (time_in 3 (text_of_day day)) ≡ Ok v
 midnight_back day v small same =
@@ -193,13 +193,13 @@ milliseconds_back n holds = go (unsigned_abs (int_rem_euclid n (pos 86_400_000))
     go true is =
         let none : unsigned_abs (int_rem_euclid n (pos 86_400_000)) ≡ 0 = grind (arith, nat_tests) in
         let whole = divided n 86_400_000 (omega arith) in
-        midnight_back (int_div_euclid n (pos 86_400_000)) n (omega (arith, signed_arith, holds)) (omega (arith, signed_arith, whole, none))
-    go false is = time_back Absent 3 n (omega arith) (omega (arith, signed_arith, holds))
+        midnight_back (int_div_euclid n (pos 86_400_000)) n (omega (arith, signed_arith, holds, one_part n, one_part (int_div_euclid n (pos 86_400_000)))) (omega (arith, signed_arith, whole, none))
+    go false is = time_back Absent 3 n (omega arith) (omega (arith, signed_arith, holds, one_part n, one_part (int_div_euclid n (pos 1_000))))
 
 pub shown_back : ShownReadsBack
-shown_back Days n holds = ap stated_day (date_in-exact (text_of_day n) n (day_has_year n (omega (arith, signed_arith, holds))) refl)
+shown_back Days n holds = ap stated_day (date_in-exact (text_of_day n) n (day_has_year n (omega (arith, signed_arith, holds, one_part n))) refl)
 shown_back Milliseconds n holds = milliseconds_back n holds
-shown_back (Times Second zone) n holds = time_back zone 0 n (omega arith) (omega (arith, signed_arith, holds))
-shown_back (Times Millisecond zone) n holds = time_back zone 3 n (omega arith) (omega (arith, signed_arith, holds))
-shown_back (Times Microsecond zone) n holds = time_back zone 6 n (omega arith) (omega (arith, signed_arith, holds))
-shown_back (Times Nanosecond zone) n holds = time_back zone 9 n (omega arith) (omega (arith, signed_arith, holds))
+shown_back (Times Second zone) n holds = time_back zone 0 n (omega arith) (omega (arith, signed_arith, holds, one_part n, one_part (int_div_euclid n (pos 1))))
+shown_back (Times Millisecond zone) n holds = time_back zone 3 n (omega arith) (omega (arith, signed_arith, holds, one_part n, one_part (int_div_euclid n (pos 1_000))))
+shown_back (Times Microsecond zone) n holds = time_back zone 6 n (omega arith) (omega (arith, signed_arith, holds, one_part n, one_part (int_div_euclid n (pos 1_000_000))))
+shown_back (Times Nanosecond zone) n holds = time_back zone 9 n (omega arith) (omega (arith, signed_arith, holds, one_part n, one_part (int_div_euclid n (pos 1_000_000_000))))

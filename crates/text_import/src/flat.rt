@@ -3,7 +3,7 @@ ghost use Rattle.std.specs.Prelude.{◌≡◌, ◌≤◌, ℕ, Bool, pos, neg_�
 ghost use Rattle.arrow_schema.specs.Column as kinds;
 ghost use Rattle.arrow_schema.specs.Column.{integers};
 ghost use Rattle.arrow_schema.specs.Parts.{kind_of_column};
-ghost use Rattle.arrow_schema.specs.View.{column_of};
+ghost use Rattle.arrow_schema.specs.View.{column_of, kind_of};
 ghost use Rattle.civil_days.specs.Typed.{spelled};
 ghost use Rattle.cells.specs.Cell as plain;
 ghost use Rattle.cells.specs.Nulls.{is_there};
@@ -132,15 +132,22 @@ fn integer_cell(field: &Field, text: &[u8]) -> Result<Value, CellError>
     number_cell(field, integer(text))
 }
 
+// Returns the number that a text states in a column of this type.
+fn spelled(data_type: &DataType, text: &[u8]) -> Result<i128, DateFault>
+    ensures { result ≡ spelled (kind_of data_type.now) text.now }
+{
+    match date_column_of(data_type) {
+        Some(column) => read_value(column, text),
+        None => Err(DateFault::NotADate),
+    }
+}
+
 // Returns the cell of the date or the time that a text spells.
 #[tactic(auto, using(arrow_schema::specs::declared::types::Field::the_lemmas))]
 pub(crate) fn spelled_cell(field: &Field, text: &[u8]) -> Result<Value, CellError>
     ensures { Gives refusal_of cell result (spelled_cell (kind_of_column (column_of field.now)) (spelled (kind_of_column (column_of field.now)) text.now)) }
 {
-    let Some(column) = date_column_of(&field.data_type) else {
-        return Err(CellError::Refused(Refusal::NotADate));
-    };
-    match read_value(column, text) {
+    match spelled(&field.data_type, text) {
         Ok(number) => fitting(field, Value::Int(number), Refusal::OutOfRange),
         Err(DateFault::NotADate) => Err(CellError::Refused(Refusal::NotADate)),
         Err(DateFault::WrongOffset) => Err(CellError::Refused(Refusal::WrongOffset)),
