@@ -272,7 +272,7 @@ value_cause date_form s (json.array ds) part e names h = by (item_count ds == co
     by : (b : Bool) → (item_count ds == column_count cs) ≡ b → (if b then option_map value_part (part_by_place date_form [] 0 cs ds) else Some (other_count (item_count ds) (column_count cs))) ≡ Some part
         → and_then (given cell_list (if b then cells_by_place date_form cs ds else Err Width)) (accepted s) ≡ Err e → IsLinePartCause date_form s.columns (json.array ds) part e
     by true is names h =
-        told s (json.array ds) part e (cells_by_place date_form cs ds) (part_by_place date_form [] 0 cs ds) (items_told date_form s.columns ds (eqb-true (item_count ds) (column_count cs) is ∙ columns_counted s.columns)) names h
+        told date_form s (json.array ds) part e (cells_by_place date_form cs ds) (part_by_place date_form [] 0 cs ds) (items_told date_form s.columns ds (eqb-true (item_count ds) (column_count cs) is ∙ columns_counted s.columns)) names h
     by false is names h =
         let same : part ≡ other_count (item_count ds) (column_count cs) = cc in
         let one : e ≡ Width = cc in
@@ -287,7 +287,7 @@ value_cause date_form s (json.object ms) part e names h = by (first_repeated (na
         → IsLinePartCause date_form s.columns (json.object ms) part e
     key None is names h =
         let all : has_unknown (names_of cs) (keys_of ms) ≡ false = sym (any_unknown (names_of cs) (keys_of ms)) ∙ ap is_some is in
-        told s (json.object ms) part e (cells_by_name date_form cs ms) (part_by_name date_form [] 0 cs ms) (members_told date_form s.columns ms) names (rw all at h)
+        told date_form s (json.object ms) part e (cells_by_name date_form cs ms) (part_by_name date_form [] 0 cs ms) (members_told date_form s.columns ms) names (rw all at h)
     key (Some name) is names h =
         let some : has_unknown (names_of cs) (keys_of ms) ≡ true = sym (any_unknown (names_of cs) (keys_of ms)) ∙ ap is_some is in
         let told = rw some at h in

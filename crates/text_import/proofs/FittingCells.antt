@@ -120,12 +120,7 @@ text_value : (d : Data) (x : Cell) → text_in d ≡ Ok x → IsOf texts x
 text_value (json.string t) x h = fitting_is texts NotUtf8 (text t) x refl h
 text_value _ x h = absurd cc
 
-large_dated_value : (date_form : DateForm) (kind : Kind) (d : Data) (x : Cell) → dated_in date_form kind d ≡ Ok x → IsOf kind x
-dated_value Numbers kind d x h = number_value kind d x h
-dated_value Iso kind (json.string t) x h = spelled_is kind (spelled kind t) x h
-dated_value Iso kind _ x h = absurd cc
-
-text_value : (d : Data) (x : Cell) → text_in d ≡ Ok x → IsOf large_texts x
+large_text_value : (d : Data) (x : Cell) → text_in d ≡ Ok x → IsOf large_texts x
 unfolding fits_kind
 large_text_value d x h = let is = text_value d x h in record { there = is.there; kinds = is.kinds }
 
