@@ -11,8 +11,8 @@ use Rattle.clap.specs.declared.builder.value_parser.ValueParser.{ValueParser}
 use Rattle.clap.specs.declared.builder.value_parser.ValueParser.TheVariants as parsers
 use Rattle.clap.specs.declared.parser.matches.Found.{Found}
 use Rattle.commit.specs.declared.sector.FormatVersion.{FormatVersion}
-use Rattle.query.specs.declared.row_form.RowForm.{RowForm}
-use Rattle.query.specs.declared.row_form.RowForm.TheVariants.{Array, Object}
+use Rattle.query.specs.declared.row_form.RowShape.{RowShape}
+use Rattle.query.specs.declared.row_form.RowShape.TheVariants.{Array, Object}
 use Rattle.clap.specs.declared.error.kind.ErrorKind.TheVariants.{OutOfMemory}
 use Rattle.cli_requests.specs.declared.command_parameters.Parameters.{Parameters}
 use Rattle.cli_requests.specs.declared.command_parameters.Parameters.TheVariants as parameters
@@ -177,9 +177,9 @@ pub record HasQuery (found : Found) (query : QueryWords) : Type 0 where
   pub limit : query.limit ≡ option_map (digits_value 10) (first_value found (codes "limit"))
 
 -- rows are objects if the option is given
-pub record HasForm (found : Found) (form : RowForm) : Type 0 where
-  pub arrays : one_text found (codes "objects") ≡ Some (codes "false") → form ≡ Array
-  pub objects : one_text found (codes "objects") ≡ Some (codes "true") → form ≡ Object
+pub record HasShape (found : Found) (shape : RowShape) : Type 0 where
+  pub arrays : one_text found (codes "objects") ≡ Some (codes "false") → shape ≡ Array
+  pub objects : one_text found (codes "objects") ≡ Some (codes "true") → shape ≡ Object
 
 -- the flag says whether this option without a value is given
 pub record HasFlag (found : Found) (id : Text) (flag : Bool) : Type 0 where
@@ -199,9 +199,9 @@ HasNames found (commands.Create name fields) = (name.now ≡ value_of found (cod
 HasNames found (commands.Append name) = (name.now ≡ value_of found (codes "NAME")) × (bytes_eq (value_of found (codes "as")) (codes "stream") ≡ true)
 HasNames found (commands.AppendText name form) =
     (name.now ≡ value_of found (codes "NAME")) × (bytes_eq (value_of found (codes "as")) (codes "stream") ≡ false) × HasTextForm found form
-HasNames found (commands.Query name query form) = (name.now ≡ value_of found (codes "NAME")) × HasQuery found query × HasForm found form
+HasNames found (commands.Query name query shape) = (name.now ≡ value_of found (codes "NAME")) × HasQuery found query × HasShape found shape
 HasNames found (commands.SaveAs from to query) =
-    (from.now ≡ value_of found (codes "NAME")) × (Some to.now ≡ first_value found (codes "save")) × HasQuery found query × HasForm found Array
+    (from.now ≡ value_of found (codes "NAME")) × (Some to.now ≡ first_value found (codes "save")) × HasQuery found query × HasShape found Array
 HasNames found (commands.Drop name) = name.now ≡ value_of found (codes "NAME")
 HasNames found (commands.Schema name) = name.now ≡ value_of found (codes "NAME")
 HasNames found (commands.Export name) = name.now ≡ value_of found (codes "NAME")

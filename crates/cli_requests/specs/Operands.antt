@@ -6,7 +6,7 @@ use Rattle.clap.specs.Walk.{texts}
 use Rattle.clap.specs.Words.{Text}
 use Rattle.commit.specs.declared.sector.FormatVersion.{FormatVersion}
 use Rattle.commit.specs.declared.sector.FormatVersion.TheVariants.{One, Two}
-use Rattle.query.specs.declared.row_form.RowForm.TheVariants.{Array}
+use Rattle.query.specs.declared.row_form.RowShape.TheVariants.{Array}
 use Rattle.cli_requests.specs.Numbers.{IsNumber}
 use Rattle.cli_requests.specs.declared.store_words.StoreCommand.{StoreCommand}
 use Rattle.cli_requests.specs.declared.store_words.StoreCommand.TheVariants as commands
@@ -67,7 +67,7 @@ names_in commands.Upgrade = []
 abbrev pub IsWithoutOptions : StoreCommand → Type 0
 IsWithoutOptions (commands.ImportNew name) = ⊥
 IsWithoutOptions (commands.AppendText name form) = ⊥
-IsWithoutOptions (commands.Query name query form) = (query.columns ≡ None) × (query.limit ≡ None) × (form ≡ Array)
+IsWithoutOptions (commands.Query name query shape) = (query.columns ≡ None) × (query.limit ≡ None) × (shape ≡ Array)
 IsWithoutOptions (commands.SaveAs from to query) = ⊥
 IsWithoutOptions (commands.Info as_json) = as_json ≡ false
 IsWithoutOptions _ = Unit {0}

@@ -17,13 +17,16 @@ use Rattle.columns.specs.Tests.{has_short_validity}
 use Rattle.arrow_schema.specs.declared.types.BitWidth.{BitWidth}
 use Rattle.columns.specs.laws.SoundParts.{sound_validity, sound_buffer}
 use Rattle.query.specs.Line.{json_of}
-use Rattle.query.specs.declared.column_slots.Buffers.TheVariants.{Integers, Texts}
+use Rattle.civil_days.specs.declared.date_form.DateForm.{DateForm}
+use Rattle.query.specs.Shown.{shown_cell}
+use Rattle.query.specs.declared.column_slots.Buffers.TheVariants.{Texts}
 use Rattle.query.specs.declared.column_slots.IntegerBuffers.{IntegerBuffers}
 use Rattle.query.specs.declared.column_slots.TextBuffers.{TextBuffers}
-use Rattle.query.specs.inner.ColumnSlots.{IsTextKind, IsTextColumn, AreBuffers, IsPlainText}
+use Rattle.query.specs.inner.ColumnSlots.{IsTextKind, IsTextColumn, AreIntegers, AreBuffers, IsPlainText}
 use Rattle.query.specs.inner.Contents.{has_contents, span_in}
 use Rattle.query.specs.inner.Slots.{is_valid_in, width_of as integer_width}
 use Rattle.query.proofs.AnswerWords.{offsets_there}
+use Rattle.query.proofs.Shown.{shown_text}
 
 -- ---- the types
 
@@ -55,24 +58,24 @@ some_texts f (Some w) e h = field_texts f (bits_of w / 8) e h
 -- ---- their slots
 
 -- the text of a slot that is valid, where its bytes stand in a string as they are
-pub text_printed : (c : Column) (width : ℕ) (a : Array) (i : ℕ) (t : List ℕ) → IsTextColumn c width → is_valid a i ≡ true → t ≡ contents_at width a i → escape t ≡ t
-    → codes "\"" ++ t ++ codes "\"" ≡ json_of (cell_at c a i)
+pub text_printed : (form : DateForm) (c : Column) (width : ℕ) (a : Array) (i : ℕ) (t : List ℕ) → IsTextColumn c width → is_valid a i ≡ true → t ≡ contents_at width a i → escape t ≡ t
+    → codes "\"" ++ t ++ codes "\"" ≡ json_of (shown_cell form c (cell_at c a i))
 unfolding json_of
-text_printed c width a i t is valid own plain =
+text_printed form c width a i t is valid own plain =
     let cell : cell_at c a i ≡ text t = is.cells a i ∙ ap (λ (b : Bool). if b then text (contents_at width a i) else null) valid ∙ ap text (sym own) in
-    rw cell (ap (λ (s : List ℕ). 34 ∷ (s ++ 34 ∷ [])) (sym plain))
+    rw (cell, shown_text form c t) (ap (λ (s : List ℕ). 34 ∷ (s ++ 34 ∷ [])) (sym plain))
 
 -- the same of the buffers of an array
-pub plain_printed : (c : Column) (a : Array) (b : TextBuffers) (i : ℕ) (t : List ℕ) → AreBuffers c a (Texts b) → IsPlainText b i t → codes "\"" ++ t ++ codes "\"" ≡ json_of (cell_at c a i)
-plain_printed c a b i t are is =
+pub plain_printed : (form : DateForm) (c : Column) (a : Array) (b : TextBuffers) (i : ℕ) (t : List ℕ) → AreBuffers form c a (Texts b) → IsPlainText b i t → codes "\"" ++ t ++ codes "\"" ≡ json_of (shown_cell form c (cell_at c a i))
+plain_printed form c a b i t are is =
     let width = bits_of b.width / 8 in
     let own : t ≡ contents_at width a i =
     is.contents ∙ ap (λ (offsets : List ℕ). span_in width offsets b.contents.now i) are.2 ∙ ap (λ (contents : List ℕ). span_in width (offsets_in a) contents i) are.3 in
     let valid : is_valid a i ≡ true = sym (ap (λ (validity : List ℕ). is_valid_in validity i) are.1) ∙ is.valid in
-    text_printed c width a i t are.0 valid own is.plain
+    text_printed form c width a i t are.0 valid own is.plain
 
 -- the number or the null of a slot
-pub number_is : (c : Column) (a : Array) (b : IntegerBuffers) (i : ℕ) (x : Cell) → AreBuffers c a (Integers b)
+pub number_is : (c : Column) (a : Array) (b : IntegerBuffers) (i : ℕ) (x : Cell) → AreIntegers c a b
     → x ≡ (if is_valid_in b.validity.now i then number (integer_at (integer_width b.integer) b.integer.signed b.values.now i) else null) → x ≡ cell_at c a i
 number_is c a b i x are is =
     let width = integer_width b.integer in
@@ -88,11 +91,11 @@ validity_there a slot h within some =
     let long : nat_lt (length (validity_in a)) (bytes_of (slots_in a)) ≡ false = rw filled at h in
     omega (arith, ltb-false _ _ long, within)
 
-pub integer_bit : (c : Column) (a : Array) (b : IntegerBuffers) (slot : ℕ) → AreBuffers c a (Integers b) → is_sound c a ≡ true → slot < slots_in a → 0 < length b.validity.now → slot < 8 * length b.validity.now
+pub integer_bit : (c : Column) (a : Array) (b : IntegerBuffers) (slot : ℕ) → AreIntegers c a b → is_sound c a ≡ true → slot < slots_in a → 0 < length b.validity.now → slot < 8 * length b.validity.now
 integer_bit c a b slot are sound within =
     subst (λ (v : List ℕ). 0 < length v → slot < 8 * length v) (sym are.1) (validity_there a slot (are.0.validity a sound) within)
 
-pub integer_bytes : (c : Column) (a : Array) (b : IntegerBuffers) (slot : ℕ) → AreBuffers c a (Integers b) → is_sound c a ≡ true → slot < slots_in a
+pub integer_bytes : (c : Column) (a : Array) (b : IntegerBuffers) (slot : ℕ) → AreIntegers c a b → is_sound c a ≡ true → slot < slots_in a
     → (slot + 1) * integer_width b.integer ≤ length b.values.now
 integer_bytes c a b slot are sound within =
     let width : ℕ = integer_width b.integer in
@@ -101,13 +104,13 @@ integer_bytes c a b slot are sound within =
     subst (λ (v : List ℕ). (slot + 1) * width ≤ length v) (sym are.2) (omega (arith, less, enough))
 
 -- a slot of strings
-pub text_bit : (c : Column) (a : Array) (b : TextBuffers) (slot : ℕ) → AreBuffers c a (Texts b) → is_sound c a ≡ true → slot < slots_in a → 0 < length b.validity.now → slot < 8 * length b.validity.now
-text_bit c a b slot are sound within =
+pub text_bit : (form : DateForm) (c : Column) (a : Array) (b : TextBuffers) (slot : ℕ) → AreBuffers form c a (Texts b) → is_sound c a ≡ true → slot < slots_in a → 0 < length b.validity.now → slot < 8 * length b.validity.now
+text_bit form c a b slot are sound within =
     subst (λ (v : List ℕ). 0 < length v → slot < 8 * length v) (sym are.1) (validity_there a slot (are.0.validity a sound) within)
 
-pub text_bytes : (c : Column) (a : Array) (b : TextBuffers) (slot : ℕ) → AreBuffers c a (Texts b) → is_sound c a ≡ true → slot < slots_in a
+pub text_bytes : (form : DateForm) (c : Column) (a : Array) (b : TextBuffers) (slot : ℕ) → AreBuffers form c a (Texts b) → is_sound c a ≡ true → slot < slots_in a
     → (slot + 2) * (bits_of b.width / 8) ≤ length b.offsets.now
-text_bytes c a b slot are sound within =
+text_bytes form c a b slot are sound within =
     let width = bits_of b.width / 8 in
     let there : has_contents width (slot + 1) a ≡ true =
     and_from _ _ (le-leb _ _ (omega (arith, within))) (and_from _ _ (ap not (are.0.validity a sound)) (ap not (are.0.offsets a sound))) in

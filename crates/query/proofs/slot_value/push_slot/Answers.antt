@@ -17,11 +17,11 @@ number-requires-clause-long c =
 
 pub plain_text-requires-clause-valid : goal.plain_text-requires-clause-valid
 plain_text-requires-clause-valid c =
-    text_bit (column_of c.args.column.now.field.now) (view_array c.args.column.now.view) c.in-Texts.buffers c.args.slot (rw c.in-Texts.is at c.requires.buffers) c.requires.sound c.requires.within
+    text_bit c.args.dates (column_of c.args.column.now.field.now) (view_array c.args.column.now.view) c.in-Texts.buffers c.args.slot (rw c.in-Texts.is at c.requires.buffers) c.requires.sound c.requires.within
 
 pub plain_text-requires-clause-long : goal.plain_text-requires-clause-long
 plain_text-requires-clause-long c =
-    text_bytes (column_of c.args.column.now.field.now) (view_array c.args.column.now.view) c.in-Texts.buffers c.args.slot (rw c.in-Texts.is at c.requires.buffers) c.requires.sound c.requires.within
+    text_bytes c.args.dates (column_of c.args.column.now.field.now) (view_array c.args.column.now.view) c.in-Texts.buffers c.args.slot (rw c.in-Texts.is at c.requires.buffers) c.requires.sound c.requires.within
 
 pub returns-in-Integers : goal.returns-in-Integers
 returns-in-Integers c =
@@ -31,4 +31,4 @@ returns-in-Integers c =
 pub returns-in-Some : goal.returns-in-Some
 returns-in-Some c =
     let P : List ℕ → Type 0 = λ t. OnOk c.push_first_bytes.result (c.push_first_bytes.new.out.items ≡ c.args.out.now.items ++ t) in
-    subst P (plain_printed (column_of c.args.column.now.field.now) (view_array c.args.column.now.view) c.in-Texts.buffers c.args.slot _ (rw c.in-Texts.is at c.requires.buffers) c.in-Some.ensures.text) c.push_first_bytes.ensures
+    subst P (plain_printed c.args.dates (column_of c.args.column.now.field.now) (view_array c.args.column.now.view) c.in-Texts.buffers c.args.slot _ (rw c.in-Texts.is at c.requires.buffers) c.in-Some.ensures.text) c.push_first_bytes.ensures
