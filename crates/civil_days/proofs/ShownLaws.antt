@@ -12,7 +12,7 @@ use Rattle.std.proofs.lemmas.Int.Digits.{digits_value_push}
 use Rattle.std.proofs.Math.Nat.{pow-suc}
 use Rattle.jiff_core.specs.Calendar.{days_in_year, days_of_months}
 use Rattle.jiff_core.proofs.CalendarLemmas.{days_in_year_bounds}
-use Rattle.jiff_core.proofs.SignedLemmas.{signed_arith}
+use Rattle.jiff_core.proofs.SignedLemmas.{signed_arith, int_rem_euclid-parts, one_part}
 use Rattle.civil_days.specs.declared.date_column.ColumnZone.{ColumnZone}
 use Rattle.civil_days.specs.declared.date_column.ColumnZone.TheVariants.{Absent, Universal, Other}
 use Rattle.civil_days.specs.declared.date_column.DateColumn.{DateColumn}
@@ -50,10 +50,10 @@ unfolding day_number
 day_year y m d z civil same few = elim (side (y -ℤ pos 1970)) [
   | inl after ↦ (let n = after.0 in
       let e : y ≡ pos 1970 +ℤ pos n = omega (arith, signed_arith, after.1) in
-      omega (arith, signed_arith, same, few, after_many n, year_start-after y n e, e))
+      omega (arith, signed_arith, same, few, after_many n, year_start-after y n e, e, one_part y, one_part z))
   | inr before ↦ (let n = before.0 in
       let e : y ≡ pos 1970 -ℤ pos n = omega (arith, signed_arith, before.1) in
-      omega (arith, signed_arith, same, few, before_many n, year_start-before y n e, e, day_in_year y m d civil, days_in_year_bounds y, civil.1))
+      omega (arith, signed_arith, same, few, before_many n, year_start-before y n e, e, one_part y, one_part z, day_in_year y m d civil, days_in_year_bounds y, civil.1))
 ]
   where
     side : (z : ℤ) → ((n : ℕ) × (z ≡ pos n)) ⊎ ((n : ℕ) × (z ≡ neg_ℤ (pos n)))
@@ -104,7 +104,7 @@ point_is : (places n : ℕ) → fraction_text places n ≡ point_text (last_digi
 point_is places n = rw (last_is places n).size refl
 
 -- the zone of what is printed
-shown_zone : Bool → Zone
+abbrev shown_zone : Bool → Zone
 shown_zone true = Utc
 shown_zone false = Unzoned
 
@@ -116,8 +116,11 @@ shown_zone_text : (zoned : Bool) → (if zoned then codes "Z" else []) ≡ zone_
 shown_zone_text true = refl
 shown_zone_text false = refl
 
+regrouped : (d t c f g y z : List ℕ) → f ≡ g → y ≡ z → d ++ t ++ c ++ f ++ y ≡ d ++ (t ++ c) ++ g ++ z
+regrouped d t c f g y z p q = rw (p, q) (simp append_assoc)
+
 time_parts_shown : (places : ℕ) (zoned : Bool) (day : ℤ) (second units : ℕ) → second < 86_400 → units < 10 ^ places
-    → IsTime places ((text_of_day day ++ codes "T" ++ clock_text second) ++ fraction_text places units ++ (if zoned then codes "Z" else [])) day second units (shown_zone zoned)
+    → IsTime places (text_of_day day ++ codes "T" ++ clock_text second ++ fraction_text places units ++ (if zoned then codes "Z" else [])) day second units (shown_zone zoned)
 time_parts_shown places zoned day second units clock few =
     let last = last_is places units in
     let ds = last_digits places units in
@@ -133,34 +136,47 @@ time_parts_shown places zoned day second units clock few =
       value = sym scale;
       is_zone = shown_is_zone zoned;
       is_zoned = inl refl;
-      text = rw (point_is places units, shown_zone_text zoned) (append_assoc (text_of_day day) (codes "T" ++ clock_text second) (point_text ds ++ zone_text (shown_zone zoned)));
+      text = regrouped (text_of_day day) (codes "T") (clock_text second) (fraction_text places units) (point_text ds) (if zoned then codes "Z" else []) (zone_text (shown_zone zoned)) (point_is places units) (shown_zone_text zoned);
     })
 
--- the parts of a number of units
-record IsSplit (scale : ℕ) (v day : ℤ) (second units : ℕ) : Type 0 where
-  clock : second < 86_400
-  few : units < scale
-  small : unsigned_abs day < 300_000_000_000_000
-  sum : (day *ℤ pos 86_400 +ℤ pos second) *ℤ pos scale +ℤ pos units ≡ v
+-- a number is its quotient, rounded down, and the remainder
+divided : (v : ℤ) (k : ℕ) → 0 < k → int_div_euclid v (pos k) *ℤ pos k +ℤ pos (unsigned_abs (int_rem_euclid v (pos k))) ≡ v
+divided v k some = omega (arith, signed_arith, int_rem_euclid-parts v k some)
 
-split_at : (scale : ℕ) (v : ℤ) → 0 < scale → FitsSigned w64 v
-    → IsSplit scale v (int_div_euclid (int_div_euclid v (pos scale)) (pos 86_400)) (unsigned_abs (int_rem_euclid (int_div_euclid v (pos scale)) (pos 86_400))) (unsigned_abs (int_rem_euclid v (pos scale)))
-split_at scale v some fits = ?
+left_over : (v : ℤ) (k : ℕ) → 0 < k → unsigned_abs (int_rem_euclid v (pos k)) < k
+left_over v k some = omega (arith, signed_arith, int_rem_euclid-parts v k some)
 
 takes_shown : (zone : ColumnZone) → takes zone (shown_zone (has_zone zone)) ≡ true
 takes_shown Absent = refl
 takes_shown Universal = refl
 takes_shown Other = refl
 
+less_nothing : (z : ℤ) → z -ℤ pos 0 ≡ z
+less_nothing z = omega (arith, signed_arith)
+
 no_offset : (zoned : Bool) (places : ℕ) (day : ℤ) (second units : ℕ) → time_value places day second units (shown_zone zoned) ≡ (day *ℤ pos 86_400 +ℤ pos second) *ℤ pos (10 ^ places) +ℤ pos units
-no_offset true places day second units = ap (λ (z : ℤ). z *ℤ pos (10 ^ places) +ℤ pos units) (omega (arith, signed_arith))
-no_offset false places day second units = ap (λ (z : ℤ). z *ℤ pos (10 ^ places) +ℤ pos units) (omega (arith, signed_arith))
+no_offset true places day second units = ap (λ (z : ℤ). z *ℤ pos (10 ^ places) +ℤ pos units) (less_nothing (day *ℤ pos 86_400 +ℤ pos second))
+no_offset false places day second units = ap (λ (z : ℤ). z *ℤ pos (10 ^ places) +ℤ pos units) (less_nothing (day *ℤ pos 86_400 +ℤ pos second))
 
 stated_is_time : (zone : ColumnZone) (places : ℕ) (o : Option ReadTime) (r : ReadTime) → o ≡ Some r → takes zone r.zone ≡ true → stated_time zone places o ≡ Ok (time_value places r.day r.second r.units r.zone)
 stated_is_time zone places o r read is = rw (read, is) refl
 
-time_back : (zone : ColumnZone) (places : ℕ) (v : ℤ) → FitsSigned w64 v → stated_time zone places (time_in places (time_text places (has_zone zone) v)) ≡ Ok v
-time_back zone places v fits = ?
+time_back : (zone : ColumnZone) (places : ℕ) (v : ℤ) → 0 < 10 ^ places → unsigned_abs (int_div_euclid v (pos (10 ^ places))) < 10_000_000_000_000_000_000
+    → stated_time zone places (time_in places (time_text places (has_zone zone) v)) ≡ Ok v
+time_back zone places v some few =
+    let s = int_div_euclid v (pos (10 ^ places)) in
+    let u = unsigned_abs (int_rem_euclid v (pos (10 ^ places))) in
+    let d = int_div_euclid s (pos 86_400) in
+    let c = unsigned_abs (int_rem_euclid s (pos 86_400)) in
+    let year = day_has_year d (day_small s few) in
+    let is = time_parts_shown places (has_zone zone) d c u (left_over s 86_400 (omega arith)) (left_over v (10 ^ places) some) in
+    let read = time_in-exact places (time_text places (has_zone zone) v) d c u (shown_zone (has_zone zone)) year is in
+    let value : time_value places d c u (shown_zone (has_zone zone)) ≡ v =
+    no_offset (has_zone zone) places d c u ∙ ap (λ (z : ℤ). z *ℤ pos (10 ^ places) +ℤ pos u) (divided s 86_400 (omega arith)) ∙ divided v (10 ^ places) some in
+    stated_is_time zone places _ _ read (takes_shown zone) ∙ ap Ok value
+  where
+    day_small : (s : ℤ) → unsigned_abs s < 10_000_000_000_000_000_000 → unsigned_abs (int_div_euclid s (pos 86_400)) < 300_000_000_000_000
+    day_small s few = omega (arith, signed_arith, few, one_part s, one_part (int_div_euclid s (pos 86_400)))
 
 midnight_back : (day : ℤ) (v : ℤ) → unsigned_abs day < 300_000_000_000_000 → day *ℤ pos 86_400_000 ≡ v → stated_time Absent 3 (time_in 3 (text_of_day day)) ≡ Ok v
 midnight_back day v small same =
@@ -169,7 +185,21 @@ midnight_back day v small same =
     let value : time_value 3 day 0 0 Unzoned ≡ v = omega (arith, signed_arith, same) in
     stated_is_time Absent 3 (time_in 3 (text_of_day day)) _ read refl ∙ ap Ok value
 
+milliseconds_back : (n : ℤ) → FitsSigned w64 n → spelled_in Milliseconds (shown_in Milliseconds n) ≡ Ok n
+milliseconds_back n holds = go (unsigned_abs (int_rem_euclid n (pos 86_400_000)) == 0) refl
+  where
+    go : (b : Bool) → (unsigned_abs (int_rem_euclid n (pos 86_400_000)) == 0) ≡ b
+        → stated_time Absent 3 (time_in 3 (if b then text_of_day (int_div_euclid n (pos 86_400_000)) else time_text 3 false n)) ≡ Ok n
+    go true is =
+        let none : unsigned_abs (int_rem_euclid n (pos 86_400_000)) ≡ 0 = grind (arith, nat_tests) in
+        let whole = divided n 86_400_000 (omega arith) in
+        midnight_back (int_div_euclid n (pos 86_400_000)) n (omega (arith, signed_arith, holds, one_part n, one_part (int_div_euclid n (pos 86_400_000)))) (omega (arith, signed_arith, whole, none))
+    go false is = time_back Absent 3 n (omega arith) (omega (arith, signed_arith, holds, one_part n, one_part (int_div_euclid n (pos 1_000))))
+
 pub shown_back : ShownReadsBack
-shown_back Days n holds = ap stated_day (date_in-exact (text_of_day n) n (day_has_year n (omega (arith, signed_arith, holds))) refl)
-shown_back Milliseconds n holds = ?
-shown_back (Times unit zone) n holds = time_back zone (places_of unit) n holds
+shown_back Days n holds = ap stated_day (date_in-exact (text_of_day n) n (day_has_year n (omega (arith, signed_arith, holds, one_part n))) refl)
+shown_back Milliseconds n holds = milliseconds_back n holds
+shown_back (Times Second zone) n holds = time_back zone 0 n (omega arith) (omega (arith, signed_arith, holds, one_part n, one_part (int_div_euclid n (pos 1))))
+shown_back (Times Millisecond zone) n holds = time_back zone 3 n (omega arith) (omega (arith, signed_arith, holds, one_part n, one_part (int_div_euclid n (pos 1_000))))
+shown_back (Times Microsecond zone) n holds = time_back zone 6 n (omega arith) (omega (arith, signed_arith, holds, one_part n, one_part (int_div_euclid n (pos 1_000_000))))
+shown_back (Times Nanosecond zone) n holds = time_back zone 9 n (omega arith) (omega (arith, signed_arith, holds, one_part n, one_part (int_div_euclid n (pos 1_000_000_000))))

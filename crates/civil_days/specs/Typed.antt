@@ -1,7 +1,6 @@
 -- What a text states in a column of dates or timestamps, and the text that is printed for a number of such a column.
-use Rattle.std.specs.Prelude.{◌≡◌, ℕ, ◌==◌, Bool, true, false, not, bytes_eq, ℤ, pos, unsigned_abs, List, [], ◌∷◌, length, codes, Option, Some, None, is_some, Result, Ok, Err, FitsSigned, if◌then◌else◌}
+use Rattle.std.specs.Prelude.{◌≡◌, ℕ, ◌==◌, ◌||◌, Bool, true, false, not, bytes_eq, ℤ, pos, unsigned_abs, List, [], length, codes, Option, Some, None, is_some, Result, Ok, Err, FitsSigned, if◌then◌else◌}
 use Rattle.std.specs.Int.{int_div_euclid, int_rem_euclid, w32, w64}
-use Rattle.std.specs.List.{list_any}
 use Rattle.arrow_schema.specs.Column.{days, date_milliseconds, TimeKind, seconds, milliseconds, microseconds, nanoseconds, Kind, dates, timestamps}
 use Rattle.civil_days.specs.declared.date_column.ColumnZone.{ColumnZone}
 use Rattle.civil_days.specs.declared.date_column.ColumnZone.TheVariants.{Absent, Universal, Other}
@@ -27,11 +26,13 @@ unit_of microseconds = Microsecond
 unit_of nanoseconds = Nanosecond
 
 -- UTC, by its names and as an offset of nothing
-abbrev pub names_of_utc : List (List ℕ)
-names_of_utc = codes "UTC" ∷ codes "Z" ∷ codes "Etc/UTC" ∷ codes "+00:00" ∷ codes "-00:00" ∷ codes "+00" ∷ []
+abbrev pub is_utc : List ℕ → Bool
+is_utc timezone =
+    bytes_eq timezone (codes "UTC") || bytes_eq timezone (codes "Z") || bytes_eq timezone (codes "Etc/UTC")
+    || bytes_eq timezone (codes "+00:00") || bytes_eq timezone (codes "-00:00") || bytes_eq timezone (codes "+00")
 
 abbrev pub zone_of_column : List ℕ → ColumnZone
-zone_of_column timezone = if length timezone == 0 then Absent else (if list_any (bytes_eq timezone) names_of_utc then Universal else Other)
+zone_of_column timezone = if length timezone == 0 then Absent else (if is_utc timezone then Universal else Other)
 
 -- what the numbers of a column of this type count
 abbrev pub date_column : Kind → Option DateColumn

@@ -1,7 +1,7 @@
 // Columns of dates and times.
 ghost use Rattle.std.specs.Prelude.{◌≡◌};
 ghost use Rattle.arrow_schema.specs.View.{kind_of, time_kind};
-ghost use Rattle.civil_days.specs.Typed.{unit_of, zone_of_column, date_column};
+ghost use Rattle.civil_days.specs.Typed.{unit_of, is_utc, zone_of_column, date_column};
 
 use crate::unit::Unit;
 use arrow_schema::{DataType, DateUnit, TimeUnit};
@@ -42,13 +42,27 @@ fn unit_of(unit: TimeUnit) -> Unit
     }
 }
 
+// Returns whether a time zone is UTC, by one of its names or as an offset of nothing.
+fn is_utc(timezone: &str) -> bool
+    ensures { result ≡ is_utc timezone.now }
+{
+    (timezone == "UTC")
+        | (timezone == "Z")
+        | (timezone == "Etc/UTC")
+        | (timezone == "+00:00")
+        | (timezone == "-00:00")
+        | (timezone == "+00")
+}
+
 fn zone_of(timezone: &str) -> ColumnZone
     ensures { result ≡ zone_of_column timezone.now }
 {
-    match timezone {
-        "" => ColumnZone::Absent,
-        "UTC" | "Z" | "Etc/UTC" | "+00:00" | "-00:00" | "+00" => ColumnZone::Universal,
-        _ => ColumnZone::Other,
+    if timezone.is_empty() {
+        ColumnZone::Absent
+    } else if is_utc(timezone) {
+        ColumnZone::Universal
+    } else {
+        ColumnZone::Other
     }
 }
 
