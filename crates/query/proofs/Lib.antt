@@ -26,4 +26,5 @@ pub mod NullTests
 pub mod SlotTexts
 pub mod ColumnSlots
 pub mod SlotLines
+pub mod ShownRows
 pub mod SetLines

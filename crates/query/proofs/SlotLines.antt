@@ -117,7 +117,7 @@ none_shown shape Numbers k = none_left shape k
 none_shown shape Iso k = none_left shape k
 
 -- what is printed after other texts
-pushed : (out a b one two rest whole : List ℕ) → one ≡ out ++ a → two ≡ one ++ b → whole ≡ a ++ (b ++ rest) → two ++ rest ≡ out ++ whole
+pub pushed : (out a b one two rest whole : List ℕ) → one ≡ out ++ a → two ≡ one ++ b → whole ≡ a ++ (b ++ rest) → two ++ rest ≡ out ++ whole
 pushed out a b one two rest whole first second is =
     ap (λ (t : List ℕ). t ++ rest) (second ∙ ap (λ (t : List ℕ). t ++ b) first)
     ∙ append_assoc (out ++ a) b rest

@@ -13,7 +13,7 @@ ghost use Rattle.query.specs.inner.SlotLines.{closing, rest_of_shape, line_of_ce
 
 use crate::line::{push_array, push_bytes, push_number, push_value};
 use crate::row_form::RowShape;
-use crate::slot_lines::{push_lead, push_opening, push_separator};
+use crate::slot_lines::{push_lead, push_opening};
 use arrow_schema::{DataType, Field};
 use civil_days::{DateColumn, DateForm, date_column_of, texts_need_no_escape};
 use std::alloc::{AllocError, Global};
@@ -183,11 +183,14 @@ fn push_each_item(
     ensures { OnOk result (out.new.items ≡ out.old.items
         ++ json_of_all (each_cell (dated_cell (column_of item.now)) (cells_of (borrowed_cells values.entry)))) }
 {
-    let mut place = 0;
-    while let Some(value) = values.get(place) {
-        push_separator(out, place)?;
+    let mut others = values.iter();
+    let Some(first) = others.next() else {
+        return Ok(());
+    };
+    push_dated(alloc, out, &item.data_type, first)?;
+    for value in others {
+        push_bytes(out, b",")?;
         push_dated(alloc, out, &item.data_type, value)?;
-        place += 1;
     }
     Ok(())
 }

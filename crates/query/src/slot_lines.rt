@@ -33,7 +33,7 @@ fn push_closing(out: &mut Vec<u8>, shape: RowShape) -> Result<(), AllocError>
     }
 }
 
-pub(crate) fn push_separator(out: &mut Vec<u8>, place: usize) -> Result<(), AllocError>
+fn push_separator(out: &mut Vec<u8>, place: usize) -> Result<(), AllocError>
     ensures { OnOk result (out.new.items ≡ out.old.items ++ separator place) }
 {
     if place > 0 {
