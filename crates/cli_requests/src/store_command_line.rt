@@ -263,7 +263,7 @@ fn query_words<'a>(alloc: Global, words: &ArgMatches<'a>) -> Result<QueryWords<'
         conditions: words_of(alloc, words, "CONDITION")?,
         columns: words.get_str("columns"),
         limit: limit_of(words)?,
-        dates: DateForm::Numbers,
+        dates: date_form(words),
     })
 }
 

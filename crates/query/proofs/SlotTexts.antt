@@ -1,10 +1,11 @@
 -- Columns of strings, and what is printed of their slots.
-use Rattle.std.specs.Prelude.{not, nat_lt, ◌==◌, Option, Some, None, string_bytes, codes, IfSome, if◌then◌else◌}
+use Rattle.std.specs.Prelude.{not, nat_lt, ◌==◌, ℤ, Option, Some, None, string_bytes, codes, IfSome, if◌then◌else◌}
 use Rattle.std.proofs.Common.{◌≡◌, ℕ, ◌+◌, ◌*◌, ◌/◌, ◌<◌, ◌≤◌, Bool, true, false, List, [], ◌∷◌, ◌++◌, length, map, refl, sym, ap, subst, ◌∙◌, arith}
 use Rattle.std.proofs.lemmas.Bool.{and_from, le-leb, ltb-false, ne_eqb}
 use Rattle.std.proofs.Math.Nat.{mul-le-mul_right}
 use Rattle.json.specs.Print.{escape}
 use Rattle.arrow_schema.specs.Column.{Kind, Column, column, texts, large_texts}
+use Rattle.arrow_schema.specs.Parts.{kind_of_column}
 use Rattle.arrow_schema.specs.View.{bits_of, column_of, kind_of, pair_of}
 use Rattle.arrow_schema.specs.declared.types.Field.{Field}
 use Rattle.arrow_schema.specs.laws.Parts.{field_parts}
@@ -18,15 +19,16 @@ use Rattle.arrow_schema.specs.declared.types.BitWidth.{BitWidth}
 use Rattle.columns.specs.laws.SoundParts.{sound_validity, sound_buffer}
 use Rattle.query.specs.Line.{json_of}
 use Rattle.civil_days.specs.declared.date_form.DateForm.{DateForm}
-use Rattle.query.specs.Shown.{shown_cell}
+use Rattle.civil_days.specs.declared.date_column.DateColumn.{DateColumn}
+use Rattle.query.specs.Shown.{dated, shown_number, shown_cell}
 use Rattle.query.specs.declared.column_slots.Buffers.TheVariants.{Texts}
 use Rattle.query.specs.declared.column_slots.IntegerBuffers.{IntegerBuffers}
 use Rattle.query.specs.declared.column_slots.TextBuffers.{TextBuffers}
 use Rattle.query.specs.inner.ColumnSlots.{IsTextKind, IsTextColumn, AreIntegers, AreBuffers, IsPlainText}
 use Rattle.query.specs.inner.Contents.{has_contents, span_in}
-use Rattle.query.specs.inner.Slots.{is_valid_in, width_of as integer_width}
+use Rattle.query.specs.inner.Slots.{is_valid_in, number_or_null, date_or_null, width_of as integer_width}
 use Rattle.query.proofs.AnswerWords.{offsets_there}
-use Rattle.query.proofs.Shown.{shown_text}
+use Rattle.query.proofs.Shown.{shown_null, shown_text, shown_of_number}
 
 -- ---- the types
 
@@ -75,7 +77,7 @@ plain_printed form c a b i t are is =
     text_printed form c width a i t are.0 valid own is.plain
 
 -- the number or the null of a slot
-pub number_is : (c : Column) (a : Array) (b : IntegerBuffers) (i : ℕ) (x : Cell) → AreIntegers c a b
+number_is : (c : Column) (a : Array) (b : IntegerBuffers) (i : ℕ) (x : Cell) → AreIntegers c a b
     → x ≡ (if is_valid_in b.validity.now i then number (integer_at (integer_width b.integer) b.integer.signed b.values.now i) else null) → x ≡ cell_at c a i
 number_is c a b i x are is =
     let width = integer_width b.integer in
@@ -83,6 +85,26 @@ number_is c a b i x are is =
     ∙ ap (λ (validity : List ℕ). if is_valid_in validity i then number (integer_at width b.integer.signed b.values.now i) else null) are.1
     ∙ ap (λ (values : List ℕ). if is_valid a i then number (integer_at width b.integer.signed values i) else null) are.2
     ∙ sym (are.0.cells a i)
+
+-- a number or a null as it is printed: as it is, or as a date
+unshown : (form : DateForm) (c : Column) (r : Option ℤ) → dated form (kind_of_column c) ≡ None → shown_cell form c (number_or_null r) ≡ number_or_null r
+unshown form c (Some n) none = shown_of_number form c n ∙ ap (λ (o : Option DateColumn). shown_number o n) none
+unshown form c None none = shown_null form c
+
+shown_date : (form : DateForm) (c : Column) (column : DateColumn) (r : Option ℤ) → dated form (kind_of_column c) ≡ Some column → shown_cell form c (number_or_null r) ≡ date_or_null column r
+shown_date form c column (Some n) some = shown_of_number form c n ∙ ap (λ (o : Option DateColumn). shown_number o n) some
+shown_date form c column None some = shown_null form c
+
+-- what is printed of a slot
+pub integer_printed : (form : DateForm) (c : Column) (a : Array) (b : IntegerBuffers) (i : ℕ) (r : Option ℤ) → AreIntegers c a b → dated form (kind_of_column c) ≡ None
+    → number_or_null r ≡ (if is_valid_in b.validity.now i then number (integer_at (integer_width b.integer) b.integer.signed b.values.now i) else null)
+    → number_or_null r ≡ shown_cell form c (cell_at c a i)
+integer_printed form c a b i r are none is = sym (unshown form c r none) ∙ ap (shown_cell form c) (number_is c a b i (number_or_null r) are is)
+
+pub date_printed : (form : DateForm) (c : Column) (a : Array) (b : IntegerBuffers) (column : DateColumn) (i : ℕ) (r : Option ℤ) → AreIntegers c a b → dated form (kind_of_column c) ≡ Some column
+    → number_or_null r ≡ (if is_valid_in b.validity.now i then number (integer_at (integer_width b.integer) b.integer.signed b.values.now i) else null)
+    → date_or_null column r ≡ shown_cell form c (cell_at c a i)
+date_printed form c a b column i r are some is = sym (shown_date form c column r some) ∙ ap (shown_cell form c) (number_is c a b i (number_or_null r) are is)
 
 -- a bit for a slot, where there is a validity bitmap
 validity_there : (a : Array) (slot : ℕ) → has_short_validity a ≡ false → slot < slots_in a → 0 < length (validity_in a) → slot < 8 * length (validity_in a)

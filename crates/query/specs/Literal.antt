@@ -54,7 +54,8 @@ is_comparable (large_lists item) = false
 is_comparable (fixed_lists size item) = false
 is_comparable (structs parts) = false
 
--- the value of a literal: dates and timestamps are numbers, and a text stands for itself. Whether the column may have the value is not asked
+-- the value of a literal: dates and timestamps are numbers or stand as people write them, and a text stands for itself. Whether the column may have
+-- the value is not asked
 abbrev pub literal_of : DateForm → Kind → List ℕ → Option Cell
 literal_of form nulls = λ t. None
 literal_of form booleans = boolean_in

@@ -1,7 +1,7 @@
 use civil_days::DateForm;
 
 /// The JSON value (RFC 8259) that a row is printed as.
-#[derive(Clone, Copy, Debug, PartialEq, Eq)]
+#[derive(Clone, Copy)]
 pub enum RowShape {
     /// An array of its values.
     Array,
@@ -10,7 +10,7 @@ pub enum RowShape {
 }
 
 /// How a row is printed: as which JSON value, and how dates and timestamps stand in it.
-#[derive(Clone, Copy, Debug)]
+#[derive(Clone, Copy)]
 pub struct RowForm {
     pub shape: RowShape,
     pub dates: DateForm,
