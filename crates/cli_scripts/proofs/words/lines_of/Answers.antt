@@ -2,9 +2,9 @@ use Rattle.std.proofs.Common.{◌∙◌, ℕ, List, ap, sym, arith, Bor}
 use Rattle.std.specs.Global.{Vec}
 use Rattle.std.specs.Vec.{vec_len}
 use Rattle.facts.specs.Texts.{text_list}
-use Rattle.cli_replay.proofs.Lines.{lines_end, lines_whole}
-use Rattle.cli_replay.proofs.script.lines_of.Goals.{then-ends_empty, else-ends_empty}
-use Rattle.cli_replay.proofs.script.lines_of.Goals as goal
+use Rattle.cli_scripts.proofs.Lines.{lines_end, lines_whole}
+use Rattle.cli_scripts.proofs.words.lines_of.Goals.{then-ends_empty, else-ends_empty}
+use Rattle.cli_scripts.proofs.words.lines_of.Goals as goal
 
 pub returns : goal.returns
 returns c =

@@ -1,0 +1,5 @@
+pub mod Cutting
+pub mod Shorter
+pub mod Quoting
+pub mod Reading
+pub mod Lines

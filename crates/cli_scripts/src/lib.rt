@@ -1,0 +1,15 @@
+//! The commands of a script, one on each line.
+//!
+//! ```
+//! let words = script_words(alloc, b"create t a:int32?\nsave t kept \"a >= 1\"\n")?;
+//! let lines = parse_script(alloc, &words)?;
+//! ```
+#![tactic(auto)]
+
+mod line;
+mod script;
+mod words;
+
+pub use line::{SavedRows, ScriptLine, line_of};
+pub use script::{ScriptError, parse_script};
+pub use words::script_words;
