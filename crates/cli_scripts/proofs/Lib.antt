@@ -2,4 +2,5 @@ pub mod Cutting
 pub mod Shorter
 pub mod Quoting
 pub mod Reading
+pub mod Written
 pub mod Lines

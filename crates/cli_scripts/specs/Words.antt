@@ -1,6 +1,6 @@
 -- The words of a line of a script. A single space stands between two of them, so a word may be empty. A word that begins with a quotation mark goes on to
 -- the mark that closes it, and may have spaces; two marks within it are one mark of the word.
-use Rattle.std.specs.Prelude.{◌≡◌, ◌⊎◌, ◌==◌, ℕ, Bool, true, false, List, [], ◌∷◌, length, take, ◌-◌, codes, Option, Some, None, option_map, unwrap_or, slice_get, if◌then◌else◌}
+use Rattle.std.specs.Prelude.{◌≡◌, ◌⊎◌, ◌==◌, ℕ, Bool, true, false, List, [], ◌∷◌, ◌++◌, length, take, ◌-◌, codes, Option, Some, None, option_map, unwrap_or, slice_get, if◌then◌else◌}
 use Rattle.std.specs.List.{slice_split}
 use Rattle.std.specs.Option.{option_and_then}
 use Rattle.std.specs.Str.{is_utf8}
@@ -46,6 +46,25 @@ unfoldable pub AreWords : List ℕ → List (List ℕ) → Type 0
 AreWords line [] = ⊥
 AreWords line (word ∷ []) = word_at line ≡ Some (word, None)
 AreWords line (word ∷ next ∷ words) = (rest : List ℕ) × (word_at line ≡ Some (word, Some rest)) × AreWords rest (next ∷ words)
+
+-- ---- how words are written, so that they are read again
+
+-- each mark of a word twice
+unfoldable pub doubled : List ℕ → List ℕ
+doubled [] = []
+doubled (b ∷ bytes) = if b == 34 then 34 ∷ 34 ∷ doubled bytes else b ∷ doubled bytes
+
+-- a word in quotation marks
+abbrev pub written : List ℕ → List ℕ
+written word = 34 ∷ doubled word ++ 34 ∷ []
+
+-- words in quotation marks, with a single space between two of them
+unfoldable pub written_line : List (List ℕ) → List ℕ
+written_line [] = []
+written_line (word ∷ []) = written word
+written_line (word ∷ next ∷ words) = written word ++ 32 ∷ written_line (next ∷ words)
+
+-- ---- what is read
 
 -- a line has these words, or none
 abbrev pub ReadsWords : List ℕ → Option (List (List ℕ)) → Type 0
