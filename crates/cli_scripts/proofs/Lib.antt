@@ -3,4 +3,5 @@ pub mod Shorter
 pub mod Quoting
 pub mod Reading
 pub mod Written
+pub mod Tests
 pub mod Lines

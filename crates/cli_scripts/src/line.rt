@@ -131,7 +131,7 @@ fn columns_at<'r, 'a>(words: &'r [&'a str]) -> (Option<&'a str>, &'r [&'a str])
     match words {
         [word, columns, more @ ..] => {
             if *word == "--columns" {
-                (Some(columns), more)
+                (Some(*columns), more)
             } else {
                 (None, words)
             }

@@ -57,8 +57,9 @@ fn are_conditions(alloc: Global, texts: &[&str]) -> Result<bool, ScriptError>
     for text in texts {
         match Condition::parse(alloc, text) {
             Ok(_) => {}
+            Err(QueryError::BadCondition) => return Ok(false),
             Err(QueryError::OutOfMemory) => return Err(ScriptError::OutOfMemory),
-            Err(_) => return Ok(false),
+            Err(QueryError::UnknownColumn | QueryError::NotComparable) => unreachable!(),
         }
     }
     Ok(true)
