@@ -1,5 +1,5 @@
 -- Lines and their words, one after another.
-use Rattle.std.proofs.Common.{◌≡◌, ◌==◌, ◌<◌, ◌+◌, ◌-◌, ◌++◌, ◌∙◌, ℕ, Bool, true, false, if◌then◌else◌, length, take, get_or, map, List, [], ◌∷◌, Option, Some, None, option_map, String, refl, sym, ap, subst, arith}
+use Rattle.std.proofs.Common.{◌≡◌, ◌==◌, ◌<◌, ◌+◌, ◌-◌, ◌++◌, ◌∙◌, ℕ, Bool, true, false, if◌then◌else◌, length, take, drop, get_or, map, append_assoc, List, [], ◌∷◌, Option, Some, None, option_map, String, string_bytes, refl, sym, ap, subst, arith}
 use Rattle.std.specs.Borrow.{Bor}
 use Rattle.std.specs.Global.{Global, Vec}
 use Rattle.std.specs.List.{slice_split}
@@ -8,7 +8,7 @@ use Rattle.std.proofs.lemmas.List.{take_more, take-map, get_or-map, length-map, 
 use Rattle.facts.specs.Texts.{text_list}
 use Rattle.cli_scripts.specs.declared.line.ScriptLine.{ScriptLine}
 use Rattle.cli_scripts.specs.Plain.{plain_line, plain_lines, plain_words}
-use Rattle.cli_scripts.specs.Script.{PlainLine, HasLine, ReadsLine, HaveLines}
+use Rattle.cli_scripts.specs.Script.{PlainLine, HasLine, HasNone, ReadsLine, HaveLines, IsBadLine}
 use Rattle.cli_scripts.specs.Words.{lines_of, ends_empty, HasWords, HaveWords}
 
 -- ---- the lines of a script
@@ -65,14 +65,39 @@ lines_more (f ∷ fs) [] words line have is = absurd have
 lines_more (f ∷ fs) (l ∷ ls) words line have is = (have.0, lines_more fs ls words line have.1 is)
 
 -- the command of one more line
-pub line_kept : (all : List (Option (Vec (String Global)))) (i : ℕ) (d : Option (Vec (String Global))) (lines : List ScriptLine) (found : Option ScriptLine) (line : ScriptLine) → i < length all
-    → ReadsLine (plain_words (get_or all i d)) (option_map plain_line found) → found ≡ Some line → HaveLines (take i (map plain_words all)) (plain_lines lines)
+pub line_kept : (all : List (Option (Vec (String Global)))) (i : ℕ) (item : Option (Vec (String Global))) (lines : List ScriptLine) (found : Option ScriptLine) (line : ScriptLine) → i < length all
+    → item ≡ get_or all i item → ReadsLine (plain_words item) (option_map plain_line found) → found ≡ Some line → HaveLines (take i (map plain_words all)) (plain_lines lines)
     → HaveLines (take (i + 1) (map plain_words all)) (plain_lines (lines ++ line ∷ []))
-line_kept all i d lines found line lt read some so_far =
-    let at = get_or-map plain_words all i d None lt in
+line_kept all i item lines found line lt here read some so_far =
+    let at = ap plain_words here ∙ sym (get_or-map plain_words all i item None lt) in
     let among : i < length (map plain_words all) = omega (arith, lt, length-map all plain_words) in
-    let is = subst (λ (o : Option ScriptLine). ReadsLine (plain_words (get_or all i d)) (option_map plain_line o)) some read in
+    let is = subst (λ (o : Option ScriptLine). ReadsLine (plain_words item) (option_map plain_line o)) some read in
     subst (λ (fronts : List (Option (List (List ℕ)))). HaveLines fronts (plain_lines (lines ++ line ∷ []))) (sym (take_more (map plain_words all) i None among))
     (subst (λ (ls : List PlainLine). HaveLines (take i (map plain_words all) ++ get_or (map plain_words all) i None ∷ []) ls) (sym (map-append plain_line lines (line ∷ [])))
     (lines_more (take i (map plain_words all)) (plain_lines lines) (get_or (map plain_words all) i None) (plain_line line) so_far
-    (subst (λ (words : Option (List (List ℕ))). HasLine words (plain_line line)) (sym at) is)))
+    (subst (λ (words : Option (List (List ℕ))). HasLine words (plain_line line)) at is)))
+
+-- the first line without a command
+pub bad_line : (all : List (Option (Vec (String Global)))) (i : ℕ) (item : Option (Vec (String Global))) (lines : List ScriptLine) (number : ℕ) → number ≡ i + 1 → i < length all
+    → item ≡ get_or all i item → HaveLines (take i (map plain_words all)) (plain_lines lines) → HasNone (plain_words item) → IsBadLine (map plain_words all) number
+bad_line all i item lines number counted lt here before none = record {
+  index = i;
+  counted = counted;
+  among = omega (arith, lt, length-map all plain_words);
+  front = plain_lines lines;
+  before = before;
+  bad = subst (λ (words : Option (List (List ℕ))). HasNone words) (ap plain_words here ∙ sym (get_or-map plain_words all i item None lt)) none;
+}
+
+-- the texts of one more word
+pub texts_kept : (words : List (String Global)) (i : ℕ) (item : String Global) (texts longer : List (Bor (List ℕ))) (text : Bor (List ℕ)) → drop i words ≡ item ∷ drop (i + 1) words
+    → text.now ≡ string_bytes item → longer ≡ texts ++ text ∷ [] → text_list texts ++ map string_bytes (drop i words) ≡ map string_bytes words
+    → text_list longer ++ map string_bytes (drop (i + 1) words) ≡ map string_bytes words
+texts_kept words i item texts longer text here is more so_far =
+    let after = map string_bytes (drop (i + 1) words) in
+    ap (λ (ts : List (Bor (List ℕ))). text_list ts ++ after) more
+    ∙ ap (λ (ts : List (List ℕ)). ts ++ after) (map-append (λ (t : Bor (List ℕ)). t.now) texts (text ∷ []))
+    ∙ append_assoc (text_list texts) (text.now ∷ []) after
+    ∙ ap (λ (b : List ℕ). text_list texts ++ b ∷ after) is
+    ∙ ap (λ (ws : List (String Global)). text_list texts ++ map string_bytes ws) (sym here)
+    ∙ so_far

@@ -119,8 +119,8 @@ pub fn parse_script<'a>(
     ensures { AreParsed (map plain_words words.now) (result_map_both (λ lines. plain_lines lines.items) (λ e. e) result) }
 {
     let mut lines = Vec::with_capacity(alloc, words.len())?;
-    for (place, words) in words.iter().enumerate() {
-        match read_line(alloc, words)? {
+    for (place, found) in words.iter().enumerate() {
+        match read_line(alloc, found)? {
             Some(line) => lines.push(line)?,
             None => return Err(ScriptError::BadLine(place as u64 + 1)),
         }

@@ -4,4 +4,4 @@ use Rattle.cli_scripts.specs.Script.{HaveLines}
 use Rattle.cli_scripts.proofs.script.parse_script.Given as goal
 
 abbrev pub invariant-loop-place : goal.invariant-loop-place
-invariant-loop-place l = HaveLines (take l.place (map plain_words l.fn.words)) (plain_lines l.lines.items)
+invariant-loop-place l = HaveLines (take l.place (map plain_words l.words)) (plain_lines l.lines.items)
