@@ -10,4 +10,4 @@ loop-text-preserved c =
 
 pub returns-in-Err-BadCondition-clause-tested : goal.returns-in-Err-BadCondition-clause-tested
 returns-in-Err-BadCondition-clause-tested c =
-    condition_refused c.args.texts.now c.loop-text.text-index _ (are_conditions (text_list c.args.texts.now)) c.loop-text-test.true c.in-Err-BadCondition.ensures.refused c.loop-text.invariant
+    condition_refused c.args.texts.now c.loop-text.text-index _ (are_conditions (text_list c.args.texts.now)) c.loop-text-test.true (rw c.in-Err-BadCondition.field-0-is at c.in-Err-BadCondition.ensures.refused) c.loop-text.invariant
