@@ -12,7 +12,7 @@ loop-part-smaller c = shorter_by_marks c.loop-part.rest.now c.in-Some.part.now c
 pub loop-part-preserved : goal.loop-part-preserved
 loop-part-preserved c = record {
   so_far =
-      goes_on c.args.text.now (string_bytes c.loop-part.word) c.loop-part.rest.now c.loop-part.invariant.so_far (string_bytes c.push_str-2.new.self) c.in-Some.part.now c.in-Some.after.now
+      goes_on c.args.text.now (string_bytes c.loop-part.word) c.loop-part.rest.now c.loop-part.invariant.so_far (string_bytes c.push_str-in-Some-strip.new.self) c.in-Some.part.now c.in-Some.after.now
       c.in-Some-strip.more.now c.in-Some.ensures c.in-Some-strip.ensures
       (c.in_ok-push_str-in-Some-strip.ensures.bytes ∙ ap (λ (bs : List ℕ). bs ++ 34 ∷ []) c.in_ok-push_str.ensures.bytes);
   utf8 = search rules;
