@@ -2,6 +2,7 @@
 namespaces of the caller's own and ends with them."""
 import glob
 import os
+import re
 import shutil
 import signal
 import subprocess
@@ -157,9 +158,9 @@ class Gluster:
             self.wait_for(mount)
 
     def wait_for(self, mount):
-        """Until a mount has a connection to each brick."""
-        told = [os.path.join(mount.path, f".meta/graphs/active/{VOLUME}-client-{place}/private") for place in range(len(self.bricks))]
-        wait_until("connections of a mount to its bricks", lambda: all(map(is_connected, told)))
+        """Until a mount uses each brick. It says so in a file of its own."""
+        told = os.path.join(mount.path, f".meta/graphs/active/{VOLUME}-replicate-0/private")
+        wait_until("a mount that uses each brick", lambda: len(re.findall(rb"(?m)^child_up.* = 1$", told_of(told))) == len(self.bricks))
 
     def wait_for_copies(self, name):
         """Until each brick has the same bytes of a file."""
@@ -208,17 +209,19 @@ def content(path):
         return file.read()
 
 
-def is_connected(path):
-    """Whether the mount says so in this file of its own, which it does not show while it has too few bricks."""
+def told_of(path):
+    """What a mount says of itself; nothing while it has too few bricks."""
     try:
-        return b"connected = 1" in content(path)
+        return content(path)
     except OSError:
-        return False
+        return b""
 
 
-def apart(words):
-    """Runs a script where all mounts, all processes and the network end with it, however it ends. Gives its status, and what it wrote."""
-    done = subprocess.run([*APART, *FIRST, sys.executable, *words], stdout=subprocess.PIPE, stdin=subprocess.DEVNULL, text=True, check=False)
+def apart(words, folder):
+    """Runs a script where all mounts, all processes and the network end with it, however it ends; what it makes is in this folder. Gives its status, and what it
+    wrote."""
+    command = [*APART, *FIRST, sys.executable, *words]
+    done = subprocess.run(command, stdout=subprocess.PIPE, stdin=subprocess.DEVNULL, env={**os.environ, "TMPDIR": folder}, text=True, check=False)
     return done.returncode, done.stdout
 
 
