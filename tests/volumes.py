@@ -209,6 +209,12 @@ def content(path):
         return file.read()
 
 
+def put(path):
+    """An empty file."""
+    with open(path, "wb"):
+        pass
+
+
 def told_of(path):
     """What a mount says of itself; nothing while it has too few bricks."""
     try:
