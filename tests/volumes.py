@@ -60,7 +60,8 @@ class Mount:
             sys.exit(f"{' '.join(words)}: status {self.running.returncode}")
 
     def end(self):
-        quiet("umount", self.path)
+        """It may be in use for a moment after a process in it has ended."""
+        wait_until(f"the end of the mount {self.path}", lambda: subprocess.run(["umount", self.path], stderr=subprocess.DEVNULL, check=False).returncode == 0)
         self.running.wait(timeout=PATIENCE)
 
     def lose(self):
@@ -224,16 +225,16 @@ def told_of(path):
 
 
 def apart(words, folder):
-    """Runs a script where all mounts, all processes and the network end with it, however it ends; what it makes is in this folder. Gives its status, and what it
-    wrote."""
+    """Runs a script where all mounts, all processes and the network end with it, however it ends; what it makes is in this folder. Gives its status, and
+    what it wrote."""
     command = [*APART, *FIRST, sys.executable, *words]
     done = subprocess.run(command, stdout=subprocess.PIPE, stdin=subprocess.DEVNULL, env={**os.environ, "TMPDIR": folder}, text=True, check=False)
     return done.returncode, done.stdout
 
 
-def lacks_for_gluster():
+def lacks_for_volumes():
     """What a volume needs and is not there, in words; nothing if all is."""
-    return lacks("ip", "nsenter", "glusterd", "gluster", "glusterfs", GROUPS) or lacks_of_network()
+    return lacks("ip", "nsenter", "glusterd", "gluster", "glusterfs", GROUPS) or lacks_of_system()
 
 
 def lacks_for_disks():
@@ -247,10 +248,19 @@ def lacks(*names):
         is_there = os.path.exists(name) if name.startswith("/") else shutil.which(name, path=f"{os.environ.get('PATH', '')}:/usr/sbin:/sbin")
         if not is_there:
             return name
+    return None if works("true") else "namespace of its own"
+
+
+def lacks_of_system():
+    if not works("ip", "link", "add", "cable", "type", "veth", "peer", "name", "end"):
+        return "cable between two networks (veth)"
+    if not works(sys.executable, "-c", "import os; os.setxattr(os.environ['AT'], 'trusted.brick', b'1')", AT="/run", first="mount -t tmpfs bricks /run"):
+        return "tmpfs with attributes (trusted.*)"
     return None
 
 
-def lacks_of_network():
-    made = subprocess.run([*APART, "ip", "link", "add", "cable", "type", "veth", "peer", "name", "end"], stdin=subprocess.DEVNULL,
-                          stdout=subprocess.DEVNULL, stderr=subprocess.DEVNULL, check=False)
-    return "network of its own" if made.returncode else None
+def works(*words, first="true", **extra):
+    """Whether a command succeeds in namespaces of its own, after another one."""
+    script = ["sh", "-c", f'{first} && "$@"', "sh"]
+    return subprocess.run([*APART, *script, *words], stdin=subprocess.DEVNULL, stdout=subprocess.DEVNULL, stderr=subprocess.DEVNULL,
+                          env={**os.environ, **extra}, check=False).returncode == 0
