@@ -11,6 +11,7 @@ use crate::files::named_input;
 use cli_commands::{drop_table, new_table, query_of, rename_table};
 use cli_refusals::Refusal;
 use cli_scripts::{SavedRows, ScriptLine};
+use query::DateForm;
 use std::alloc::{AllocError, Global};
 use std::fs::OpenFile;
 use std::io::Read;
@@ -32,7 +33,13 @@ fn create(alloc: Global, name: &str, fields: &[&str]) -> Result<Command, AllocEr
 fn save(alloc: Global, from: &str, to: &str, rows: &SavedRows<'_>) -> Result<Command, AllocError>
     ensures { IfOk result (λ c. SavesRows from.now to.now (plain_rows rows.now) (command_of c)) }
 {
-    let Ok(query) = query_of(alloc, &rows.conditions, rows.columns, None) else {
+    let Ok(query) = query_of(
+        alloc,
+        &rows.conditions,
+        rows.columns,
+        None,
+        DateForm::Numbers,
+    ) else {
         return Err(AllocError);
     };
     Ok(Command::SaveAs {
