@@ -37,6 +37,7 @@ use Rattle.cli_commands.specs.Changing.{StateSchema}
 use Rattle.civil_days.specs.declared.date_form.DateForm.TheVariants.{Numbers}
 use Rattle.cli_commands.specs.Selecting.{stated_query}
 use Rattle.query.specs.Query.{PlainQuery}
+use Rattle.civil_days.specs.declared.date_form.DateForm.TheVariants.{Numbers}
 use Rattle.cli_scripts.specs.declared.script.ScriptError.TheVariants.{BadLine}
 use Rattle.std.specs.Io.KnownBytes.{Appends}
 use Rattle.cli_scripts.specs.Script.{IsScript, PlainLine, PlainRows, create, import_file, append_file, save, rename, drop, compact, upgrade, reopen}

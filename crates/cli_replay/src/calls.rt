@@ -12,6 +12,7 @@ use civil_days::DateForm;
 use cli_commands::{drop_table, new_table, query_of, rename_table};
 use cli_refusals::Refusal;
 use cli_scripts::{SavedRows, ScriptLine};
+use query::DateForm;
 use std::alloc::{AllocError, Global};
 use std::fs::OpenFile;
 use std::io::Read;
