@@ -34,6 +34,7 @@ use Rattle.cli_refusals.specs.declared.refusal.Refusal.TheVariants.{TooManyBytes
 use Rattle.cli_refusals.specs.declared.refusal.Side.TheVariants.{File, Output}
 use Rattle.cli_commands.specs.declared.input.TheConstants.{LARGEST_INPUT}
 use Rattle.cli_commands.specs.Changing.{StateSchema}
+use Rattle.civil_days.specs.declared.date_form.DateForm.TheVariants.{Numbers}
 use Rattle.cli_commands.specs.Selecting.{stated_query}
 use Rattle.query.specs.Query.{PlainQuery}
 use Rattle.cli_scripts.specs.declared.script.ScriptError.TheVariants.{BadLine}
@@ -53,7 +54,7 @@ IsFrontOfFile {F} remaining bytes = (file : F) × IfSome (remaining file) (λ al
 
 -- the command saves the rows that these texts select
 abbrev pub SavesRows : (from to : List ℕ) → PlainRows → PlainCommand → Type 0
-SavesRows from to rows command = (query : PlainQuery) × (stated_query rows.conditions rows.columns None ≡ Some query) × (command ≡ commands.save_as from to query)
+SavesRows from to rows command = (query : PlainQuery) × (stated_query rows.conditions rows.columns None Numbers ≡ Some query) × (command ≡ commands.save_as from to query)
 
 -- the call of a line
 abbrev pub IsCallOfLine : {F R : Type 0} → (remaining : F → Option (List ℕ)) → PlainLine → Call R → Type 0

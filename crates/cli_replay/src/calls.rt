@@ -8,6 +8,7 @@ ghost use Rattle.cli_scripts.specs.Plain.{plain_line, plain_lines, plain_rows};
 ghost use Rattle.cli_replay.specs.Replay.{IsCallOfLine, AreCallsOfLines, IsOfReading, SavesRows};
 
 use crate::files::named_input;
+use civil_days::DateForm;
 use cli_commands::{drop_table, new_table, query_of, rename_table};
 use cli_refusals::Refusal;
 use cli_scripts::{SavedRows, ScriptLine};
@@ -32,7 +33,13 @@ fn create(alloc: Global, name: &str, fields: &[&str]) -> Result<Command, AllocEr
 fn save(alloc: Global, from: &str, to: &str, rows: &SavedRows<'_>) -> Result<Command, AllocError>
     ensures { IfOk result (λ c. SavesRows from.now to.now (plain_rows rows.now) (command_of c)) }
 {
-    let Ok(query) = query_of(alloc, &rows.conditions, rows.columns, None) else {
+    let Ok(query) = query_of(
+        alloc,
+        &rows.conditions,
+        rows.columns,
+        None,
+        DateForm::Numbers,
+    ) else {
         return Err(AllocError);
     };
     Ok(Command::SaveAs {

@@ -14,7 +14,7 @@ use Rattle.query.specs.Shown.{dated_cell, dated_value, dated_cells}
 use Rattle.query.specs.declared.row_form.RowShape.{RowShape}
 use Rattle.query.specs.declared.row_form.RowShape.TheVariants as shapes
 use Rattle.query.specs.inner.SlotLines.{lead, rest_of_shape}
-use Rattle.query.proofs.Shown.{dated_field}
+use Rattle.query.proofs.ShownCells.{dated_field}
 use Rattle.query.proofs.SlotLines.{led, pushed}
 
 -- ---- the elements of a list from a place on

@@ -1,5 +1,5 @@
 // Prints values with dates and timestamps as people write them, in lists and structs too.
-ghost use Rattle.std.specs.Prelude.{◌≡◌, ◌++◌, OnOk, Some, codes, map, option_map};
+ghost use Rattle.std.specs.Prelude.{◌≡◌, ◌++◌, OnOk, Some, codes, map, option_map, true};
 ghost use Rattle.arrow_schema.specs.View.{kind_of, column_of};
 ghost use Rattle.cells.specs.Cell.{items, parts, cells_of};
 ghost use Rattle.cells.specs.Fit.{in_range};
