@@ -97,8 +97,8 @@ second z =
     let d = int_div_euclid z (pos 86_400) in
     let s = unsigned_abs (int_rem_euclid z (pos 86_400)) in
     let less : s < 86_400 = omega (arith, signed_arith) in
-    let timed : Between (84 ∷ clock_text s) = ((omega arith, omega arith), clock s less) in
-    joined (text_of_day d) (84 ∷ clock_text s) (day d) timed
+    let letter : Between (84 ∷ []) = ((omega arith, omega arith), tt) in
+    joined (text_of_day d ++ 84 ∷ []) (clock_text s) (joined (text_of_day d) (84 ∷ []) (day d) letter) (clock s less)
 
 zone : (zoned : Bool) → Between (if zoned then codes "Z" else [])
 zone true = ((omega arith, omega arith), tt)
@@ -108,8 +108,8 @@ time : (places : ℕ) (zoned : Bool) (v : ℤ) → Between (time_text places zon
 time places zoned v =
     let s = int_div_euclid v (pos (10 ^ places)) in
     let f = unsigned_abs (int_rem_euclid v (pos (10 ^ places))) in
-    let ends = joined (fraction_text places f) (if zoned then codes "Z" else []) (fraction places f) (zone zoned) in
-    joined (second_text s) (fraction_text places f ++ (if zoned then codes "Z" else [])) (second s) ends
+    let begins = joined (second_text s) (fraction_text places f) (second s) (fraction places f) in
+    joined (second_text s ++ fraction_text places f) (if zoned then codes "Z" else []) begins (zone zoned)
 
 pub shown_between : (column : DateColumn) (n : ℤ) → AllByRecursion (IsInRange 43 90) (shown_in column n)
 shown_between Days n = day n

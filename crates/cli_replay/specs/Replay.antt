@@ -34,6 +34,7 @@ use Rattle.cli_refusals.specs.declared.refusal.Refusal.TheVariants.{TooManyBytes
 use Rattle.cli_refusals.specs.declared.refusal.Side.TheVariants.{File, Output}
 use Rattle.cli_commands.specs.declared.input.TheConstants.{LARGEST_INPUT}
 use Rattle.cli_commands.specs.Changing.{StateSchema}
+use Rattle.civil_days.specs.declared.date_form.DateForm.TheVariants.{Numbers}
 use Rattle.cli_commands.specs.Selecting.{stated_query}
 use Rattle.query.specs.Query.{PlainQuery}
 use Rattle.civil_days.specs.declared.date_form.DateForm.TheVariants.{Numbers}

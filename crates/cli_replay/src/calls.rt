@@ -8,6 +8,7 @@ ghost use Rattle.cli_scripts.specs.Plain.{plain_line, plain_lines, plain_rows};
 ghost use Rattle.cli_replay.specs.Replay.{IsCallOfLine, AreCallsOfLines, IsOfReading, SavesRows};
 
 use crate::files::named_input;
+use civil_days::DateForm;
 use cli_commands::{drop_table, new_table, query_of, rename_table};
 use cli_refusals::Refusal;
 use cli_scripts::{SavedRows, ScriptLine};

@@ -20,7 +20,7 @@ pub mod Masked
 pub mod BlockFlags
 pub mod IntegerTests
 pub mod ContentsTests
-pub mod Shown
+pub mod ShownCells
 pub mod AnswerWords
 pub mod NullTests
 pub mod SlotTexts

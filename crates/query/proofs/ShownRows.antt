@@ -1,20 +1,19 @@
 -- Rows and lists with dates as texts, value by value.
 use Rattle.std.specs.Prelude.{slice_get, Option, Some, None, option_map}
-use Rattle.std.proofs.Common.{◌≡◌, ℕ, zero, suc, ◌+◌, ◌≤◌, List, [], ◌∷◌, ◌++◌, map, drop, refl, sym, ap, subst, ◌∙◌, arith}
+use Rattle.std.proofs.Common.{◌≡◌, ℕ, zero, suc, ◌+◌, ◌≤◌, List, [], ◌∷◌, ◌++◌, map, drop, refl, sym, ap, ◌∙◌, append_assoc, arith}
 use Rattle.std.proofs.lemmas.List.{append-nil}
 use Rattle.arrow_schema.specs.Column.{Column, columns_of}
-use Rattle.arrow_schema.specs.View.{column_of, kind_of}
-use Rattle.arrow_schema.specs.declared.types.Field.{Field, out-Field}
+use Rattle.arrow_schema.specs.View.{column_of}
+use Rattle.arrow_schema.specs.declared.types.Field.{Field}
 use Rattle.cells.specs.Cell.{Cell, Cells, no_cell, cells_of}
 use Rattle.columns.specs.View.{fields_of}
 use Rattle.columns.specs.laws.Nodes.{nodes, nodes_all}
 use Rattle.query.specs.Line.{json_of, json_of_all, json_of_others}
 use Rattle.query.specs.ObjectLine.{members, other_members}
-use Rattle.query.specs.Shown.{dated_cell, dated_value, dated_cells}
+use Rattle.query.specs.Shown.{dated_cell, dated_cells}
 use Rattle.query.specs.declared.row_form.RowShape.{RowShape}
 use Rattle.query.specs.declared.row_form.RowShape.TheVariants as shapes
 use Rattle.query.specs.inner.SlotLines.{lead, rest_of_shape}
-use Rattle.query.proofs.Shown.{dated_field}
 use Rattle.query.proofs.SlotLines.{led, pushed}
 
 -- ---- the elements of a list from a place on
@@ -42,7 +41,7 @@ nodes_there (y ∷ ys) (suc i) x e = omega (arith, nodes_there ys i x e)
 
 -- one value more
 pub part_next : (shape : RowShape) (k : ℕ) (f : Field) (fs : List Field) (x : Cell) (xs : List Cell) (out one two whole : List ℕ)
-    → one ≡ out ++ lead shape k (column_of f) → two ≡ one ++ json_of (dated_value (kind_of (out-Field f).data_type) x)
+    → one ≡ out ++ lead shape k (column_of f) → two ≡ one ++ json_of (dated_cell (column_of f) x)
     → out ++ rest_of_shape shape k (map column_of (f ∷ fs)) (dated_cells (fields_of (f ∷ fs)) (cells_of (x ∷ xs))) ≡ whole
     → two ++ rest_of_shape shape (k + 1) (map column_of fs) (dated_cells (fields_of fs) (cells_of xs)) ≡ whole
 unfolding dated_cells
@@ -50,8 +49,7 @@ part_next shape k f fs x xs out one two whole first second h =
     let c = column_of f in
     let y = dated_cell c x in
     let rest = dated_cells (fields_of fs) (cells_of xs) in
-    let added : two ≡ one ++ json_of y = second ∙ ap (λ (z : Cell). one ++ json_of z) (sym (dated_field f x)) in
-    pushed out (lead shape k c) (json_of y) one two (rest_of_shape shape (k + 1) (map column_of fs) rest) _ first added (led shape k c (map column_of fs) y rest) ∙ h
+    pushed out (lead shape k c) (json_of y) one two (rest_of_shape shape (k + 1) (map column_of fs) rest) _ first second (led shape k c (map column_of fs) y rest) ∙ h
 
 none_there : (shape : RowShape) (k : ℕ) (cs : List Column) → rest_of_shape shape k cs no_cell ≡ []
 unfolding json_of_all json_of_others members other_members
@@ -89,3 +87,7 @@ fields_done shape k fs xs out whole none h =
     ∙ ap (rest_of_shape shape k []) (no_fields (cells_of xs))
     ∙ none_there shape k [] in
     sym (append-nil out) ∙ ap (λ (t : List ℕ). out ++ t) (sym rest) ∙ h
+
+-- two texts more
+pub two_more : (out rest a b one two : List ℕ) → one ≡ out ++ a → two ≡ one ++ b → two ++ rest ≡ out ++ ((a ++ b) ++ rest)
+two_more out rest a b one two first second = rw (second, first) (ap (λ (xs : List ℕ). xs ++ rest) (append_assoc out a b) ∙ append_assoc out (a ++ b) rest)

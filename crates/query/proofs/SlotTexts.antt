@@ -28,7 +28,7 @@ use Rattle.query.specs.inner.ColumnSlots.{IsTextKind, IsTextColumn, AreIntegers,
 use Rattle.query.specs.inner.Contents.{has_contents, span_in}
 use Rattle.query.specs.inner.Slots.{is_valid_in, number_or_null, date_or_null, width_of as integer_width}
 use Rattle.query.proofs.AnswerWords.{offsets_there}
-use Rattle.query.proofs.Shown.{shown_null, shown_text, shown_of_number}
+use Rattle.query.proofs.ShownCells.{shown_null, shown_text, shown_of_number}
 
 -- ---- the types
 
@@ -91,9 +91,9 @@ unshown : (form : DateForm) (c : Column) (r : Option ℤ) → dated form (kind_o
 unshown form c (Some n) none = shown_of_number form c n ∙ ap (λ (o : Option DateColumn). shown_number o n) none
 unshown form c None none = shown_null form c
 
-shown_date : (form : DateForm) (c : Column) (column : DateColumn) (r : Option ℤ) → dated form (kind_of_column c) ≡ Some column → shown_cell form c (number_or_null r) ≡ date_or_null column r
-shown_date form c column (Some n) some = shown_of_number form c n ∙ ap (λ (o : Option DateColumn). shown_number o n) some
-shown_date form c column None some = shown_null form c
+shown_date : (form : DateForm) (c : Column) (date : DateColumn) (r : Option ℤ) → dated form (kind_of_column c) ≡ Some date → shown_cell form c (number_or_null r) ≡ date_or_null date r
+shown_date form c date (Some n) some = shown_of_number form c n ∙ ap (λ (o : Option DateColumn). shown_number o n) some
+shown_date form c date None some = shown_null form c
 
 -- what is printed of a slot
 pub integer_printed : (form : DateForm) (c : Column) (a : Array) (b : IntegerBuffers) (i : ℕ) (r : Option ℤ) → AreIntegers c a b → dated form (kind_of_column c) ≡ None
@@ -101,10 +101,10 @@ pub integer_printed : (form : DateForm) (c : Column) (a : Array) (b : IntegerBuf
     → number_or_null r ≡ shown_cell form c (cell_at c a i)
 integer_printed form c a b i r are none is = sym (unshown form c r none) ∙ ap (shown_cell form c) (number_is c a b i (number_or_null r) are is)
 
-pub date_printed : (form : DateForm) (c : Column) (a : Array) (b : IntegerBuffers) (column : DateColumn) (i : ℕ) (r : Option ℤ) → AreIntegers c a b → dated form (kind_of_column c) ≡ Some column
+pub date_printed : (form : DateForm) (c : Column) (a : Array) (b : IntegerBuffers) (date : DateColumn) (i : ℕ) (r : Option ℤ) → AreIntegers c a b → dated form (kind_of_column c) ≡ Some date
     → number_or_null r ≡ (if is_valid_in b.validity.now i then number (integer_at (integer_width b.integer) b.integer.signed b.values.now i) else null)
-    → date_or_null column r ≡ shown_cell form c (cell_at c a i)
-date_printed form c a b column i r are some is = sym (shown_date form c column r some) ∙ ap (shown_cell form c) (number_is c a b i (number_or_null r) are is)
+    → date_or_null date r ≡ shown_cell form c (cell_at c a i)
+date_printed form c a b date i r are some is = sym (shown_date form c date r some) ∙ ap (shown_cell form c) (number_is c a b i (number_or_null r) are is)
 
 -- a bit for a slot, where there is a validity bitmap
 validity_there : (a : Array) (slot : ℕ) → has_short_validity a ≡ false → slot < slots_in a → 0 < length (validity_in a) → slot < 8 * length (validity_in a)

@@ -1,5 +1,5 @@
 -- Cells as they are printed: a date or a timestamp is a number, or its text where dates stand as people write them.
-use Rattle.std.specs.Prelude.{ℤ, List, Option, None, Some, if◌then◌else◌}
+use Rattle.std.specs.Prelude.{ℤ, true, List, Option, None, Some, if◌then◌else◌}
 use Rattle.arrow_schema.specs.Column.{Kind, Column, Columns, nulls, booleans, integers, dates, timestamps, texts, large_texts, binaries, large_binaries, fixed_binaries, lists, large_lists, fixed_lists, structs, column, no_column, and_column, columns_of}
 use Rattle.cells.specs.Cell.{Cell, Cells, null, boolean, number, text, bytes, items, parts, no_cell, and_cell, cells_of, cell_list}
 use Rattle.cells.specs.Fit.{in_range}
@@ -16,7 +16,7 @@ dated Iso kind = date_column kind
 -- a number of such a type. No date has more than 64 bits
 abbrev pub shown_number : Option DateColumn → ℤ → Cell
 shown_number None n = number n
-shown_number (Some column) n = if in_range 64 true n then text (shown_in column n) else number n
+shown_number (Some date) n = if in_range 64 true n then text (shown_in date n) else number n
 
 -- what stands in a cell of one form, changed
 abbrev pub on_number : (ℤ → Cell) → Cell → Cell

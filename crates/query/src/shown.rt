@@ -1,5 +1,5 @@
 // Prints values with dates and timestamps as people write them, in lists and structs too.
-ghost use Rattle.std.specs.Prelude.{◌≡◌, ◌++◌, OnOk, Some, codes, map, option_map};
+ghost use Rattle.std.specs.Prelude.{◌≡◌, ◌++◌, OnOk, Some, codes, map, option_map, true};
 ghost use Rattle.arrow_schema.specs.View.{kind_of, column_of};
 ghost use Rattle.cells.specs.Cell.{items, parts, cells_of};
 ghost use Rattle.cells.specs.Fit.{in_range};
@@ -103,6 +103,19 @@ fn push_end(out: &mut Vec<u8>, shape: RowShape) -> Result<(), AllocError>
     }
 }
 
+// Appends a value of a field.
+#[cycle(dated)]
+fn push_dated_field(
+    alloc: Global,
+    out: &mut Vec<u8>,
+    field: &Field,
+    value: ValueRef<'_>,
+) -> Result<(), AllocError>
+    ensures { OnOk result (out.new.items ≡ out.old.items ++ json_of (dated_cell (column_of field.now) (borrowed_cell value.entry))) }
+{
+    push_dated(alloc, out, &field.data_type, value)
+}
+
 // Appends a value of a type.
 #[cycle(dated)]
 fn push_dated(
@@ -173,6 +186,7 @@ fn push_dated_items(
 }
 
 // Appends the items of a list, with a comma between two.
+#[tactic(auto, unfolding(crate::specs::Line::json_of_all))]
 #[cycle(dated)]
 fn push_each_item(
     alloc: Global,
@@ -187,10 +201,10 @@ fn push_each_item(
     let Some(first) = others.next() else {
         return Ok(());
     };
-    push_dated(alloc, out, &item.data_type, first)?;
+    push_dated_field(alloc, out, item, first)?;
     for value in others {
         push_bytes(out, b",")?;
-        push_dated(alloc, out, &item.data_type, value)?;
+        push_dated_field(alloc, out, item, value)?;
     }
     Ok(())
 }
@@ -230,7 +244,7 @@ fn push_each_part(
         };
         let field = &fields[place];
         push_lead(alloc, out, shape, place, field)?;
-        push_dated(alloc, out, &field.data_type, value)?;
+        push_dated_field(alloc, out, field, value)?;
     }
     Ok(())
 }
@@ -247,6 +261,6 @@ pub(crate) fn push_shown(
 {
     match dates {
         DateForm::Numbers => push_value(alloc, out, value),
-        DateForm::Iso => push_dated(alloc, out, &field.data_type, value),
+        DateForm::Iso => push_dated_field(alloc, out, field, value),
     }
 }

@@ -12,6 +12,9 @@ use Rattle.query.proofs.shown.+dated.Given as goal
 abbrev pub decreases-push_dated : goal.decreases-push_dated
 decreases-push_dated l = 5 * nodes (borrowed_cell l.value)
 
+abbrev pub decreases-push_dated_field : goal.decreases-push_dated_field
+decreases-push_dated_field l = 5 * nodes (borrowed_cell l.value) + 1
+
 abbrev pub decreases-push_dated_list : goal.decreases-push_dated_list
 decreases-push_dated_list l = 5 * nodes_all (cells_of (borrowed_cells l.values)) + 4
 

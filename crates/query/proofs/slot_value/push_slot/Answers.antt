@@ -17,13 +17,13 @@ number-requires-clause-long c =
     let are = rw c.in-Integers.is at c.requires.buffers in
     integer_bytes (column_of c.args.column.now.field.now) (view_array c.args.column.now.view) c.in-Integers.buffers c.args.slot are.0 c.requires.sound c.requires.within
 
-pub number-in-Dates-requires-clause-valid : goal.number-in-Dates-requires-clause-valid
-number-in-Dates-requires-clause-valid c =
+pub number-requires-in-Dates-clause-valid : goal.number-requires-in-Dates-clause-valid
+number-requires-in-Dates-clause-valid c =
     let are = rw c.in-Dates.is at c.requires.buffers in
     integer_bit (column_of c.args.column.now.field.now) (view_array c.args.column.now.view) c.in-Dates.buffers c.args.slot are.0 c.requires.sound c.requires.within
 
-pub number-in-Dates-requires-clause-long : goal.number-in-Dates-requires-clause-long
-number-in-Dates-requires-clause-long c =
+pub number-requires-in-Dates-clause-long : goal.number-requires-in-Dates-clause-long
+number-requires-in-Dates-clause-long c =
     let are = rw c.in-Dates.is at c.requires.buffers in
     integer_bytes (column_of c.args.column.now.field.now) (view_array c.args.column.now.view) c.in-Dates.buffers c.args.slot are.0 c.requires.sound c.requires.within
 

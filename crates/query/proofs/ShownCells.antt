@@ -1,8 +1,14 @@
 -- Cells as they are printed, by their form and by the type of their column.
-use Rattle.std.specs.Prelude.{ℤ, Option, None, Some}
-use Rattle.std.proofs.Common.{◌≡◌, ℕ, Bool, List, [], ◌∷◌, ◌++◌, refl, ap, ◌∙◌, arith}
+use mir.Syntax.{w64}
+use mir.Val.{to_z, of_z}
+use Rattle.std.specs.Prelude.{ℤ, pos, negsuc, neg_ℤ, int_le, int_lt, nat_le, nat_lt, Option, None, Some}
+use Rattle.std.proofs.Common.{◌≡◌, ℕ, Bool, List, [], ◌∷◌, ◌++◌, ◌-◌, ◌^◌, ◌<◌, ◌≤◌, true, refl, sym, ap, ◌∙◌, arith}
 use Rattle.std.specs.Int.{IsInRange}
 use Rattle.std.specs.List.{AllByRecursion}
+use Rattle.std.proofs.lemmas.Bool.{and_parts, leb-true}
+use Rattle.std.proofs.lemmas.Bool.Decides.{nat_tests}
+use Rattle.std.proofs.lemmas.Int.{ints}
+use Rattle.cells.specs.Fit.{in_range}
 use Rattle.json.specs.Print.{escape}
 use Rattle.json.proofs.Printed.Strings.{escape_byte_plain}
 use Rattle.arrow_schema.specs.Column.{Kind, Column, Columns, nulls, booleans, integers, dates, timestamps, texts, large_texts, binaries, large_binaries, fixed_binaries, lists, large_lists, fixed_lists, structs, column}
@@ -23,6 +29,19 @@ escape_between [] h = refl
 escape_between (x ∷ xs) h =
     let rest = escape_between xs h.1 in
     λ i. escape_byte_plain x (λ e. omega (arith, e, h.0)) (λ e. omega (arith, e, h.0)) (omega (arith, h.0)) i ++ rest i
+
+-- a number of 64 bits is the same in 64 bits
+pub in_64_bits : (n : ℤ) → in_range 64 true n ≡ true → to_z w64 (of_z w64 n) ≡ n
+in_64_bits (pos k) h =
+    let both = and_parts (int_le (neg_ℤ (pos (2 ^ 63))) (pos k)) (int_lt (pos k) (pos (2 ^ 63))) h in
+    let test : nat_lt k (2 ^ 63) ≡ true = both.1 in
+    let small : k < 2 ^ 63 = grind (arith, nat_tests) in
+    omega (arith, ints, small)
+in_64_bits (negsuc k) h =
+    let both = and_parts (int_le (neg_ℤ (pos (2 ^ 63))) (negsuc k)) (int_lt (negsuc k) (pos (2 ^ 63))) h in
+    let test : nat_le k (2 ^ 63 - 1) ≡ true = both.0 in
+    let small : k ≤ 2 ^ 63 - 1 = leb-true _ _ test in
+    omega (arith, ints, small)
 
 -- ---- a cell of each form
 
@@ -152,6 +171,23 @@ dated_parts (lists item) cs = refl
 dated_parts (large_lists item) cs = refl
 dated_parts (fixed_lists size item) cs = refl
 dated_parts (structs columns) cs = refl
+
+-- a cell that stays as it is
+pub unchanged : (kind : Kind) (x y : Cell) → x ≡ y → dated_value kind y ≡ y → dated_value kind x ≡ x
+unchanged kind x y e h = ap (dated_value kind) e ∙ h ∙ sym e
+
+-- lists and structs, and other types
+pub list_dated : (kind : Kind) (cs : Cells) (item : Column) → Some item ≡ item_of kind → dated_value kind (items cs) ≡ items (each_cell (dated_cell item) cs)
+list_dated kind cs item e = dated_items kind cs ∙ ap (λ (o : Option Column). items (items_by o cs)) (sym e)
+
+pub list_plain : (kind : Kind) (cs : Cells) → None ≡ item_of kind → dated_value kind (items cs) ≡ items cs
+list_plain kind cs e = dated_items kind cs ∙ ap (λ (o : Option Column). items (items_by o cs)) (sym e)
+
+pub struct_dated : (kind : Kind) (cs : Cells) (columns : Columns) → Some columns ≡ parts_of kind → dated_value kind (parts cs) ≡ parts (dated_cells columns cs)
+struct_dated kind cs columns e = dated_parts kind cs ∙ ap (λ (o : Option Columns). parts (parts_by o cs)) (sym e)
+
+pub struct_plain : (kind : Kind) (cs : Cells) → None ≡ parts_of kind → dated_value kind (parts cs) ≡ parts cs
+struct_plain kind cs e = dated_parts kind cs ∙ ap (λ (o : Option Columns). parts (parts_by o cs)) (sym e)
 
 -- ---- a cell of a column
 
