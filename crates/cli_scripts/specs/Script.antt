@@ -75,11 +75,12 @@ save_of (from ∷ to ∷ words) = Some (save from to (rows_of words))
 save_of (word ∷ []) = None
 save_of [] = None
 
+unfoldable pub save_or_other : List ℕ → List (List ℕ) → Option PlainLine
+save_or_other word arguments = if bytes_eq (codes "save") word then save_of arguments else other_of word arguments
+
 unfoldable pub line_of : List (List ℕ) → Option PlainLine
 line_of [] = None
-line_of (word ∷ arguments) =
-    if bytes_eq (codes "create") word then create_of arguments
-    else if bytes_eq (codes "save") word then save_of arguments else other_of word arguments
+line_of (word ∷ arguments) = if bytes_eq (codes "create") word then create_of arguments else save_or_other word arguments
 
 -- ---- the texts of fields and conditions
 

@@ -3,7 +3,7 @@ ghost use Rattle.std.specs.Prelude.{◌≡◌, IfOk, option_map};
 ghost use Rattle.std.specs.Option.{option_copied};
 ghost use Rattle.facts.specs.Texts.{text_list};
 ghost use Rattle.cli_scripts.specs.Plain.{plain_line, plain_rows};
-ghost use Rattle.cli_scripts.specs.Script.{alone, with_name, with_two, other_of, create_of, columns_at, after_dashes, rows_of, save_of, line_of};
+ghost use Rattle.cli_scripts.specs.Script.{alone, with_name, with_two, other_of, create_of, columns_at, after_dashes, rows_of, save_of, save_or_other, line_of};
 
 use std::alloc::{AllocError, Global};
 
@@ -177,6 +177,21 @@ fn save_of<'a>(alloc: Global, arguments: &[&'a str]) -> Result<Option<ScriptLine
     }
 }
 
+#[tactic(auto, unfolding(crate::specs::Script::save_or_other))]
+fn save_or_other<'a>(
+    alloc: Global,
+    word: &str,
+    arguments: &[&'a str],
+) -> Result<Option<ScriptLine<'a>>, AllocError>
+    ensures { IfOk result (λ line. option_map plain_line line ≡ save_or_other word.now (text_list arguments.now)) }
+{
+    if word == "save" {
+        save_of(alloc, arguments)
+    } else {
+        Ok(other_of(word, arguments))
+    }
+}
+
 /// Returns the command that the words of a line ask for, whatever the texts of its fields or conditions are.
 ///
 /// # Errors
@@ -189,10 +204,8 @@ pub fn line_of<'a>(alloc: Global, words: &[&'a str]) -> Result<Option<ScriptLine
         [word, arguments @ ..] => {
             if *word == "create" {
                 create_of(alloc, arguments)
-            } else if *word == "save" {
-                save_of(alloc, arguments)
             } else {
-                Ok(other_of(word, arguments))
+                save_or_other(alloc, word, arguments)
             }
         }
         [] => Ok(None),
