@@ -22,7 +22,7 @@ use Rattle.cli_requests.specs.Right.{AreRowsTakable, IsTakable, NamesChoice}
 use Rattle.cli_requests.specs.StoreWords.{first_word, makes_word}
 use Rattle.cli_requests.proofs.AppLemmas.{query_top}
 use Rattle.cli_requests.proofs.OperandLemmas.{at, level_with, words_faultless, words_held, words_read}
-use Rattle.cli_requests.proofs.RightLemmas.{number_accepted, words_free}
+use Rattle.cli_requests.proofs.RightLemmas.{name_fault, number_accepted, words_free}
 
 -- ---- what each command asks for
 
@@ -154,13 +154,14 @@ AreTakenAs command = (fault_of command append_words ≡ []) × AreRowsTakable (c
 abbrev past : Kinds → Kinds
 past fault = or_else fault []
 
--- that of the form, by whether it is accepted
-abbrev form_fault : ValueParser → Bool → Kinds
-form_fault forms accepted = past (past (past (past (past (if accepted then [] else refused_kind forms ∷ [])))))
+-- that of the default of the dates, after the words
+abbrev default_fault : ValueParser → Bool → Kinds
+default_fault dates accepted = past (past (name_fault dates accepted))
 
 append_faultless : (forms dates : ValueParser) → AreForms forms → AreDateForms dates → fault_of (append_app forms dates (codes "append")) append_words ≡ []
 unfolding walked clap_on_literals
-append_faultless forms dates known dated = rw (known (codes "csv"), dated (codes "number")) refl
+append_faultless forms dates known dated =
+    λ i. or_else (past (past (past (name_fault forms (known (codes "csv") i))))) (default_fault dates (dated (codes "number") i))
 
 append_example : AreReadAs (called (codes "append" ∷ codes "store" ∷ codes "readings" ∷ codes "--as" ∷ codes "csv" ∷ codes "--null=NA" ∷ []))
     ((codes "STORE", codes "store" ∷ []) ∷ (codes "NAME", codes "readings" ∷ []) ∷ (codes "as", codes "csv" ∷ []) ∷ (codes "null", codes "NA" ∷ []) ∷ [])
@@ -243,10 +244,10 @@ module _ (forms dates : ValueParser) (known : AreForms forms) (dated : AreDateFo
   unfolding walked clap_on_literals
   append_form form null file name (inl csv) =
       subst (λ (f : Text). fault_of (append_app forms dates (codes "append")) (words_of_append f null file name) ≡ []) (sym csv)
-      (rw (known (codes "csv"), dated (codes "number")) refl)
+      (λ i. or_else (past (past (name_fault forms (known (codes "csv") i)))) (default_fault dates (dated (codes "number") i)))
   append_form form null file name (inr lines) =
       subst (λ (f : Text). fault_of (append_app forms dates (codes "append")) (words_of_append f null file name) ≡ []) (sym lines)
-      (rw (known (codes "jsonl"), dated (codes "number")) refl)
+      (λ i. or_else (past (past (name_fault forms (known (codes "jsonl") i)))) (default_fault dates (dated (codes "number") i)))
 
 append_values : (form null file name : Text) → (form ≡ codes "csv") ⊎ (form ≡ codes "jsonl")
     → AreReadAs (called (codes "append" ∷ (codes "--as=" ++ form) ∷ (codes "--null=" ++ null) ∷ codes "--" ∷ file ∷ name ∷ []))
@@ -323,7 +324,9 @@ module _ (columns limit file name : Text) where
 
   objects_values : (conditions : List Text) → is_number limit ≡ true → length conditions ≤ usize_max
       → AreReadAs (called (objects_words conditions)) (objects_found conditions)
-  objects_values conditions is few = read_query _ _ (λ dates. (objects_faultless dates conditions is few, objects_rows dates conditions is))
+  objects_values conditions is few = read_query _ _ (λ dates.
+      let rows = objects_rows dates conditions is in
+      (objects_faultless dates conditions is few, rows.0, rows.1))
 
 module _ (columns limit new file name : Text) where
   abbrev saved_before : List Row
@@ -359,7 +362,9 @@ module _ (columns limit new file name : Text) where
 
   saved_values : (conditions : List Text) → is_number limit ≡ true → length conditions ≤ usize_max
       → AreReadAs (called (saved_words conditions)) (saved_found conditions)
-  saved_values conditions is few = read_query _ _ (λ dates. (saved_faultless dates conditions is few, saved_rows dates conditions is))
+  saved_values conditions is few = read_query _ _ (λ dates.
+      let rows = saved_rows dates conditions is in
+      (saved_faultless dates conditions is few, rows.0, rows.1))
 
 -- ---- a script
 

@@ -125,12 +125,17 @@ full_copy name (a ∷ b ∷ []) e = absurd (true≢false (sym e))
 full_copy name (a ∷ b ∷ c ∷ []) e = ap number_fault (number_accepted c e)
 full_copy name (a ∷ b ∷ c ∷ d ∷ rest) e = absurd (true≢false (sym e))
 
+-- the fault of one of some names, by whether it is accepted
+abbrev pub name_fault : ValueParser → Bool → Kinds
+name_fault names accepted = or_else (if accepted then [] else refused_kind names ∷ []) []
+
 full_append : (forms dates : ValueParser) (name : Text) (ops : List Text) → AreForms forms → AreDateForms dates → length ops ≡ 2
     → operands_fault (append_top forms dates name) ops ≡ []
 unfolding clap_on_literals
 full_append forms dates name [] known dated e = absurd (omega (arith, e))
 full_append forms dates name (a ∷ []) known dated e = absurd (omega (arith, e))
-full_append forms dates name (a ∷ b ∷ []) known dated e = rw (known (codes "stream"), dated (codes "number")) refl
+full_append forms dates name (a ∷ b ∷ []) known dated e =
+    λ i. or_else (or_else (name_fault forms (known (codes "stream") i)) (or_else (name_fault dates (dated (codes "number") i)) [])) []
 full_append forms dates name (a ∷ b ∷ c ∷ rest) known dated e = absurd (omega (arith, e))
 
 texts_accepted : (vs : List Text) → values_kinds false parsers.String vs ≡ []
