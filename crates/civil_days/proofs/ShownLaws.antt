@@ -1,8 +1,8 @@
 -- Each number that a column holds reads back from its text.
-use Rattle.std.proofs.Common.{◌≡◌, ℕ, zero, suc, ◌+◌, ◌*◌, ◌-◌, ◌/◌, ◌%◌, ◌^◌, ◌<◌, ◌≤◌, ◌==◌, ◌++◌, Bool, true, false, List, [], ◌∷◌, append_assoc, append-nil, length, length-append, inl, inr, Option, Some, Ok, refl, sym, ap, subst, ◌∙◌, arith, ℤ, pos, negsuc, neg_ℤ, unsigned_abs, FitsSigned, ◌⊎◌}
+use Rattle.std.proofs.Common.{◌≡◌, ℕ, zero, suc, ◌+◌, ◌*◌, ◌-◌, ◌/◌, ◌%◌, ◌^◌, ◌<◌, ◌≤◌, ◌==◌, ◌++◌, Bool, true, false, List, [], ◌∷◌, append_assoc, length, length-append, inl, inr, Option, Some, Ok, refl, sym, ap, ◌∙◌, arith, ℤ, pos, negsuc, neg_ℤ, unsigned_abs, FitsSigned, ◌⊎◌}
 use Rattle.std.specs.Prelude.{codes, ◌+ℤ◌, ◌-ℤ◌, ◌*ℤ◌, if◌then◌else◌}
 use Rattle.std.specs.Char.{is_ascii_digit, digit_value}
-use Rattle.std.specs.Int.{int_div_euclid, int_rem_euclid, w32, w64}
+use Rattle.std.specs.Int.{int_div_euclid, int_rem_euclid, w64}
 use Rattle.std.specs.Str.{all_ascii_digits}
 use Rattle.std.specs.Str.Parse.{digits_value}
 use Rattle.std.specs.Cmp.Derive.{both_true}
@@ -10,26 +10,22 @@ use Rattle.std.proofs.lemmas.Bool.{and_parts}
 use Rattle.std.proofs.lemmas.Bool.Decides.{nat_tests}
 use Rattle.std.proofs.lemmas.Int.Digits.{digits_value_push}
 use Rattle.std.proofs.Math.Nat.{pow-suc}
-use Rattle.jiff_core.specs.Calendar.{days_in_year, days_of_months}
 use Rattle.jiff_core.proofs.CalendarLemmas.{days_in_year_bounds}
 use Rattle.jiff_core.proofs.SignedLemmas.{signed_arith, int_rem_euclid-parts, one_part}
 use Rattle.civil_days.specs.declared.date_column.ColumnZone.{ColumnZone}
 use Rattle.civil_days.specs.declared.date_column.ColumnZone.TheVariants.{Absent, Universal, Other}
-use Rattle.civil_days.specs.declared.date_column.DateColumn.{DateColumn}
 use Rattle.civil_days.specs.declared.date_column.DateColumn.TheVariants.{Days, Milliseconds, Times}
 use Rattle.civil_days.specs.declared.read_time.ReadTime.{ReadTime}
-use Rattle.civil_days.specs.declared.unit.Unit.{Unit}
 use Rattle.civil_days.specs.declared.unit.Unit.TheVariants.{Second, Millisecond, Microsecond, Nanosecond}
 use Rattle.civil_days.specs.declared.zone.Zone.{Zone}
 use Rattle.civil_days.specs.declared.zone.Zone.TheVariants.{Unzoned, Utc}
-use Rattle.civil_days.specs.Calendar.{IsCivil, date_of_day, day_number, days_after, days_before, year_start}
+use Rattle.civil_days.specs.Calendar.{IsCivil, date_of_day, day_number, days_after, days_before}
 use Rattle.civil_days.specs.FarYear.{IsYear}
-use Rattle.civil_days.specs.Read.{date_in, time_in}
+use Rattle.civil_days.specs.Read.{time_in}
 use Rattle.civil_days.specs.Text.{text_of_day}
 use Rattle.civil_days.specs.Time.{clock_text, last_digits, fraction_text, time_text}
-use Rattle.civil_days.specs.TimeRead.{IsTime, IsZone, IsZoneText, point_text, time_value, zone_text}
-use Rattle.civil_days.specs.Typed.{has_zone, takes, stated_day, stated_time, spelled_in, shown_in, Holds, ShownReadsBack}
-use Rattle.civil_days.specs.Unit.{places_of}
+use Rattle.civil_days.specs.TimeRead.{IsTime, IsZone, point_text, time_value, zone_text}
+use Rattle.civil_days.specs.Typed.{has_zone, takes, stated_day, stated_time, spelled_in, shown_in, ShownReadsBack}
 use Rattle.civil_days.proofs.CalendarLaws.{days_after-suc, days_before-suc, year_start-after, year_start-before, day_in_year}
 use Rattle.civil_days.proofs.ReadLaws.{date_in-exact}
 use Rattle.civil_days.proofs.StepLaws.{date_of_day-at}

@@ -1,6 +1,6 @@
 -- The bytes of the texts of dates and times: digits, signs, a point, colons and the letters T and Z.
 use Rattle.std.specs.Prelude.{codes, if◌then◌else◌, nat_lt}
-use Rattle.std.proofs.Common.{◌≡◌, ℕ, zero, suc, ◌+◌, ◌-◌, ◌*◌, ◌/◌, ◌%◌, ◌^◌, ◌<◌, ◌≤◌, ◌==◌, Bool, true, false, List, [], ◌∷◌, ◌++◌, length, unsigned_abs, refl, sym, ap, subst, ◌∙◌, arith, ℤ, pos, negsuc, inl, inr}
+use Rattle.std.proofs.Common.{◌≡◌, ℕ, zero, suc, ◌+◌, ◌/◌, ◌%◌, ◌^◌, ◌<◌, ◌==◌, Bool, true, false, List, [], ◌∷◌, ◌++◌, unsigned_abs, refl, sym, subst, arith, ℤ, pos, negsuc}
 use Rattle.std.specs.Int.{IsInRange, int_div_euclid, int_rem_euclid}
 use Rattle.std.specs.List.{AllByRecursion}
 use Rattle.std.specs.Fmt.{decimal, digits, digits_onto, digit_glyph}

@@ -1,6 +1,6 @@
 -- The first condition that is refused, one after another, and why the conditions are.
-use Rattle.std.proofs.Common.{◌≡◌, ℕ, ◌+◌, suc, Bool, true, false, List, [], ◌∷◌, refl, sym, ap, ◌∙◌, arith}
-use Rattle.std.specs.Prelude.{map, slice_get, Option, Some, None, Result, Ok, Err, if◌then◌else◌}
+use Rattle.std.proofs.Common.{◌≡◌, ℕ, ◌+◌, suc, true, false, List, [], ◌∷◌, refl, ap, ◌∙◌, arith}
+use Rattle.std.specs.Prelude.{map, Some, None, Result, Ok, Err}
 use Rattle.arrow_schema.specs.Column.{Column}
 use Rattle.civil_days.specs.declared.date_form.DateForm.{DateForm}
 use Rattle.query.specs.Query.{PlainCondition}

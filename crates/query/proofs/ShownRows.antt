@@ -1,5 +1,5 @@
 -- Rows and lists with dates as texts, value by value.
-use Rattle.std.specs.Prelude.{slice_get, Option, Some, None, option_map}
+use Rattle.std.specs.Prelude.{slice_get, Some, None}
 use Rattle.std.proofs.Common.{◌≡◌, ℕ, zero, suc, ◌+◌, ◌≤◌, List, [], ◌∷◌, ◌++◌, map, drop, refl, sym, ap, ◌∙◌, append_assoc, arith}
 use Rattle.std.proofs.lemmas.List.{append-nil}
 use Rattle.arrow_schema.specs.Column.{Column, columns_of}

@@ -1,5 +1,5 @@
 -- Which condition of a query a table refuses.
-use Rattle.std.specs.Prelude.{◌≡◌, ◌+◌, ℕ, Bool, true, false, List, [], ◌∷◌, map, slice_get, Option, Some, None, Result, Ok, Err, if◌then◌else◌}
+use Rattle.std.specs.Prelude.{◌≡◌, ◌+◌, ℕ, Bool, true, false, List, [], ◌∷◌, slice_get, Option, Some, None, Result, Ok, Err, if◌then◌else◌}
 use Rattle.arrow_schema.specs.Column.{Column}
 use Rattle.civil_days.specs.declared.date_form.DateForm.{DateForm}
 use Rattle.query.specs.Query.{PlainCondition}

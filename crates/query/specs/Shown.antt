@@ -1,7 +1,7 @@
 -- Cells as they are printed: a date or a timestamp is a number, or its text where dates stand as people write them.
 use Rattle.std.specs.Prelude.{ℤ, true, List, Option, None, Some, if◌then◌else◌}
 use Rattle.arrow_schema.specs.Column.{Kind, Column, Columns, nulls, booleans, integers, dates, timestamps, texts, large_texts, binaries, large_binaries, fixed_binaries, lists, large_lists, fixed_lists, structs, column, no_column, and_column, columns_of}
-use Rattle.cells.specs.Cell.{Cell, Cells, null, boolean, number, text, bytes, items, parts, no_cell, and_cell, cells_of, cell_list}
+use Rattle.cells.specs.Cell.{Cell, Cells, number, text, items, parts, no_cell, and_cell, cells_of, cell_list}
 use Rattle.cells.specs.Fit.{in_range}
 use Rattle.civil_days.specs.Typed.{date_column, shown_in}
 use Rattle.civil_days.specs.declared.date_column.DateColumn.{DateColumn}

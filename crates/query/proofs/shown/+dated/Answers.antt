@@ -7,11 +7,11 @@ use Rattle.std.proofs.lemmas.List.{drop_all}
 use Rattle.facts.specs.laws.Lists.{drop-item}
 use Rattle.arrow_schema.specs.View.{kind_of, column_of}
 use Rattle.arrow_schema.specs.declared.types.Field.{Field}
-use Rattle.cells.specs.Cell.{Cell, null, boolean, number, text, bytes, items, parts, cells_of}
+use Rattle.cells.specs.Cell.{Cell, null, boolean, number, text, bytes, cells_of}
 use Rattle.columns.specs.Borrowed.{borrowed_cell, borrowed_cells}
 use Rattle.columns.specs.View.{fields_of}
 use Rattle.query.specs.Line.{json_of, json_of_others}
-use Rattle.query.specs.Shown.{dated_cell, dated_value, dated_cells}
+use Rattle.query.specs.Shown.{dated_value, dated_cells}
 use Rattle.query.specs.inner.SlotLines.{rest_of_shape}
 use Rattle.query.proofs.Pushed.{between}
 use Rattle.query.proofs.ShownCells.{unchanged, dated_null, dated_boolean, dated_text, dated_bytes, dated_number, list_dated, list_plain, struct_dated, struct_plain, dated_field}
