@@ -1,5 +1,5 @@
 -- Lines and their words, one after another.
-use Rattle.std.proofs.Common.{◌≡◌, ◌==◌, ◌<◌, ◌+◌, ◌-◌, ◌++◌, ◌∙◌, ℕ, Bool, true, false, if◌then◌else◌, length, take, drop, get_or, map, append_assoc, List, [], ◌∷◌, Option, Some, None, option_map, String, string_bytes, refl, sym, ap, subst, arith}
+use Rattle.std.proofs.Common.{◌≡◌, ◌==◌, ◌<◌, ◌+◌, ◌-◌, ◌++◌, ◌∙◌, ℕ, true, false, if◌then◌else◌, length, take, drop, get_or, map, append_assoc, List, [], ◌∷◌, Option, Some, None, option_map, String, string_bytes, sym, ap, subst, arith}
 use Rattle.std.specs.Borrow.{Bor}
 use Rattle.std.specs.Global.{Global, Vec}
 use Rattle.std.specs.List.{slice_split}

@@ -1,7 +1,6 @@
 -- The tests of the texts of a line, one after another, and the texts of a line that saves rows.
-use Rattle.std.proofs.Common.{◌≡◌, ◌<◌, ◌+◌, ◌∙◌, ◌&&◌, ℕ, Bool, true, false, List, ◌∷◌, drop, get_or, length, Option, Some, None, refl, sym, ap, Bor}
+use Rattle.std.proofs.Common.{◌≡◌, ◌<◌, ◌+◌, ◌∙◌, ◌&&◌, ℕ, Bool, false, List, drop, get_or, length, Option, Some, None, sym, ap, Bor}
 use Rattle.std.specs.Prelude.{is_some}
-use Rattle.std.specs.List.{list_all}
 use Rattle.std.proofs.lemmas.List.{drop_more}
 use Rattle.facts.specs.Texts.{text_list}
 use Rattle.query.specs.ConditionText.{condition_of}

@@ -5,7 +5,7 @@ use Rattle.std.specs.Option.{option_and_then}
 use Rattle.std.proofs.lemmas.Bool.{eqb-true}
 use Rattle.field_texts.specs.inner.Scan.{stripped}
 use Rattle.cli_scripts.proofs.Shorter.{Parts, Word, some_is}
-use Rattle.cli_scripts.specs.Words.{quoted, after_word, closed_word, first_word, word_at, AreWords, mark, doubled, written, written_line}
+use Rattle.cli_scripts.specs.Words.{quoted, after_word, closed_word, word_at, AreWords, doubled, written, written_line}
 
 -- ---- one word
 

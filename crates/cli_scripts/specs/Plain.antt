@@ -1,5 +1,5 @@
 -- The words and lines of a script, wherever they lie in memory.
-use Rattle.std.specs.Prelude.{ℕ, List, [], map, Option, option_map, string_bytes, String}
+use Rattle.std.specs.Prelude.{ℕ, List, map, Option, option_map, string_bytes, String}
 use Rattle.std.specs.Global.{Global, Vec}
 use Rattle.std.specs.Option.{option_copied}
 use Rattle.facts.specs.Texts.{text_list}
