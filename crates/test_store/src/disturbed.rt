@@ -101,7 +101,7 @@ const TOGETHER: Script = Script {
         (Keep("t", (&[], &["a >= 0"], None)), "ok"),
         (Keep("u", (&[], &[], None)), "S1 NoTable of 0"),
         (ExportNext(0), "152 bytes"),
-        (ExportNext(0), "168 bytes"),
+        (ExportNext(0), "160 bytes"),
         (ExportNext(0), "8 bytes"),
         (ExportNext(0), "no piece"),
         (CloseExport(0), "ok"),
@@ -111,7 +111,7 @@ const TOGETHER: Script = Script {
     ],
     calls: &[1, 6, 6, 11, 11, 11, 11, 11, 11, 11],
     opening: None,
-    layout: "epoch 3, 7 in 4, t: 4+1",
+    layout: "epoch 3, 233 in 5, t: 2+1",
 };
 
 /// Returns the script of a number; there are three.
