@@ -77,12 +77,14 @@ vectors: bin/arrowstore
 	tests/program bin/arrowstore
 	tests/stores bin/arrowstore
 	tests/images_open bin/arrowstore
+	tests/sizes bin/arrowstore
 	tests/queries bin/arrowstore
 	tests/sessions bin/arrowstore tests/vectors/sessions_digests tests/vectors/replays_digests
 	tests/replays bin/arrowstore
 	tests/killed bin/arrowstore
 	tests/power_cuts bin/arrowstore
 	tests/failing_disks bin/arrowstore
+	tests/replicated bin/arrowstore
 	tests/types bin/arrowstore
 	tests/shapes bin/arrowstore
 	tests/metadata bin/arrowstore

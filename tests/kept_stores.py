@@ -109,15 +109,17 @@ def laid_store(sectors, steps):
     return laid(sectors, len(steps) + 1, b"", list_text(after_all(steps)))
 
 
-def laid_segments(sectors, name, table):
-    """A store of this table alone, each of whose rows is a segment of one sector."""
-    [values] = table.values
-    segments, places = [], []
-    for place, value in enumerate(values):
-        segment = stream(table.columns, [[[value]]])
-        segments.append(segment.ljust(SECTOR, b"\0"))
-        places.append(b"".join(number(part, 8) for part in (2 + place, 1, len(segment), 1)))
-    return laid(sectors, 2, b"".join(segments), number(1, 4) + entry_text(name, table, b"".join(places)))
+def laid_segments(sectors, tables):
+    """A store of these tables of one column, each of whose rows is a segment of one sector."""
+    entries, segments = [], []
+    for name, table in sorted(tables.items()):
+        places = []
+        for value in table.values[0]:
+            segment = stream(table.columns, [[[value]]])
+            places.append(b"".join(number(part, 8) for part in (2 + len(segments), 1, len(segment), 1)))
+            segments.append(segment.ljust(SECTOR, b"\0"))
+        entries.append(entry_text(name, table, b"".join(places)))
+    return laid(sectors, 2, b"".join(segments), number(len(tables), 4) + b"".join(entries))
 
 
 def table_lines(tables):

@@ -15,8 +15,10 @@ sys.exit(os.waitstatus_to_exitcode(status))
 
 
 class Answers:
-    def __init__(self, program):
+    """Those of a program, whose runs end within so many seconds."""
+    def __init__(self, program, patience=60):
         self.program = program
+        self.patience = patience
         self.wrong = []
         self.passed = 0
 
@@ -28,16 +30,16 @@ class Answers:
 
     def run(self, words, given=b""):
         try:
-            done = subprocess.run([self.program, *words], input=given, capture_output=True, timeout=60)
+            done = subprocess.run([self.program, *words], input=given, capture_output=True, timeout=self.patience)
         except subprocess.TimeoutExpired:
-            return None, b"", b"no end within a minute"
+            return None, b"", b"no end within %d seconds" % self.patience
         return done.returncode, done.stdout, done.stderr
 
     def measured(self, words, path):
         """Status, what is written and said, and the bytes that were resident at most. A run with next to no bytes takes 9 MB, most of it the interpreter
         that starts it."""
         with open(path, "rb") as given:
-            done = subprocess.run([sys.executable, "-IS", "-c", MEASURED, self.program, *words], stdin=given, capture_output=True, timeout=60)
+            done = subprocess.run([sys.executable, "-IS", "-c", MEASURED, self.program, *words], stdin=given, capture_output=True, timeout=self.patience)
         said, peak = re.fullmatch(rb"(.*)peak (\d+)\n", done.stderr, re.DOTALL).groups()
         return done.returncode, done.stdout, said, 1024 * int(peak)
 

@@ -94,10 +94,10 @@ class Pairs:
         return start
 
 
-def message(header_type, header, body=b""):
-    """Continuation, size of the metadata, metadata, body (Message.fbs: version V5 is 4)."""
+def message(header_type, header, body=b"", more=0):
+    """Continuation, size of the metadata, metadata, body (Message.fbs: version V5 is 4). The body has so many more bytes, which are not among those given."""
     metadata = bytearray(4)
-    root = Table((2, 4), (1, header_type), header, (8, len(body))).lay(metadata)
+    root = Table((2, 4), (1, header_type), header, (8, len(body) + more)).lay(metadata)
     fill(metadata, 8)
     metadata[0:4] = struct.pack("<I", root)
     return CONTINUATION + struct.pack("<i", len(metadata)) + bytes(metadata) + body
