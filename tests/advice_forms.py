@@ -195,7 +195,7 @@ def has_control(facts):
 # Of codes with several sentences on what to do: how a sentence begins, and when it is the right one. The first that fits is.
 TO_DO = {
     "X2": [("Give an item for each column", is_line), ("Fix the record", lambda facts: True)],
-    "X4": [("Give an integer. An empty field", is_empty_number), ("Write an integer as digits", lambda facts: True)],
+    "X4": [("Give an integer. An empty field", is_empty_number), ("Write digits, within 64 bits.", lambda facts: True)],
     "X10": [("Fix the line, which has a control character", has_control), ("Fix the line. If", lambda facts: True)],
     "X15": [("Give shorter texts", is_line), ("Fix the record", lambda facts: True)],
     "C1": [("Use a later version", lambda facts: facts.version is not None), ("Give the file of a store.", lambda facts: True)],

@@ -53,7 +53,7 @@ pub record AreExamples : Type 0 where
 abbrev pub IsVersion : Text → Type 0
 IsVersion word = (word ≡ codes "1") ⊎ (word ≡ codes "2")
 
--- each command with all options that go together, whatever the values are
+-- each command with all options that go together but `--wait` and `--dates`, whatever the values are
 pub record AreValuesRead : Type 0 where
   pub format : (version file number : Text) → IsVersion version → is_number number ≡ true
       → AreReadAs (called (codes "format" ∷ (codes "--format-version=" ++ version) ∷ codes "--" ∷ file ∷ number ∷ []))

@@ -1,0 +1,14 @@
+use Rattle.std.proofs.Common.{◌≡◌, ℕ, List, Some, None, Bor, rules, subst}
+use Rattle.std.specs.Option.{option_copied}
+use Rattle.civil_days.specs.declared.date_form.DateForm.TheVariants.{Numbers}
+use Rattle.facts.specs.Texts.{text_list}
+use Rattle.query.specs.View.{query_in}
+use Rattle.cli_commands.specs.Selecting.{stated_query}
+use Rattle.cli_replay.proofs.calls.save.Goals as goal
+
+pub returns : goal.returns
+returns c =
+    let rows = c.args.rows.now in
+    let stated =
+    subst (λ (ts : List (Bor (List ℕ))). stated_query (text_list ts) (option_copied rows.columns) None Numbers ≡ Some (query_in c.in-Ok.query)) c.deref.ensures.value c.in-Ok.ensures.stated in
+    (query_in c.in-Ok.query, stated, search rules)
