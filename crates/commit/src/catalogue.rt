@@ -20,6 +20,10 @@ pub trait ReadCatalogue: Drop {
     /// How a catalogue is read, and the runs that it names.
     ghost reading: { Reading Plain };
 
+    /// What is true of each catalogue that is read for a commit, on any device: that it has the form of the
+    /// commit's version.
+    ghost fits_commit: { Commit → Plain → Type 0 };
+
     /// Reads the catalogue of this text, parts of which may be read from the device. Changes nothing.
     ///
     /// # Errors
@@ -38,7 +42,9 @@ pub trait ReadCatalogue: Drop {
             (λ catalogue. D.tells ≡ true → spelled_shown reading (D.size device.old) (D.story device.old) commit text.now ≡ Ok (plain_of catalogue)) }
         ensures damaged { IfErr result (λ e. D.tells ≡ true
             → TellsCause e (spelled_shown reading (D.size device.old) (D.story device.old) commit text.now)) }
-        ensures a_store { IfErr result (λ e. e ≢ OpenError.NotAStore) };
+        ensures a_store { IfErr result (λ e. e ≢ OpenError.NotAStore) }
+        // This also holds for a device that does not tell its story.
+        ensures form { IfOk result (λ catalogue. fits_commit commit (plain_of catalogue)) };
 
     /// Returns the runs that the catalogue names.
     ///

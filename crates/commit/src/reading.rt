@@ -1,5 +1,5 @@
 // Reads the text of a catalogue.
-ghost use Rattle.std.specs.Prelude.{◌≡◌, ◌≢◌, ◌≤◌, ◌+◌, ◌*◌, ◌<◌, ◌^◌, true, false, Ok, Err, OnOk, IfOk, IfErr};
+ghost use Rattle.std.specs.Prelude.{◌≡◌, ◌≢◌, ◌≤◌, ◌+◌, ◌*◌, ◌<◌, ◌^◌, true, false, Ok, Err, OnOk, IfOk, IfErr, vec_len};
 ghost use Rattle.sector_dev.specs.Time.{OnlyReads};
 ghost use Rattle.sector_dev.specs.declared.file.TheConstants.{MOST_SECTORS};
 ghost use Rattle.commit.specs.Standing.{is_extent};
@@ -51,8 +51,9 @@ pub fn read_extent<D: SectorDevice>(
     ensures found { IfOk result (λ bytes. D.tells ≡ true → extent_shown (D.size device.old) (D.story device.old) least extent ≡ Ok bytes.items) }
     ensures damaged { IfErr result (λ e. D.tells ≡ true → TellsCause e (extent_shown (D.size device.old) (D.story device.old) least extent)) }
     ensures a_store { IfErr result (λ e. e ≢ OpenError.NotAStore) }
-    // This also holds for a device that does not tell its story.
+    // These also hold for a device that does not tell its story.
     ensures extent { OnOk result (is_extent (D.size device.old) least extent ≡ true) }
+    ensures length { IfOk result (λ bytes. vec_len bytes ≡ extent.bytes) }
 {
     if !is_extent(device.sectors(), least, extent) {
         return Err(OpenError::Damaged(Cause::CatalogueRange));
@@ -84,6 +85,7 @@ pub fn read_text<D: SectorDevice>(
     // These also hold for a device that does not tell its story.
     ensures device { OnOk result (commit.device_sectors ≡ D.size device.old) }
     ensures extent { OnOk result (is_extent (D.size device.old) 4 commit.catalogue ≡ true) }
+    ensures length { IfOk result (λ text. vec_len text ≡ commit.catalogue.bytes) }
 {
     if commit.device_sectors != device.sectors() {
         return Err(OpenError::Damaged(Cause::DeviceSize));

@@ -38,6 +38,7 @@ fn read_catalogue<C: ReadCatalogue, D: SectorDevice>(
     ensures a_store { IfErr result (λ e. e ≢ OpenError.NotAStore) }
     ensures device { OnOk result (commit.device_sectors ≡ D.size device.old) }
     ensures placed { OnOk result (is_on_device (D.size device.old) commit.catalogue.run ≡ true) }
+    ensures form { IfOk result (λ catalogue. C.fits_commit commit (C.plain_of catalogue)) }
 {
     let text = read_text(alloc, device, commit)?;
     C::read(alloc, device, commit, &text)
@@ -79,6 +80,7 @@ fn read_store<C: ReadCatalogue, D: SectorDevice>(
     ensures fit { IfOk result (λ store. runs_fault (D.size device.old) store.commit.catalogue.run (C.reading.runs (C.plain_of store.catalogue)) ≡ None) }
     ensures map_size { IfOk result (λ store. store.map.size ≡ D.size device.old) }
     ensures uses { IfOk result (λ store. Uses store.map.entries (used_runs C.reading store.commit (C.plain_of store.catalogue)) []) }
+    ensures form { IfOk result (λ store. C.fits_commit store.commit (C.plain_of store.catalogue)) }
 {
     let Some(commit) = read_ruling(device)? else {
         return Err(OpenError::NotAStore);
@@ -139,6 +141,7 @@ pub fn recover<C: ReadCatalogue, D: SectorDevice>(
     ensures fit { IfOk result (λ store. runs_fault (D.size device.old) store.commit.catalogue.run (C.reading.runs (C.plain_of store.catalogue)) ≡ None) }
     ensures map_size { IfOk result (λ store. store.map.size ≡ D.size device.old) }
     ensures uses { IfOk result (λ store. Uses store.map.entries (used_runs C.reading store.commit (C.plain_of store.catalogue)) []) }
+    ensures form { IfOk result (λ store. C.fits_commit store.commit (C.plain_of store.catalogue)) }
 {
     let sectors = device.sectors();
     if sectors < LEAST_SECTORS || sectors > MOST_SECTORS {

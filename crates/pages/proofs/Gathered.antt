@@ -1,5 +1,5 @@
 -- Tables that are read one after another stand as a catalogue.
-use Rattle.std.proofs.Common.{◌≡◌, ◌≤◌, ◌<◌, ◌+◌, ◌-◌, ◌++◌, ℕ, zero, suc, true, List, [], ◌∷◌, length, map, take, get_or, Some, refl, sym, ap, ◌∙◌, arith}
+use Rattle.std.proofs.Common.{◌≡◌, ◌≤◌, ◌<◌, ◌+◌, ◌-◌, ◌++◌, ℕ, zero, suc, Bool, true, List, [], ◌∷◌, length, map, take, get_or, Some, refl, sym, ap, ◌∙◌, arith}
 use Rattle.std.specs.List.{list_all, sum_by}
 use Rattle.std.proofs.lemmas.Bool.{and_parts, and_from}
 use Rattle.std.proofs.lemmas.List.{map-append, length-map, take_all, take_more}
@@ -8,7 +8,8 @@ use Rattle.std.proofs.lemmas.List.Sums.{sum_by-cons, sum_by-append}
 use Rattle.catalogue.specs.declared.limits.TheConstants.{MAX_SEGMENTS}
 use Rattle.catalogue.specs.declared.entry.TableEntry.{TableEntry}
 use Rattle.catalogue.specs.declared.entry.RootEntry.{RootEntry}
-use Rattle.catalogue.specs.Entries.{PlainEntry, PlainRoot, plain_entry, plain_root, is_name, is_entry, names_of, ascends, root_names, segment_count, is_catalogue}
+use Rattle.catalogue.specs.declared.entry.SegmentForm.{SegmentForm}
+use Rattle.catalogue.specs.Entries.{PlainEntry, PlainRoot, plain_entry, plain_root, is_name, is_entry, names_of, ascends, root_names, segment_count, is_catalogue, has_digests, has_form}
 use Rattle.catalogue.specs.Reading.{entry_from}
 use Rattle.catalogue.specs.laws.Kept.{passes_catalogue}
 use Rattle.pages.specs.Stored.{AreTables}
@@ -22,6 +23,14 @@ pub one_sound : (es fs : List TableEntry) (e : TableEntry) → fs ≡ es ++ e �
 one_sound es fs e more all here =
     ap (λ (xs : List TableEntry). list_all is_entry (map plain_entry xs)) more ∙ ap (list_all is_entry) (map-append plain_entry es (e ∷ [])) ∙ list_all-append is_entry (map plain_entry es) (plain_entry e ∷ [])
     ∙ and_from (list_all is_entry (map plain_entry es)) (list_all is_entry (plain_entry e ∷ [])) all (and_from (is_entry (plain_entry e)) true here refl)
+
+pub one_formed : (form : SegmentForm) (es fs : List TableEntry) (e : TableEntry) → fs ≡ es ++ e ∷ [] → has_form form (map plain_entry es) ≡ true
+    → has_digests form (plain_entry e).segments ≡ true → has_form form (map plain_entry fs) ≡ true
+one_formed form es fs e more all here =
+    let has : PlainEntry → Bool = λ x. has_digests form x.segments in
+    ap (λ (xs : List TableEntry). list_all has (map plain_entry xs)) more ∙ ap (list_all has) (map-append plain_entry es (e ∷ []))
+    ∙ list_all-append has (map plain_entry es) (plain_entry e ∷ [])
+    ∙ and_from (list_all has (map plain_entry es)) (list_all has (plain_entry e ∷ [])) all (and_from (has (plain_entry e)) true here refl)
 
 pub one_named : (rs : List RootEntry) (i : ℕ) (d : RootEntry) (es fs : List TableEntry) (e : TableEntry) → i < length rs → fs ≡ es ++ e ∷ []
     → plain_entry e ≡ entry_from (plain_root (get_or rs i d)).name (Some (get_or rs i d).page) ((plain_entry e).schema, (plain_entry e).segments) → names_of (map plain_entry es) ≡ root_names (map plain_root (take i rs))

@@ -5,7 +5,7 @@ ghost use Rattle.sector_dev.specs.Time.{OnlyReads};
 ghost use Rattle.arrow_schema.specs.View.{schema_of};
 ghost use Rattle.catalogue.specs.declared.limits.TheConstants.{MAX_SEGMENTS};
 ghost use Rattle.catalogue.specs.Schemas.{is_within_limits};
-ghost use Rattle.catalogue.specs.Entries.{plain_entry, plain_root, is_name, is_segment, is_filled, is_entry, is_catalogue};
+ghost use Rattle.catalogue.specs.Entries.{plain_entry, plain_root, is_name, is_segment, is_filled, is_entry, is_catalogue, has_digests, has_form};
 ghost use Rattle.catalogue.specs.Reading.{entry_from};
 ghost use Rattle.commit.specs.Standing.{is_size};
 ghost use Rattle.commit.specs.Opening.{CountsOpen, TellsCause};
@@ -41,6 +41,7 @@ fn read_page<D: SectorDevice>(
     ensures few { IfOk result (λ x. length x.1.items ≤ most) }
     ensures schema { IfOk result (λ x. is_within_limits (schema_of x.0) ≡ true) }
     ensures segments { IfOk result (λ x. list_all is_segment x.1.items ≡ true) }
+    ensures form { IfOk result (λ x. has_digests form x.1.items ≡ true) }
     ensures page { OnOk result (is_filled 8 page ≡ true) }
 {
     one_page_each();
@@ -88,6 +89,7 @@ fn read_table<D: SectorDevice>(
     ensures entry { IfOk result (λ e. plain_entry e
         ≡ entry_from ((plain_root root.now).name) (Some root.now.page) ((plain_entry e).schema, (plain_entry e).segments)) }
     ensures sound { IfOk result (λ e. is_name ((plain_root root.now).name) ≡ true → is_entry (plain_entry e) ≡ true) }
+    ensures form { IfOk result (λ e. has_digests form (plain_entry e).segments ≡ true) }
 {
     match read_page(alloc, device, form, most, root.page) {
         Ok((schema, segments)) => {
@@ -118,6 +120,8 @@ pub(crate) fn read_pages<D: SectorDevice>(
         → TellsCause e (pages_shown form (D.size device.old) (D.story device.old) MAX_SEGMENTS (map plain_root roots.now))) }
     ensures a_store { IfErr result (λ e. e ≢ OpenError.NotAStore) }
     ensures sound { IfOk result (λ entries. is_catalogue (map plain_entry entries.items) ≡ true) }
+    // This also holds for a device that does not tell its story.
+    ensures form { IfOk result (λ entries. has_form form (map plain_entry entries.items) ≡ true) }
 {
     let mut entries = Vec::new(alloc);
     let mut left = MAX_SEGMENTS;

@@ -1,12 +1,14 @@
 // The catalogue of a store as commits see it.
-ghost use Rattle.catalogue.specs.Entries.{PlainCatalogue};
+ghost use Rattle.catalogue.specs.Entries.{PlainCatalogue, has_form};
 ghost use Rattle.catalogue.specs.View.{catalogue_of};
-ghost use Rattle.std.specs.Prelude.{◌≡◌};
+ghost use Rattle.std.specs.Prelude.{◌≡◌, true};
 ghost use Rattle.pages.specs.Stored.{form_of, stored_reading};
 ghost use Rattle.pages.specs.laws.Local.{stored_is_local};
 
 use crate::reading::read_pages;
-use catalogue::{Catalogue, DecodeError, SegmentForm, decode, decode_root, one_root_each};
+use catalogue::{
+    Catalogue, DecodeError, SegmentForm, decode, decode_root, one_root_each, one_text_each,
+};
 use commit::{CatalogueKind, Cause, Commit, FormatVersion, OpenError, ReadCatalogue};
 use sector_dev::SectorDevice;
 use segments::Run;
@@ -35,12 +37,15 @@ impl ReadCatalogue for StoredCatalogue {
 
     ghost reading = { stored_reading };
 
+    ghost fits_commit = { λ k c. has_form (form_of k.version) c ≡ true };
+
     fn read<D: SectorDevice>(
         alloc: Global,
         device: &mut D,
         commit: Commit,
         text: &[u8],
     ) -> Result<Self, OpenError> {
+        one_text_each();
         one_root_each();
         let form = form_of(commit.version);
         match commit.kind {

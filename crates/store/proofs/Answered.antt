@@ -24,7 +24,7 @@ use Rattle.store.specs.Fits.{setting_of, StoreFits, Opens, Shuts}
 use Rattle.store.specs.Applying.{GoesOn}
 use Rattle.store.specs.Places.{IsCallOf, AreCallsOf, asks_store, reply_in, replies_of, device_in, ShutFits, PlaceFits, PlaceGoes, PlaceRuns, PlaceLives}
 use Rattle.store.proofs.Taken.{some_bytes}
-use Rattle.store.proofs.Asked.{not_less, refused_elsewhere}
+use Rattle.store.proofs.Asked.{not_less, refused_elsewhere, refused_keeps}
 use Rattle.store_runs.specs.laws.Going.{no_run, run_of_one, runs_joined}
 use Rattle.store_runs.specs.laws.Left.{left_from}
 use Rattle.store_runs.specs.laws.Kept.{stops_keep}
@@ -59,6 +59,7 @@ refused_shut s m call story failed needs is allows =
       tells = tt;
       room = refused_elsewhere s (pinned_by m) call refusals.Halted (now story) (now story) (λ is. cc is);
       spares = λ needs. stays (SparesKept m (now story)) story;
+      keeps = refused_keeps s call refusals.Halted (now story) m;
     }
 
 -- a closing
@@ -82,6 +83,7 @@ closed size story failed base m store fits =
         tells = tt;
         room = tt;
         spares = λ needs. stays (SparesKept m (now (story store.device))) (story store.device);
+        keeps = tt;
       };
       fits = record { phase = refl; fits = record { in_limits = fits.device.in_limits; allows = λ image may. fits.device.allows image may; fresh = λ early. let f = fits.device.fresh early in record { settled = f.settled; doubt = f.doubt; began = f.began } } };
     }

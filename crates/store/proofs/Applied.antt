@@ -191,6 +191,7 @@ module _ {D : Type 0} {g : Ghosts D} (size : D → ℕ) (story : D → Story) (f
           room = subst (λ (d : Disk). TellsRoom s (pinned_by m) (apply_call c) reply d (now (story new.device))) later own.room;
           spares = λ needs. goes_on (spared_reading m (story old.device) (story mid.device) moments)
               (subst (λ (d : Disk). Grows (SparesKept m d) (story mid.device) (story new.device)) later (own.spares needs));
+          keeps = tt;
         };
         fits = goes.fits;
       }

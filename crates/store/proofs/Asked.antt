@@ -10,10 +10,10 @@ use Rattle.tables.specs.Tables.{Tables}
 use Rattle.tables.specs.declared.refusal.Refusal.{Refusal}
 use Rattle.tables.specs.Refusals.{by_room, origin_of}
 use Rattle.store.specs.declared.store.Store.{Store}
-use Rattle.store_runs.specs.Calls.{PlainCall, apply_call, stream_call, compact_call, upgrade_call, PlainReply, refused, is_device_reply}
+use Rattle.store_runs.specs.Calls.{PlainCall, apply_call, stream_call, open_export_call, compact_call, upgrade_call, PlainReply, export_is, refused, is_device_reply}
 use Rattle.store_runs.specs.Machine.{Setting, Phase, running, halted, Machine, AllowsEach, pinned_by, SparesKept}
 use Rattle.store_runs.specs.Steps.{Step}
-use Rattle.store_runs.specs.Runs.{TellsFound}
+use Rattle.store_runs.specs.Runs.{TellsFound, TellsExport}
 use Rattle.store_runs.specs.Rooms.{CommandDecides, StepDecides, UpgradeDecides, TellsRoom}
 use Rattle.store.specs.Fits.{setting_of, StoreFits}
 use Rattle.store.specs.Applying.{GoesOn}
@@ -41,6 +41,19 @@ refused_elsewhere s pinned compact_call r before after other = room_by (origin_o
 refused_elsewhere s pinned upgrade_call r before after other = room_by (origin_of r) s.size pinned before after (UpgradeDecides before) r (λ room. absurd (other room))
 refused_elsewhere s pinned _ r before after other = tt
 
+-- no export is opened by a call that is refused, or that leaves the machine as it is
+pub refused_keeps : (s : Setting) (call : PlainCall) (r : Refusal) (before : Disk) (next : Machine) → TellsExport s call (refused r) before next
+refused_keeps s (open_export_call name) r before next = tt
+refused_keeps s _ r before next = tt
+
+pub stays_keeps : (s : Setting) (m : Machine) (call : PlainCall) (reply : PlainReply) (wrote : Bool) (before : Disk) → Step s m call reply wrote m
+    → TellsExport s call reply before m
+unfolding Step
+stays_keeps s m (open_export_call name) (export_is id) wrote before step =
+    let one_more : m.next_id ≡ m.next_id + 1 = ap (λ (k : Machine). k.next_id) step.5.3 in absurd (omega (arith, one_more))
+stays_keeps s m (open_export_call name) _ wrote before step = tt
+stays_keeps s m _ reply wrote before step = tt
+
 -- a step that writes nothing, of a store that stays as it is
 pub still : {D : Type 0} {g : Ghosts D} (size : D → ℕ) (story : D → Story) (failed : D → ℕ) (base : Tables) (m : Machine) (call : PlainCall) (reply : PlainReply) (store : Store D g)
     → Step (setting_of (size store.device) base) m call reply false m → is_device_reply reply ≡ false → StoreFits size story base m store
@@ -61,6 +74,7 @@ still size story failed base m call reply store step answered fits tells room =
         tells = tells;
         room = room;
         spares = λ needs. stays (SparesKept m d) (story store.device);
+        keeps = stays_keeps s m call reply false d step;
       };
       fits = fits;
     }

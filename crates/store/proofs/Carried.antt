@@ -83,6 +83,7 @@ module _ (size : ℕ) (base : Tables) (m : Machine) (c : PlainCommand) (new : Ta
       tells = tt;
       room = room_by (origin_of r) size (pinned_by m) (now s0) (now s0) (CommandDecides (now s0) c) r (λ room. ended);
       spares = λ needs. stays (SparesKept m (now s0)) s0;
+      keeps = tt;
     }
 
 -- what the disk holds of a change

@@ -24,6 +24,8 @@ use Rattle.catalogue.specs.View.{catalogue_of}
 use Rattle.catalogue.specs.laws.Changed.{found_passes}
 use Rattle.catalogue.specs.laws.Kept.{entry_is}
 use Rattle.commit.specs.declared.recovery.Opened.{Opened}
+use Rattle.commit.specs.Standing.{standing}
+use Rattle.pages.specs.Stored.{stored_reading}
 use Rattle.pages.specs.declared.stored.StoredCatalogue.{StoredCatalogue}
 use Rattle.export_book.specs.declared.book.TheConstants.{MAX_EXPORTS}
 use Rattle.export_book.specs.Book as books
@@ -39,7 +41,9 @@ use Rattle.store.specs.declared.store.Store.{Store}
 use Rattle.store_runs.specs.Calls.{PlainCall, open_export_call, export_next_call, close_export_call, PlainReply, done, export_is, piece_is, refused, is_device_reply}
 use Rattle.store_runs.specs.Machine.{Setting, Machine, Export, running, tables_now, Allows, pinned_by, export_at, gave, is_of}
 use Rattle.store_runs.specs.Steps.{Step, IsExportOf}
-use Rattle.store_runs.specs.Runs.{TellsFound}
+use Rattle.store_runs.specs.Runs.{TellsFound, KeepsShown, TellsExport}
+use Rattle.store_runs.specs.Carrying.{HasNoChange}
+use Rattle.store_runs.specs.laws.Snapshots.{found_last}
 use Rattle.store_runs.specs.Rooms.{TellsRoom}
 use Rattle.store_runs.specs.Held.{table_held, rows_each, rows_held, pieces_held, segment_rows}
 use Rattle.store.specs.Fits.{setting_of, StoreFits, IsSound, ExportFits, ExportsFit, book_of, commit_of, listed_in}
@@ -146,11 +150,11 @@ module _ {D : Type 0} {g : Ghosts D} (size : D → ℕ) (story : D → Story) (f
   elsewhere_told call q other = refused_elsewhere own (pinned_by m) call q (now (story old.device)) (now (story new.device)) other
 
   goes_by : (exports : List Export) (next_id : ℕ) (call : PlainCall) (reply : PlainReply) → old.halted ≡ false → is_device_reply reply ≡ false → TellsFound own reply (now (story old.device))
-      → TellsRoom own (pinned_by m) call reply (now (story old.device)) (now (story new.device)) → Step own m call reply false (changed exports next_id) → OnlyReadsDevice size story failed tells done old.device new.device
+      → TellsRoom own (pinned_by m) call reply (now (story old.device)) (now (story new.device)) → TellsExport own call reply (now (story old.device)) (changed exports next_id) → Step own m call reply false (changed exports next_id) → OnlyReadsDevice size story failed tells done old.device new.device
       → new.halted ≡ false → commit_of new ≡ commit_of old → listed_in new ≡ listed_in old → ExportsFit (synced_image (now (story old.device))) (book_of new).exports exports → (book_of new).next ≡ next_id
       → GoesOn size story failed base m call reply old new
   unfolding Allows
-  goes_by exports next_id call reply on answered found room step reads halts commit listed fit next =
+  goes_by exports next_id call reply on answered found room opens step reads halts commit listed fit next =
       let moments = reads.moments told in
       let later : now (story new.device) ≡ now (story old.device) = now_read (story old.device) (story new.device) moments in
       let stood : LeavesOnly (Allows own m) (now (story new.device)) = subst (λ (d : Disk). LeavesOnly (Allows own m) d) (sym later) fits.device.allows in
@@ -167,6 +171,7 @@ module _ {D : Type 0} {g : Ghosts D} (size : D → ℕ) (story : D → Story) (f
           tells = found;
           room = room;
           spares = λ needs. spared_reading m (story old.device) (story new.device) moments;
+          keeps = opens;
         };
         fits = fits_unwritten size story base m old new fits reads.same exports next_id (runs_on on) halts commit listed later fit next;
       }
@@ -193,7 +198,21 @@ module _ {D : Type 0} {g : Ghosts D} (size : D → ℕ) (story : D → Story) (f
       omega (arith, parts_count e.schema held.lists, each_count e.schema e.segments image held.lists held.each, length-map e.segments (λ (s : Segment). s.place.run)) in
       let means : meaning supported_codes (joined export.pieces) ≡ Ok has.0 = parts e.schema held.lists held.kept ∙ ap Ok (sym held.is) in
       let at : table_at (tables_now own m) name ≡ Some has.0 = has.2 in
-      goes_by (m.exports ++ export ∷ []) (m.next_id + 1) (open_export_call name) (export_is id) on refl tt tt (
+      let same = shown_is_synced (now (story old.device)) sound.stands.quiet.shown in
+      let kept : KeepsShown (now (story old.device)) name export (listed_in old) = record {
+        entry = e;
+        listed = found;
+        runs = refl;
+        pieces = ap (pieces_held e.schema e.segments) same ∙ fit.pieces;
+      } in
+      let shown : HasNoChange own.size (now (story old.device)) (λ k c. KeepsShown (now (story old.device)) name export c) = record {
+        commit = commit_of old;
+        catalogue = listed_in old;
+        stood = ap (standing stored_reading own.size) same ∙ sound.stands.found;
+        is = kept;
+      } in
+      goes_by (m.exports ++ export ∷ []) (m.next_id + 1) (open_export_call name) (export_is id) on refl tt tt
+      (export, found_last m.exports id export none refl, shown) (
         runs_on on,
         next,
         subst (λ (n : ℕ). n < 2 ^ 64) (sym opens.next) room.1,
@@ -235,11 +254,11 @@ module _ {D : Type 0} {g : Ghosts D} (size : D → ℕ) (story : D → Story) (f
 
       by_piece : (p : Option (List ℕ)) → PieceIs true image b b.given p → book_of new ≡ after_giving p id (book_of old) → GoesOn size story failed base m (export_next_call id) (piece_is p) old new
       by_piece None is gives =
-          goes_by m.exports m.next_id (export_next_call id) (piece_is None) on refl tt tt (runs_on on, (found.0, found.1, numbered None is), refl, refl) reads.device on_still
+          goes_by m.exports m.next_id (export_next_call id) (piece_is None) on refl tt tt tt (runs_on on, (found.0, found.1, numbered None is), refl, refl) reads.device on_still
           (ap (λ (o : Opened StoredCatalogue). o.commit) reads.kept) (ap (λ (o : Opened StoredCatalogue). catalogue_of o.catalogue.list) reads.kept)
           (subst (λ (x : PlainBook). ExportsFit image x.exports m.exports) (sym gives) sound.exports) (ap (λ (x : PlainBook). x.next) gives ∙ sound.next)
       by_piece (Some bytes) is gives =
-          goes_by (map (gave id) m.exports) m.next_id (export_next_call id) (piece_is (Some bytes)) on refl tt tt (runs_on on, (found.0, found.1, numbered (Some bytes) is), refl, refl) reads.device on_still
+          goes_by (map (gave id) m.exports) m.next_id (export_next_call id) (piece_is (Some bytes)) on refl tt tt tt (runs_on on, (found.0, found.1, numbered (Some bytes) is), refl, refl) reads.device on_still
           (ap (λ (o : Opened StoredCatalogue). o.commit) reads.kept) (ap (λ (o : Opened StoredCatalogue). catalogue_of o.catalogue.list) reads.kept)
           (subst (λ (x : PlainBook). ExportsFit image x.exports (map (gave id) m.exports)) (sym gives) (given_fits image (book_of old).exports m.exports id sound.exports)) (ap (λ (x : PlainBook). x.next) gives ∙ sound.next)
 
@@ -266,7 +285,7 @@ module _ {D : Type 0} {g : Ghosts D} (size : D → ℕ) (story : D → Story) (f
       by_state false (Some b) h at closes =
           let sound = fits.sound (runs_on h) in
           let found = fits_some image (open_at (book_of old) id) (export_at m.exports id) b (found_fits image (book_of old).exports m.exports id sound.exports) at in
-          goes_by (filter (λ (e : Export). not (is_of id e)) m.exports) m.next_id (close_export_call id) done h refl tt tt (runs_on h, subst (λ (o : Option Export). IsSome o) (sym found.1) refl, refl, refl) reads closes.on closes.commit closes.listed
+          goes_by (filter (λ (e : Export). not (is_of id e)) m.exports) m.next_id (close_export_call id) done h refl tt tt tt (runs_on h, subst (λ (o : Option Export). IsSome o) (sym found.1) refl, refl, refl) reads closes.on closes.commit closes.listed
           (subst (λ (x : PlainBook). ExportsFit image x.exports (filter (λ (e : Export). not (is_of id e)) m.exports)) (sym closes.closed) (left_fits image (book_of old).exports m.exports id sound.exports))
           (ap (λ (x : PlainBook). x.next) closes.closed ∙ sound.next)
 

@@ -196,6 +196,7 @@ module _ (size : ℕ) (version : FormatVersion) (limits : is_size size ≡ true)
           tells = some_store size (shown_image (now s0)) limits (already refl);
           room = tt;
           spares = λ needs. absurd (cc needs);
+          keeps = tt;
         }
     format_refused (errors.Damaged cause) s0 s1 f f' fresh allows grows sound quiet counts already = absurd (sound cause refl)
     format_refused errors.Device s0 s1 f f' fresh allows grows sound quiet counts already =
@@ -208,6 +209,7 @@ module _ (size : ℕ) (version : FormatVersion) (limits : is_size size ≡ true)
           tells = tt;
           room = tt;
           spares = λ needs. absurd (cc needs);
+          keeps = tt;
         }
     format_refused errors.OutOfMemory s0 s1 f f' fresh allows grows sound quiet counts already =
         let same = quiet (λ is. cc is) in
@@ -220,6 +222,7 @@ module _ (size : ℕ) (version : FormatVersion) (limits : is_size size ≡ true)
           tells = tt;
           room = tt;
           spares = λ needs. absurd (cc needs);
+          keeps = tt;
         }
 
     -- ---- one that was done
@@ -248,6 +251,7 @@ module _ (size : ℕ) (version : FormatVersion) (limits : is_size size ≡ true)
           tells = tt;
           room = tt;
           spares = λ needs. absurd (cc needs);
+          keeps = tt;
         }
 
     -- its tables are those of the settled commands, of which there are none

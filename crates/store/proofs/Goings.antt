@@ -177,6 +177,7 @@ module _ {D : Type 0} {g : Ghosts D} (size : D → ℕ) (story : D → Story) (f
           room = carried_out size story base m old sound (CommandDecides (now (story old.device)) c) change decided (Ok tt) new.opened.commit (listed_in new) s1
               (ap (standing stored_reading (size old.device)) (shown_is_synced s1 does.stands.quiet.shown) ∙ stands) carried;
           spares = λ needs. spares_in size story base m old new sound book exportable change carries;
+          keeps = tt;
         };
         fits = record {
           phase = sym (ap (λ (b : Bool). if b then halted else running) quiet);
@@ -223,6 +224,7 @@ module _ {D : Type 0} {g : Ghosts D} (size : D → ℕ) (story : D → Story) (f
           tells = tt;
           room = tt;
           spares = λ needs. spares_in size story base m old new sound book exportable change carries;
+          keeps = tt;
         };
         fits = fits_halted size story base m old new fits sized (apply_call c) wrote stopped settles;
       }

@@ -128,6 +128,7 @@ module _ (size : ℕ) (base : Tables) (m : Machine) where
         tells = tt;
         room = tt;
         spares = λ needs. absurd (cc needs);
+        keeps = tt;
       }
 
   -- after one that is refused the machine allows what it allowed
@@ -169,6 +170,7 @@ module _ (size : ℕ) (base : Tables) (m : Machine) where
         tells = ap (held_of (shown_image (now s0))) tells;
         room = tt;
         spares = λ needs. absurd (cc needs);
+        keeps = tt;
       }
   opening_refused (errors.Damaged cause) s0 s1 f f' shows allows grows tells quiet counts = absurd (not_damaged (shown_image (now s0)) cause (allows (shown_image (now s0)) shows) tells)
   opening_refused errors.Device s0 s1 f f' shows allows grows tells quiet counts =
@@ -182,6 +184,7 @@ module _ (size : ℕ) (base : Tables) (m : Machine) where
         tells = tt;
         room = tt;
         spares = λ needs. absurd (cc needs);
+        keeps = tt;
       }
   opening_refused errors.OutOfMemory s0 s1 f f' shows allows grows tells quiet counts =
       let opening = now_has {P = IsOpening (now s0)} (inl refl) grows in
@@ -194,6 +197,7 @@ module _ (size : ℕ) (base : Tables) (m : Machine) where
         tells = tt;
         room = tt;
         spares = λ needs. absurd (cc needs);
+        keeps = tt;
       }
 
   pub device_after : (s0 s1 : Story) → ShowsImage (now s0) → LeavesOnly (Allows (setting_of size base) m) (now s0) → Grows (IsOpening (now s0)) s0 s1 → LeavesOnly (Allows (setting_of size base) (shut_down m)) (now s1)

@@ -36,7 +36,7 @@ use Rattle.store.specs.Applying.{GoesOn}
 use Rattle.store_runs.specs.Reading.{IsUnread, IsDamaged, Unreads, RefusesRead, ReadsTable}
 use Rattle.store.specs.Reading.{OnlyReadsStore}
 use Rattle.store_changes.specs.laws.Named.{entry_has, entry_lacks}
-use Rattle.store.proofs.Asked.{not_less, is_running, not_running, refused_elsewhere}
+use Rattle.store.proofs.Asked.{not_less, is_running, not_running, refused_elsewhere, refused_keeps, stays_keeps}
 use Rattle.store_changes.specs.LawsBelow.{TableLaws}
 use Rattle.store_changes.specs.laws.ReadTables.{unread_not_held, damaged_not_held}
 
@@ -127,6 +127,7 @@ module _ {D : Type 0} {g : Ghosts D} (size : D → ℕ) (story : D → Story) (f
           tells = found;
           room = room;
           spares = λ needs. spared_reading m (story old.device) (story new.device) moments;
+          keeps = stays_keeps own m call reply false (now (story old.device)) step;
         };
         fits = fits_reading ends quiet reads;
       }
@@ -153,6 +154,7 @@ module _ {D : Type 0} {g : Ghosts D} (size : D → ℕ) (story : D → Story) (f
           tells = tt;
           room = refused_elsewhere own (pinned_by m) call refusals.Device (now (story old.device)) (now (story new.device)) (λ is. cc is);
           spares = λ needs. spared_reading m (story old.device) (story new.device) moments;
+          keeps = refused_keeps own call refusals.Device (now (story old.device)) (halt call false m);
         };
         fits = record {
           phase = ap (λ (b : Bool). if b then halted else running) (sym halts);

@@ -24,7 +24,7 @@ use Rattle.store.specs.declared.store.Store.{Store}
 use Rattle.store_runs.specs.Calls.{PlainCall, PlainReply, compact_call, upgrade_call, refused, counted, is_change, is_device_reply, may_be_done}
 use Rattle.store_runs.specs.Machine.{pinned_by, holds, Setting, Machine, running, halted, Allows, AllowsEach, SparesKept, meanwhile, has_written, halt}
 use Rattle.store_runs.specs.Steps.{Step}
-use Rattle.store_runs.specs.Runs.{Goes, TellsFound}
+use Rattle.store_runs.specs.Runs.{Goes, TellsFound, TellsExport}
 use Rattle.store_runs.specs.Rooms.{TellsRoom}
 use Rattle.store_runs.specs.Held.{tables_held, held_tables, held_by}
 use Rattle.pages.specs.Stored.{stored_reading}
@@ -38,7 +38,7 @@ use Rattle.store.specs.Applying.{GoesOn, EndsAs, IsKept, IsCarryingAtEachMoment,
 use Rattle.store_changes.specs.OnDisk.{HasCarried, IsOldOrCarried, IsCarrying}
 use Rattle.store_changes.specs.laws.Frame.{held_is, same_tables}
 use Rattle.store_changes.specs.laws.Synced.{own_image}
-use Rattle.store.proofs.Asked.{not_less, refused_elsewhere}
+use Rattle.store.proofs.Asked.{not_less, refused_elsewhere, refused_keeps, stays_keeps}
 use Rattle.store.proofs.StillFits.{fits_halted, fits_unwritten}
 use Rattle.store.proofs.ReadsStore.{moments_read, spared_reading}
 use Rattle.store.proofs.Spares.{spares_in, exports_on}
@@ -179,6 +179,7 @@ module _ {D : Type 0} {g : Ghosts D} (size : D → ℕ) (story : D → Story) (f
           tells = found;
           room = room;
           spares = λ needs. spares_in size story base m old new sound book exportable change carries;
+          keeps = stays_keeps s m call reply true before step;
         };
         fits = record {
           phase = on ∙ sym (ap (λ (b : Bool). if b then halted else running) quiet);
@@ -227,6 +228,7 @@ module _ {D : Type 0} {g : Ghosts D} (size : D → ℕ) (story : D → Story) (f
           tells = tt;
           room = refused_elsewhere s (pinned_by m) call refusals.Device before s1 (λ is. cc is);
           spares = λ needs. spares_in size story base m old new sound book exportable change carries;
+          keeps = refused_keeps s call refusals.Device before next;
         };
         fits = fits_halted size story base m old new fits sized call wrote stopped settles;
       }
@@ -248,6 +250,7 @@ module _ {D : Type 0} {g : Ghosts D} (size : D → ℕ) (story : D → Story) (f
           tells = tt;
           room = room;
           spares = λ needs. spared_reading m (story old.device) (story new.device) moments;
+          keeps = refused_keeps s call r before m;
         };
         fits = fits_unwritten size story base m old new fits sized m.exports m.next_id on quiet kept.0 kept.1 disk
             (subst (λ (b : PlainBook). ExportsFit (synced_image (now (story old.device))) b.exports m.exports) (sym book) sound.exports) (ap (λ (b : PlainBook). b.next) book ∙ sound.next);
@@ -290,6 +293,7 @@ module _ {D : Type 0} {g : Ghosts D} (size : D → ℕ) (story : D → Story) (f
           room = subst (λ (d : Disk). TellsRoom s (pinned_by m) call reply d (now (story new.device))) later own.room;
           spares = λ needs. goes_on (spared_reading m (story old.device) (story mid.device) moments)
               (subst (λ (d : Disk). Grows (SparesKept m d) (story mid.device) (story new.device)) later (own.spares needs));
+          keeps = subst (λ (d : Disk). TellsExport s call reply d goes.next) later own.keeps;
         };
         fits = goes.fits;
       }

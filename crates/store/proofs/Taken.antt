@@ -114,13 +114,13 @@ module _ {D : Type 0} {g : Ghosts D} (size : D → ℕ) (story : D → Story) (f
   unfolding Step
   as_stream base m old new (Ok unit) goes =
       let own = goes.goes in
-      record { next = goes.next; same = goes.same; goes = record { step = own.step; moments = own.moments; settles = own.settles; quiet = own.quiet; counts = own.counts; tells = own.tells; room = own.room; spares = own.spares }; fits = goes.fits }
+      record { next = goes.next; same = goes.same; goes = record { step = own.step; moments = own.moments; settles = own.settles; quiet = own.quiet; counts = own.counts; tells = own.tells; room = own.room; spares = own.spares; keeps = tt }; fits = goes.fits }
   as_stream base m old new (Err r) goes =
       let own = goes.goes in
       record {
         next = goes.next;
         same = goes.same;
-        goes = record { step = stream_step _ m c r _ goes.next own.step; moments = own.moments; settles = own.settles; quiet = own.quiet; counts = own.counts; tells = own.tells; room = own.room; spares = own.spares };
+        goes = record { step = stream_step _ m c r _ goes.next own.step; moments = own.moments; settles = own.settles; quiet = own.quiet; counts = own.counts; tells = own.tells; room = own.room; spares = own.spares; keeps = tt };
         fits = goes.fits;
       }
 

@@ -41,6 +41,7 @@ use Rattle.store_runs.specs.Digesting.{IsUpgrade, StopsReading}
 use Rattle.store_changes.specs.LawsBelow.{TableLaws}
 use Rattle.store_changes.specs.ReadSegment.{FailsReading}
 use Rattle.store_changes.specs.laws.Named.{entry_has}
+use Rattle.store_changes.specs.laws.Digested.{segments_of, AreDigests, all_are_digests}
 use Rattle.store.specs.laws.Upgraded.{digests_number, segments_number, digests_are, digests_each, digested_listed}
 use Rattle.store.proofs.Asked.{not_running, still}
 use Rattle.store.proofs.Applied.{refused_by}
@@ -57,14 +58,17 @@ use Rattle.store.proofs.Stepped.{halts_by}
 -- ---- the change
 
 module _ (tells : Bool) (image : Image) (c : PlainCatalogue) (change : PlainChange) (u : IsUpgrade tells image c change) where
+  own : AreDigests tells image (segments_of c) u.digests
+  own = all_are_digests tells image c u.digests u.own
+
   -- as many digests as segments
   number : length u.digests ≡ segment_count c
-  number = digests_number tells image _ u.digests u.own ∙ segments_number c
+  number = digests_number tells image _ u.digests own ∙ segments_number c
 
   pub can_upgrade : CanChange c change
   can_upgrade short =
       subst (IsChange c) (sym u.is)
-      (record { edit = (number, digests_are tells image _ u.digests u.own, refl); each = refl; some = tt; short = tt; rows = refl })
+      (record { edit = (number, digests_are tells image _ u.digests own, refl); each = refl; some = tt; short = tt; rows = refl })
 
   -- there are no more segments than before
   pub upgrade_few : (v : FormatVersion) → IsCatalogue c → segment_count (outline v c change) ≤ MAX_SEGMENTS
@@ -75,7 +79,7 @@ module _ (tells : Bool) (image : Image) (c : PlainCatalogue) (change : PlainChan
   pub upgrade_keeps : tells ≡ true → IsCatalogue c → (other : Image) → ((n : ℕ) → InSome (runs_of c) n → other n ≡ image n) → (others : List Segment) → HoldsStreams other others change.streams change.counts
       → HoldsAlike other c (edited c change.edit others)
   upgrade_keeps told k other same others holds =
-      subst (λ (x : PlainChange). HoldsAlike other c (edited c x.edit others)) (sym u.is) (digests_each tells told image other c u.digests k same u.own)
+      subst (λ (x : PlainChange). HoldsAlike other c (edited c x.edit others)) (sym u.is) (digests_each tells told image other c u.digests k same own)
 
   -- on any device each table is listed as before
   pub upgrade_listed : (size : ℕ) (used : Run → Type 0) (k k' : Commit) (c' : PlainCatalogue) → IsCarried size used k c change (Ok tt) k' c' → each_listed c' ≡ each_listed c

@@ -44,7 +44,7 @@ pub use beginning::{crashed_devices_are_left, devices_fit, left_devices_fit, new
 pub use call::{Call, Reply, StoreOrDevice};
 pub use commit::{Cause, FormatVersion, OpeningRefusal};
 pub use input::read_at_most;
-pub use laws::used_runs_are_named;
+pub use laws::{segments_have_digests, used_runs_are_named};
 pub use pages::StoredCatalogue;
 pub use running::{answer, run};
 pub use salvaging::LeftOut;

@@ -2,10 +2,11 @@
 ghost use Rattle.std.specs.Prelude.{◌≡◌, ◌∷◌, [], true, None};
 ghost use Rattle.commit.specs.Standing.{is_size, is_on_device, runs_fault};
 ghost use Rattle.commit.specs.Placing.{Uses};
-ghost use Rattle.catalogue.specs.Entries.{runs_of};
+ghost use Rattle.catalogue.specs.Entries.{runs_of, has_form};
 ghost use Rattle.catalogue.specs.View.{catalogue_of};
 ghost use Rattle.export_book.specs.Book.{runs_kept};
 ghost use Rattle.export_book.specs.View.{book_of};
+ghost use Rattle.pages.specs.Stored.{form_of};
 ghost use Rattle.store.specs.Exported.{AreExportable, exportable_prop};
 
 use crate::OpeningRefusal;
@@ -28,6 +29,8 @@ pub struct Store<D: SectorDevice> {
     ghost own: { opened.commit.device_sectors ≡ D.size device },
     ghost fit: { runs_fault (D.size device) opened.commit.catalogue.run (runs_of (catalogue_of opened.catalogue.list)) ≡ None },
     ghost placed: { is_on_device (D.size device) opened.commit.catalogue.run ≡ true },
+    // Each segment has a digest exactly if the version has digests, on any device.
+    ghost form: { has_form (form_of opened.commit.version) (catalogue_of opened.catalogue.list) ≡ true },
     ghost uses: { Uses opened.map.entries (opened.commit.catalogue.run ∷ runs_of (catalogue_of opened.catalogue.list)) (runs_kept (book_of book).exports) },
     ghost exported: { AreExportable (D.size device) (book_of book).exports } by { exportable_prop (D.size device) (book_of book).exports },
 }

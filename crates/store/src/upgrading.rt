@@ -1,11 +1,9 @@
 // Upgrades a store of version 1 to version 2: its segments get digests.
-ghost use Rattle.std.specs.Prelude.{◌≡◌, ◌≢◌, ◌↔◌, ℕ, true, false, Some, slice_get, Ok, Err, IfOk, IfErr};
+ghost use Rattle.std.specs.Prelude.{◌≡◌, ◌≢◌, ◌↔◌, true, false, Ok, Err, IfOk, IfErr};
 ghost use Rattle.sector_dev.specs.Disk.{now, shown_image};
 ghost use Rattle.sector_dev.specs.Time.{OnlyReads};
-ghost use Rattle.cells.specs.Cell.{PlainTable};
-ghost use Rattle.catalogue.specs.Entries.{PlainEntry};
-ghost use Rattle.store_runs.specs.Reading.{IsRead, ended};
-ghost use Rattle.store_runs.specs.Digesting.{segments_of, AreDigests, StopsReading};
+ghost use Rattle.store_runs.specs.Reading.{ended};
+ghost use Rattle.store_runs.specs.Digesting.{AllDigested, StopsReading};
 
 use crate::Store;
 use crate::reading::halts;
@@ -35,14 +33,12 @@ impl<D: SectorDevice> Store<D> {
     ghost use Rattle.store.specs.Applying.{GoesOn, IsKept, KeepsEachTable};
     ghost use Rattle.store.specs.Upgrading.{upgrade_reply, upgrade_ended, HasUpgraded, RefusesUpgrade, IsUpgradingAtEachMoment, HasUpgradedOnDisk};
 
-    // Returns the digests of all segments. Only reads.
+    // Returns the digests of all segments, each of which is read once. Only reads.
     fn find_digests(&mut self, alloc: Global) -> Result<Vec<[u8; 32]>, Refusal>
         requires on { self.old.halted ≡ false }
         ensures reads { OnlyReadsStore D.size D.story D.failed D.tells (ended result) self.old self.new }
-        ensures read { IfOk result (λ digests. (number : ℕ) (e : PlainEntry) → slice_get (listed_in self.old) number ≡ Some e
-            → (table : PlainTable) × IsRead D.tells (shown_image (now (D.story (device_of self.old)))) e table) }
-        ensures found { IfOk result (λ digests. AreDigests D.tells (shown_image (now (D.story (device_of self.old)))) (segments_of (listed_in self.old))
-            digests.items) }
+        ensures found { IfOk result (λ digests. AllDigested D.tells (shown_image (now (D.story (device_of self.old))))
+            (listed_in self.old) digests.items) }
         ensures stops { IfErr result (StopsReading D.tells (shown_image (now (D.story (device_of self.old)))) (listed_in self.old)) }
     {
         let opened = &self.opened;
@@ -52,9 +48,9 @@ impl<D: SectorDevice> Store<D> {
         digests
     }
 
-    /// Upgrades a store of version 1 to version 2: reads all tables, computes the SHA-256 of the bytes of each segment, and publishes a catalogue with these
-    /// digests. No segment is moved or written again. The tables stay the same at each moment. A store of version 2 stays as it is, without a call of the
-    /// device.
+    /// Upgrades a store of version 1 to version 2: reads all tables, each segment once, computes the SHA-256 of the bytes
+    /// of each segment, and publishes a catalogue with these digests. No segment is moved or written again. The tables
+    /// stay the same at each moment. A store of version 2 stays as it is, without a call of the device.
     ///
     /// # Errors
     /// `Halted` after a failure of the device; `SegmentUnread` for the first table that can't be read, as in [`Store::read`]; `Device`, after which the
@@ -66,7 +62,8 @@ impl<D: SectorDevice> Store<D> {
             → GoesOn D.size D.story D.failed base m upgrade_call (upgrade_reply upgraded) self.old self.new) }
         ensures refused { IfErr result (λ e. D.tells ≡ true → (base : Tables) (m : Machine) → StoreFits D.size D.story base m self.old
             → GoesOn D.size D.story D.failed base m upgrade_call (refused e) self.old self.new) }
-        // On any store and any device, the digests are those of the bytes that reads gave of its segments. Each refusal has one reason.
+        // On any store and any device, the digests are those of the bytes that the rows of its tables were read from.
+        // Each refusal has one reason.
         ensures upgraded { IfOk result (λ upgraded. HasUpgraded D.size D.story D.tells self.old upgraded self.new) }
         ensures told { IfErr result (λ e. RefusesUpgrade D.size D.story D.tells (is_halted self.old) self.old e self.new) }
         ensures already { is_halted self.old ≡ false → (commit_of self.old).version ≡ Two → result ≡ Ok Upgraded.Already }

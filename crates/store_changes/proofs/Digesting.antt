@@ -1,52 +1,102 @@
--- The digests of segments, one after another.
-use Rattle.std.specs.Prelude.{◌≡◌, ◌<◌, ◌+◌, ◌++◌, ℕ, zero, suc, Bool, true, false, List, [], ◌∷◌, length, take, get_or, slice_get, map, Some, None, refl}
-use Rattle.std.proofs.Common.{inl, inr, ⊎_elim, sym, ap, ◌∙◌, subst, arith}
+-- The digests of the segments of a table, and of all tables, one after another.
+use Rattle.std.specs.Prelude.{◌≡◌, ◌<◌, ◌+◌, ◌++◌, ℕ, zero, suc, Bool, true, List, [], ◌∷◌, length, take, get_or, slice_get, map, Some, refl}
+use Rattle.std.proofs.Common.{⊎_elim, sym, ap, ◌∙◌, subst, arith, append-nil, append_assoc}
 use Rattle.std.proofs.lemmas.List.{take_more, map-append}
-use Rattle.facts.specs.laws.Lists.{flat_map-push}
+use Rattle.facts.specs.laws.Lists.{take-item}
 use Rattle.sha2.specs.Sha256.{sha256}
 use Rattle.sector_dev.specs.Disk.{Image}
-use Rattle.cells.specs.Cell.{PlainTable}
+use Rattle.arrow_schema.specs.Column.{PlainSchema}
+use Rattle.cells.specs.Cell.{Cell, PlainTable}
 use Rattle.catalogue.specs.declared.entry.Segment.{Segment}
 use Rattle.catalogue.specs.declared.entry.TableEntry.{TableEntry}
 use Rattle.catalogue.specs.Entries.{PlainEntry, PlainCatalogue, plain_entry}
 use Rattle.tables.specs.declared.refusal.Refusal.{Refusal}
 use Rattle.tables.specs.declared.refusal.Refusal.TheVariants as refusals
-use Rattle.store_runs.specs.Held.{is_undamaged, bytes_of}
-use Rattle.store_runs.specs.Reading.{IsCopy, LacksBytes, IsUnread, IsDamaged, IsRead, Unreads}
-use Rattle.store_runs.specs.Digesting.{segments_of, AreDigests, AreRead}
-use Rattle.store_changes.specs.inner.Digesting.{LacksCopy}
+use Rattle.store_runs.specs.Reading.{HasRead, IsUnread, IsDamaged, IsRead, Unreads}
+use Rattle.store_runs.specs.Digesting.{AreDigested, IsDigested, AllDigested, AreRead}
+use Rattle.store_changes.specs.inner.ReadRows.{ReadsNext}
 use Rattle.store_changes.specs.laws.Digests.{copy_then}
-use Rattle.store_changes.proofs.StepFound.{last_then, below_or_at}
-use Rattle.store_changes.proofs.Undamaged.{read_at}
+use Rattle.store_changes.proofs.StepFound.{below_or_at, read_then}
 
--- ---- one more
+-- ---- one segment more
 
-pub digests_behind : (tells : Bool) (image : Image) (a b : List Segment) (ds es : List (List ℕ)) → AreDigests tells image a ds → AreDigests tells image b es → AreDigests tells image (a ++ b) (ds ++ es)
-digests_behind tells image [] b ds es none more = subst (λ (xs : List (List ℕ)). AreDigests tells image b (xs ++ es)) (sym none) more
-digests_behind tells image (g ∷ gs) b [] es are more = absurd are
-digests_behind tells image (g ∷ gs) b (d ∷ ds) es are more = (are.0, digests_behind tells image gs b ds es are.1 more)
+push_digest : (tells : Bool) (image : Image) (schema : PlainSchema) (gs : List Segment) (g : Segment) (rows own : List (List Cell)) (ds : List (List ℕ)) (d : List ℕ)
+    → AreDigested tells image schema gs rows ds → (read : HasRead tells image schema g own) → d ≡ sha256 read.bytes
+    → AreDigested tells image schema (gs ++ g ∷ []) (rows ++ own) (ds ++ d ∷ [])
+push_digest tells image schema [] g rows own ds d none read is =
+    subst (λ (xs : List (List ℕ)). AreDigested tells image schema (g ∷ []) (rows ++ own) (xs ++ d ∷ [])) (sym none.1)
+    (own, [], read, is, (refl, refl), ap (λ (xs : List (List Cell)). xs ++ own) none.0 ∙ sym (append-nil own))
+push_digest tells image schema (x ∷ xs) g rows own [] d are read is = absurd are
+push_digest tells image schema (x ∷ xs) g rows own (y ∷ ys) d (first, others, first_read, first_is, later, all) read is = (
+  first,
+  others ++ own,
+  first_read,
+  first_is,
+  push_digest tells image schema xs g others own ys d later read is,
+  ap (λ (zs : List (List Cell)). zs ++ own) all ∙ append_assoc first others own,
+)
 
-pub digests_more : (tells : Bool) (image : Image) (segments : List Segment) (place : ℕ) (g : Segment) (ds new : List (List ℕ)) (bytes d : List ℕ) → place < length segments → g ≡ get_or segments place g → AreDigests tells image (take place segments) ds
-    → IsCopy tells image g bytes → d ≡ sha256 bytes → new ≡ ds ++ d ∷ [] → AreDigests tells image (take (place + 1) segments) new
-digests_more tells image segments place g ds new bytes d inside is are copy own pushed =
-    let taken : take (place + 1) segments ≡ take place segments ++ g ∷ [] = take_more segments place g inside ∙ ap (λ (x : Segment). take place segments ++ x ∷ []) (sym is) in
-    subst (λ (xs : List (List ℕ)). AreDigests tells image (take (place + 1) segments) xs) (sym pushed)
-    (subst (λ (gs : List Segment). AreDigests tells image gs (ds ++ d ∷ [])) (sym taken) (digests_behind tells image (take place segments) (g ∷ []) ds (d ∷ []) are ((bytes, copy, own), refl)))
+-- what was read of a segment, as it was shown before: the same bytes
+abbrev earlier : (tells : Bool) (a b : Image) → (tells ≡ true → b ≡ a) → (schema : PlainSchema) (g : Segment) (rows : List (List Cell)) → HasRead tells b schema g rows
+    → HasRead tells a schema g rows
+earlier tells a b same schema g rows r = record { bytes = r.bytes; copy = copy_then tells a b same g r.bytes r.copy; means = r.means }
 
--- the segments of the tables so far, and those of the next one
-pub segments_more : (es : List TableEntry) (i : ℕ) (e : TableEntry) → i < length es → e ≡ get_or es i e
-    → segments_of (map plain_entry (take (i + 1) es)) ≡ segments_of (map plain_entry (take i es)) ++ (plain_entry e).segments
-segments_more es i e lt is =
-    ap (λ (xs : List TableEntry). segments_of (map plain_entry xs)) (take_more es i e lt ∙ ap (λ (x : TableEntry). take i es ++ x ∷ []) (sym is))
-    ∙ ap segments_of (map-append plain_entry (take i es) (e ∷ [])) ∙ flat_map-push (λ (x : PlainEntry). x.segments) (map plain_entry (take i es)) (plain_entry e)
+-- a segment after those before it, whatever image it was read from later
+module _ (tells : Bool) (image other : Image) (same : tells ≡ true → other ≡ image) (s : PlainSchema) (segments : List Segment) (place : ℕ) (segment : Segment) (inside : place < length segments) (at : segment ≡ get_or segments place segment) where
+  pub digested_step : (rows all : List (List Cell)) (ds new : List (List ℕ)) (d : List ℕ) → AreDigested tells image s (take place segments) rows ds
+      → (next : ReadsNext tells other s rows segment all) → d ≡ sha256 next.read.bytes → new ≡ ds ++ d ∷ []
+      → AreDigested tells image s (take (place + 1) segments) all new
+  digested_step rows all ds new d so_far next is pushed =
+      let own = next.own in
+      let read : HasRead tells image s segment own = earlier tells image other same s segment own next.read in
+      subst (AreDigested tells image s (take (place + 1) segments) all) (sym pushed)
+      (subst (λ (gs : List Segment). AreDigested tells image s gs all (ds ++ d ∷ [])) (sym (take-item segments place segment inside at))
+      (subst (λ (rs : List (List Cell)). AreDigested tells image s (take place segments ++ segment ∷ []) rs (ds ++ d ∷ [])) (sym next.is)
+      (push_digest tells image s (take place segments) segment rows own ds d so_far read is)))
+
+-- ---- one table more
+
+push_table : (tells : Bool) (image : Image) (c : PlainCatalogue) (e : PlainEntry) (ds own : List (List ℕ)) → AllDigested tells image c ds
+    → IsDigested tells image e own → AllDigested tells image (c ++ e ∷ []) (ds ++ own)
+push_table tells image [] e ds own none one = (own, [], one, refl, ap (λ (xs : List (List ℕ)). xs ++ own) none ∙ sym (append-nil own))
+push_table tells image (x ∷ xs) e ds own (first, others, first_is, later, all) one = (
+  first,
+  others ++ own,
+  first_is,
+  push_table tells image xs e others own later one,
+  ap (λ (ys : List (List ℕ)). ys ++ own) all ∙ append_assoc first others own,
+)
+
+-- the tables so far, and the next one
+entries_more : (es : List TableEntry) (i : ℕ) (e : TableEntry) → i < length es → e ≡ get_or es i e
+    → map plain_entry (take (i + 1) es) ≡ map plain_entry (take i es) ++ plain_entry e ∷ []
+entries_more es i e lt is =
+    ap (map plain_entry) (take_more es i e lt ∙ ap (λ (x : TableEntry). take i es ++ x ∷ []) (sym is)) ∙ map-append plain_entry (take i es) (e ∷ [])
+
+pub all_digested_more : (tells : Bool) (image : Image) (es : List TableEntry) (i : ℕ) (e : TableEntry) (ds new own : List (List ℕ)) → i < length es
+    → e ≡ get_or es i e → AllDigested tells image (map plain_entry (take i es)) ds → IsDigested tells image (plain_entry e) own → new ≡ ds ++ own
+    → AllDigested tells image (map plain_entry (take (i + 1) es)) new
+all_digested_more tells image es i e ds new own lt is so_far one pushed =
+    subst (AllDigested tells image (map plain_entry (take (i + 1) es))) (sym pushed)
+    (subst (λ (c : PlainCatalogue). AllDigested tells image c (ds ++ own)) (sym (entries_more es i e lt is))
+    (push_table tells image (map plain_entry (take i es)) (plain_entry e) ds own so_far one))
 
 -- ---- what reads show stays
 
 module _ (tells : Bool) (a b : Image) (same : tells ≡ true → b ≡ a) where
-  pub digests_then : (gs : List Segment) (ds : List (List ℕ)) → AreDigests tells b gs ds → AreDigests tells a gs ds
-  digests_then [] ds none = none
-  digests_then (g ∷ gs) [] are = absurd are
-  digests_then (g ∷ gs) (d ∷ ds) are = ((are.0.0, copy_then tells a b same g are.0.0 are.0.1, are.0.2), digests_then gs ds are.1)
+  digested_then : (schema : PlainSchema) (gs : List Segment) (rows : List (List Cell)) (ds : List (List ℕ)) → AreDigested tells b schema gs rows ds
+      → AreDigested tells a schema gs rows ds
+  digested_then schema [] rows ds none = none
+  digested_then schema (g ∷ gs) rows [] are = absurd are
+  digested_then schema (g ∷ gs) rows (d ∷ ds) (own, others, read, is, later, all) =
+      (own, others, earlier tells a b same schema g own read, is, digested_then schema gs others ds later, all)
+
+  pub is_digested_then : (e : PlainEntry) (ds : List (List ℕ)) → IsDigested tells b e ds → IsDigested tells a e ds
+  is_digested_then e ds one = record {
+    table = one.table;
+    read = read_then tells a b same e one.table one.read;
+    own = digested_then e.schema e.segments one.table.rows ds one.own;
+  }
 
   pub unreads_then : (e : PlainEntry) (r : Refusal) → Unreads tells b e r → Unreads tells a e r
   unreads_then e refusals.Device u = tt
@@ -54,45 +104,6 @@ module _ (tells : Bool) (a b : Image) (same : tells ≡ true → b ≡ a) where
   unreads_then e (refusals.SegmentUnread place) u = (u.0, λ told. subst (λ (i : Image). IsUnread i e place) (same told) (u.1 told))
   unreads_then e (refusals.SegmentDamaged place) u = (u.0, λ told. subst (λ (i : Image). IsDamaged i e place) (same told) (u.1 told))
   unreads_then e _ u = absurd u
-
-  pub lacks_then : (gs : List Segment) (r : Refusal) → LacksCopy tells b gs r → LacksCopy tells a gs r
-  lacks_then gs r (inl memory) = inl memory
-  lacks_then gs r (inr (place, g, at, lacks)) = inr (place, g, at, last_then tells a b same g place r lacks)
-
--- ---- a table that was read
-
-inside_of : (gs : List Segment) (place : ℕ) (g : Segment) → slice_get gs place ≡ Some g → place < length gs
-inside_of [] place g at = absurd (cc at)
-inside_of (x ∷ xs) zero g at = omega arith
-inside_of (x ∷ xs) (suc place) g at = let more = inside_of xs place g at in omega (arith, more)
-
-module _ (tells : Bool) (image : Image) (e : PlainEntry) (table : PlainTable) (read : IsRead tells image e table) where
-  -- no segment of it can be unread, or damaged, when it is read again
-  pub lacks_none : (r : Refusal) → LacksCopy tells image e.segments r → Unreads tells image e r
-  lacks_none r (inl memory) = subst (λ (q : Refusal). Unreads tells image e q) (sym memory) tt
-  lacks_none r (inr (place, g, at, lacks)) = by_refusal r lacks
-    where
-      bytes : List ℕ
-      bytes = (read_at tells image e.schema e.segments table.rows place g read.read at).1.bytes
-
-      copy : IsCopy tells image g bytes
-      copy = (read_at tells image e.schema e.segments table.rows place g read.read at).1.copy
-
-      not_unread : tells ≡ true → bytes_of g image ≡ None → ⊥
-      not_unread told none = let both : None ≡ Some bytes = sym none ∙ copy.held told in cc both
-
-      not_damaged : tells ≡ true → is_undamaged g.digest (bytes_of g image) ≡ false → ⊥
-      not_damaged told damaged = let both : true ≡ false = sym copy.undamaged ∙ sym (ap (is_undamaged g.digest) (copy.held told)) ∙ damaged in cc both
-
-      inside : place < length e.segments
-      inside = inside_of e.segments place g at
-
-      by_refusal : (q : Refusal) → LacksBytes tells image g place q → Unreads tells image e q
-      by_refusal refusals.Device u = tt
-      by_refusal refusals.OutOfMemory u = tt
-      by_refusal (refusals.SegmentUnread other) u = (subst (λ (n : ℕ). n < length e.segments) (sym u.0) inside, λ told. absurd (not_unread told (u.1 told)))
-      by_refusal (refusals.SegmentDamaged other) u = (subst (λ (n : ℕ). n < length e.segments) (sym u.0) inside, λ told. absurd (not_damaged told (u.1 told)))
-      by_refusal _ u = absurd u
 
 -- ---- the first n tables
 
@@ -104,9 +115,3 @@ tables_more tells image c count x at read next number e lt found =
     let same : x ≡ e = cc both in
     subst (λ (y : PlainEntry). (table : PlainTable) × IsRead tells image y table) same next)
     (below_or_at number count lt)
-
--- a place that an entry has is one of the list
-pub inside_map : (entries : List TableEntry) (number : ℕ) (e : PlainEntry) → slice_get (map plain_entry entries) number ≡ Some e → number < length entries
-inside_map [] number e at = absurd (cc at)
-inside_map (x ∷ xs) zero e at = omega arith
-inside_map (x ∷ xs) (suc number) e at = let more = inside_map xs number e at in omega (arith, more)

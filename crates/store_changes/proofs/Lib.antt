@@ -7,6 +7,7 @@ mod Verdicts
 mod SurelyLight
 mod MoreRows
 mod Undamaged
+mod SegmentBytes
 mod Streamed
 mod StepFound
 mod Digesting

@@ -1,5 +1,5 @@
 -- A change to publish: its runs are taken, and its plan is made.
-use Rattle.std.specs.Prelude.{◌≡◌, ◌≤◌, ◌+◌, ℕ, List, [], ◌∷◌, ◌++◌, length, Ok}
+use Rattle.std.specs.Prelude.{◌≡◌, ◌≤◌, ◌+◌, ℕ, true, List, [], ◌∷◌, ◌++◌, length, Ok}
 use Rattle.sector_dev.specs.Disk.{Image}
 use Rattle.segments.specs.declared.errors.TakeError.{TakeError}
 use Rattle.segments.specs.declared.errors.TakeError.TheVariants as takings
@@ -11,7 +11,7 @@ use Rattle.segments.specs.Writing.{runs_of, HoldsEach}
 use Rattle.arrow_schema.specs.Limits.{IsWithinLimits}
 use Rattle.catalogue.specs.declared.limits.TheConstants.{MAX_SEGMENTS}
 use Rattle.catalogue.specs.declared.entry.Segment.{Segment}
-use Rattle.catalogue.specs.Entries.{PlainEntry, PlainCatalogue, segment_count, runs_of as catalogue_runs}
+use Rattle.catalogue.specs.Entries.{PlainEntry, PlainCatalogue, segment_count, has_form, runs_of as catalogue_runs}
 use Rattle.catalogue.specs.View.{catalogue_of}
 use Rattle.commit.specs.declared.sector.Commit.{Commit}
 use Rattle.commit.specs.declared.sector.FormatVersion.{FormatVersion}
@@ -77,6 +77,7 @@ pub record IsPrepared (old new : Space) (k : Commit) (c : PlainCatalogue) (chang
   pub whole : plain_pieces plan.pieces.items ≡ (pieces ++ pages) ++ record { run = run; bytes = text } ∷ []
   pub runs : plan.runs.items ≡ runs_of (pieces ++ pages) ++ run ∷ []
   pub catalogue : catalogue_of plan.catalogue.list ≡ settled (unpaged k.version c change (runs_of pieces)) (runs_of pages)
+  pub form : has_form (form_of k.version) c ≡ true → has_form (form_of (version_after change.edit k.version)) (catalogue_of plan.catalogue.list) ≡ true
   pub size : length text ≡ text_size (outline k.version c change)
   pub commit : plan.commit ≡ commit_placed k c change run
   pub gives : back ≡ given_up c change.edit (unplaced k.version change.streams change.counts) ++ (dropped_pages (outline k.version c change) ++ k.catalogue.run ∷ [])

@@ -1,5 +1,6 @@
 pub mod Synced
 pub mod Digests
+pub mod Digested
 pub mod Frame
 pub mod Named
 pub mod Listed

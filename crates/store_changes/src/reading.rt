@@ -1,7 +1,7 @@
 // Reads a table from the segments of its entry.
-ghost use Rattle.std.specs.Prelude.{◌≡◌, ◌≤◌, ◌+◌, ℕ, true, List, [], Option, Some, None, length, option_map, IfOk, IfErr, IfSome};
+ghost use Rattle.std.specs.Prelude.{◌≡◌, ◌≤◌, ◌+◌, ℕ, Bool, true, false, List, [], Option, Some, None, length, option_map, IfOk, IfErr, IfSome};
 ghost use Rattle.std.specs.List.{list_all};
-ghost use Rattle.sector_dev.specs.Disk.{now, shown_image};
+ghost use Rattle.sector_dev.specs.Disk.{Image, now, shown_image};
 ghost use Rattle.arrow_schema.specs.Column.{PlainSchema};
 ghost use Rattle.arrow_schema.specs.Limits.{IsWithinLimits};
 ghost use Rattle.arrow_schema.specs.View.{schema_of};
@@ -12,6 +12,7 @@ ghost use Rattle.ipc_write.specs.Written.{schema_message};
 ghost use Rattle.segments.specs.declared.extent.Extent.{Extent};
 ghost use Rattle.catalogue.specs.Entries.{is_segment, is_entry, plain_entry, runs_in_segments};
 ghost use Rattle.commit.specs.Standing.{is_size, is_on_device, all_on_device};
+ghost use Rattle.store_runs.specs.Calls.{is_failure};
 ghost use Rattle.store_runs.specs.Held.{is_undamaged, rows_in_bytes};
 ghost use Rattle.store_runs.specs.Reading.{IsCopy, LacksBytes, HasRead, LacksRows, IsRead, Unreads, OnlyReadsDevice, ended};
 ghost use Rattle.store_changes.specs.inner.ReadRows.{ReadsRows, ReadsNext};
@@ -110,6 +111,37 @@ fn table_in_bytes(
     }
 }
 
+// Returns the table in bytes that were read of the segment at this place, if they begin with `front`.
+fn segment_in_bytes(
+    alloc: Global,
+    front: &[u8],
+    segment: Segment,
+    place: usize,
+    bytes: Vec<u8>,
+) -> Result<WeighedTable, Refusal>
+    ensures means { IfOk result (λ w. table_in_bytes front.now segment.rows (Some bytes.items)
+        ≡ Some (table_of w.table)) }
+    ensures rows { IfOk result (λ w. (s : PlainSchema) → front.now ≡ schema_message s
+        → rows_in_bytes s segment.rows (Some bytes.items) ≡ Some (table_of w.table).rows) }
+    ensures schema { IfOk result (λ w. (s : PlainSchema) → IsWithinLimits s → front.now ≡ schema_message s
+        → (table_of w.table).schema ≡ s) }
+    ensures weight { IfOk result (λ w. w.weight ≡ table_weight (table_of w.table).schema (table_of w.table).rows) }
+    ensures count { IfOk result (λ w. length (table_of w.table).rows ≡ segment.rows) }
+    ensures in_parts { IfOk result (λ w. is_in_parts w.table ≡ true) }
+    // Of these bytes alone: no device has failed.
+    ensures quiet { IfErr result (λ e. is_failure e ≡ false) }
+    ensures lacks { IfErr result (λ e. (tells : Bool) (image : Image) → IsCopy tells image segment bytes.items
+        → LacksTable (λ found. found ≡ None) tells image front.now segment place e) }
+    ensures told { IfErr result (λ e. (tells : Bool) (image : Image) (s : PlainSchema)
+        → IsCopy tells image segment bytes.items → front.now ≡ schema_message s → LacksRows tells image s segment place e) }
+{
+    match table_in_bytes(alloc, front, segment.rows, bytes) {
+        Ok(Some(weighed)) => Ok(weighed),
+        Ok(None) => Err(Refusal::SegmentUnread(place)),
+        Err(refusal) => Err(refusal),
+    }
+}
+
 /// Reads the table of the segment at this place, if it begins with `front`: the message of its schema, or any bytes.
 ///
 /// # Errors
@@ -138,11 +170,48 @@ pub fn read_segment<D: SectorDevice>(
         → LacksRows D.tells (shown_image (now (D.story device.old))) s segment place e) }
 {
     match read_bytes(alloc, device, segment, place) {
-        Ok(bytes) => match table_in_bytes(alloc, front, segment.rows, bytes) {
-            Ok(Some(weighed)) => Ok(weighed),
-            Ok(None) => Err(Refusal::SegmentUnread(place)),
-            Err(refusal) => Err(refusal),
-        },
+        Ok(bytes) => segment_in_bytes(alloc, front, segment, place, bytes),
+        Err(refusal) => Err(refusal),
+    }
+}
+
+// Returns the table in bytes that were read of the segment at this place of a table, whose rows before it weigh `before`.
+// All rows up to its end have to be light enough for a table.
+pub(crate) fn next_in_bytes(
+    alloc: Global,
+    front: &[u8],
+    segment: Segment,
+    place: usize,
+    before: u64,
+    bytes: Vec<u8>,
+) -> Result<WeighedTable, Refusal>
+    requires light { before ≤ MAX_TABLE_WEIGHT }
+    ensures means { IfOk result (λ w. table_in_bytes front.now segment.rows (Some bytes.items)
+        ≡ Some (table_of w.table)) }
+    ensures rows { IfOk result (λ w. (s : PlainSchema) → front.now ≡ schema_message s
+        → rows_in_bytes s segment.rows (Some bytes.items) ≡ Some (table_of w.table).rows) }
+    ensures schema { IfOk result (λ w. (s : PlainSchema) → IsWithinLimits s → front.now ≡ schema_message s
+        → (table_of w.table).schema ≡ s) }
+    ensures weight { IfOk result (λ w. w.weight ≡ table_weight (table_of w.table).schema (table_of w.table).rows) }
+    ensures count { IfOk result (λ w. length (table_of w.table).rows ≡ segment.rows) }
+    ensures in_parts { IfOk result (λ w. is_in_parts w.table ≡ true) }
+    ensures light { IfOk result (λ w. before + w.weight ≤ MAX_TABLE_WEIGHT) }
+    // Of these bytes alone: no device has failed.
+    ensures quiet { IfErr result (λ e. is_failure e ≡ false) }
+    ensures lacks { IfErr result (λ e. (tells : Bool) (image : Image) → IsCopy tells image segment bytes.items
+        → LacksTable (IsPast before) tells image front.now segment place e) }
+    ensures unread { IfErr result (λ e. (tells : Bool) (image : Image) (s : PlainSchema) (rows : List (List Cell))
+        → IsCopy tells image segment bytes.items → IsWithinLimits s → front.now ≡ schema_message s
+        → before ≡ table_weight s rows → UnreadsSegment tells image s rows segment place e) }
+{
+    match segment_in_bytes(alloc, front, segment, place, bytes) {
+        Ok(weighed) => {
+            if weighed.weight > MAX_TABLE_WEIGHT - before {
+                Err(Refusal::SegmentUnread(place))
+            } else {
+                Ok(weighed)
+            }
+        }
         Err(refusal) => Err(refusal),
     }
 }
@@ -177,14 +246,8 @@ pub fn read_next_segment<D: SectorDevice>(
     ensures unread { IfErr result (λ e. (s : PlainSchema) (rows : List (List Cell)) → IsWithinLimits s → front.now ≡ schema_message s
         → before ≡ table_weight s rows → UnreadsSegment D.tells (shown_image (now (D.story device.old))) s rows segment place e) }
 {
-    match read_segment(alloc, device, front, segment, place) {
-        Ok(weighed) => {
-            if weighed.weight > MAX_TABLE_WEIGHT - before {
-                Err(Refusal::SegmentUnread(place))
-            } else {
-                Ok(weighed)
-            }
-        }
+    match read_bytes(alloc, device, segment, place) {
+        Ok(bytes) => next_in_bytes(alloc, front, segment, place, before, bytes),
         Err(refusal) => Err(refusal),
     }
 }

@@ -34,6 +34,8 @@ impl ReadCatalogue for Few {
 
     ghost reading = { reading_of };
 
+    ghost fits_commit = { λ k c. Unit {0} };
+
     fn read<D: SectorDevice>(
         _alloc: Global,
         _device: &mut D,

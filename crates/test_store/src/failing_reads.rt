@@ -216,15 +216,28 @@ impl Write for CountingWriter {
     }
 }
 
-// Returns whether all bytes of an export are written and flushed.
+// Before anything is written.
+const UNWRITTEN: CountingWriter = CountingWriter {
+    written: 0,
+    flushed: 0,
+};
+
+// Returns whether all bytes of a salvage are written and flushed.
+fn is_salvaged_whole(alloc: Global, store: &mut Store<ModelDevice>) -> bool {
+    let mut writer = UNWRITTEN;
+    store.salvage(alloc, "t", &mut writer).is_ok()
+        && writer.flushed > 0
+        && writer.flushed == writer.written
+}
+
+// Returns whether all bytes of an export and of a salvage are written and flushed.
 fn goes_out(alloc: Global, slot: &mut Slot) -> bool {
-    let mut writer = CountingWriter {
-        written: 0,
-        flushed: 0,
-    };
+    let mut writer = UNWRITTEN;
     match slot {
         Some(StoreOrDevice::Open(store)) => {
-            store.export(alloc, "t", &mut writer) == Ok(()) && writer.flushed == 328
+            store.export(alloc, "t", &mut writer) == Ok(())
+                && writer.flushed == 328
+                && is_salvaged_whole(alloc, store)
         }
         _ => false,
     }
@@ -286,7 +299,7 @@ fn wrong_flush(alloc: Global) -> Result<Option<usize>, NotMade> {
 }
 
 #[test]
-fn an_export_is_flushed(rt: HostRuntime) {
+fn what_is_written_is_flushed(rt: HostRuntime) {
     assert_no_row(&rt, wrong_flush(rt.alloc()));
 }
 

@@ -20,8 +20,8 @@ use Rattle.catalogue.specs.laws.Kept.{entry_is}
 use Rattle.commit.specs.Standing.{InSome}
 use Rattle.catalogue.specs.Edits.{with_digest, with_digests, entry_digested, digested}
 use Rattle.store_runs.specs.Held.{is_undamaged, bytes_of, rows_in_segment, segment_rows, joined_rows, rows_held, table_of_rows, rows_or_unknown, rows_known, held_entry, each_listed}
-use Rattle.store_runs.specs.Digesting.{segments_of, AreDigests}
 use Rattle.store_changes.specs.laws.Digests.{rows_undamaged}
+use Rattle.store_changes.specs.laws.Digested.{segments_of, AreDigests}
 use Rattle.store_changes.specs.laws.ExchangedRuns.{run_of}
 use Rattle.store.specs.laws.Exported.{in_either}
 use Rattle.pages.specs.laws.Local.{in_left, in_right}

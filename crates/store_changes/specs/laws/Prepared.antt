@@ -61,7 +61,7 @@ use Rattle.store_runs.specs.Changes.{PlainChange, version_after, IsChange, edite
 use Rattle.store_runs.specs.Carrying.{HasNext, unplaced, outline, asked_sizes, placed, commit_placed, IsCarried}
 use Rattle.store_changes.specs.Prepared.{unpaged, in_runs, taking_refusal, ReadsAgain, IsPrepared}
 use Rattle.store_changes.specs.laws.Segments.{own_digest, placed_front, placed_form, unplaced_number}
-use Rattle.store_changes.specs.laws.EditedForm.{edited_form}
+use Rattle.store_changes.specs.laws.EditedForm.{edited_form, settled_form}
 use Rattle.store_changes.specs.laws.EditedEach.{OneSchema, IsPageAmong, edited_holds, edited_pages, among_sectors}
 use Rattle.store_changes.specs.laws.Placed.{in_runs_are, unpaged_shapes, segments_sound, unpaged_stands, made_times, gone_named, made_among, as_many, taken_streams, taken_own_pages, page_runs_are}
 
@@ -483,6 +483,15 @@ module _ (laws : PageLaws) (k : Commit) (old new : Space) (limits : is_size old.
         (edited_holds old.size before k.version laws.messages c change.edit change.streams segments stands sound.edit (laws.held old.size before k found.text c found.spelled))
         (each_spared (unpaged k.version c change (runs_of pieces)) (plain_pieces plan.pieces.items) (entries.runs_of c) spared (edited_pages laws.messages c change.edit change.streams segments stands sound.edit))
 
+    form_kept : has_form (form_of k.version) c ≡ true → has_form (form_of (version_after change.edit k.version)) (catalogue_of plan.catalogue.list) ≡ true
+    form_kept all =
+        let form = form_of (version_after change.edit k.version) in
+        let segments = placed_segments k.version (runs_of pieces) change.streams change.counts in
+        let made = edited_form k.version c change.edit change.streams segments sound.edit all
+        (placed_form k.version (runs_of pieces) change.streams change.counts) in
+        ap (has_form form) (ap (λ (s : StoredCatalogue). catalogue_of s.list) catalogue_is ∙ next_is)
+        ∙ settled_form form (unpaged k.version c change (runs_of pieces)) pages made
+
     counted_are : asked_sizes k.version c change ≡ map sectors_of (contents_of (plain_pieces plan.pieces.items))
     counted_are =
         let made = unpaged k.version c change (runs_of pieces) in
@@ -512,6 +521,7 @@ module _ (laws : PageLaws) (k : Commit) (old new : Space) (limits : is_size old.
           whole = whole_is;
           runs = taken_is ∙ ap (λ (rs : List Run). rs ++ run ∷ []) (sym front_runs);
           catalogue = ap (λ (s : StoredCatalogue). catalogue_of s.list) catalogue_is ∙ next_is ∙ ap (settled made) (sym pages_in);
+          form = form_kept;
           size = text_is_long;
           commit = commit_is;
           gives = back_is;

@@ -32,7 +32,7 @@ found_first (x ∷ xs) more id e is = by_test (is_of id x) is (λ h. found_first
     by_test true h later = h
     by_test false h later = later h
 
-found_last : (es : List Export) (id : ℕ) (e : Export) → export_at es id ≡ None → e.id ≡ id → export_at (es ++ e ∷ []) id ≡ Some e
+pub found_last : (es : List Export) (id : ℕ) (e : Export) → export_at es id ≡ None → e.id ≡ id → export_at (es ++ e ∷ []) id ≡ Some e
 found_last [] id e none is = let here : is_of id e ≡ true = eq-eqb e.id id is in ap (λ (b : Bool). if b then Some e else None) here
 found_last (x ∷ xs) id e none is = by_test (is_of id x) none (λ h. found_last xs id e h is)
   where

@@ -124,3 +124,6 @@ returns-clause-map_size g c = c.in_ok-map.ensures.size ∙ c.sectors.ensures ∙
 
 pub returns-clause-uses : goal.returns-clause-uses
 returns-clause-uses g c = c.in_ok-map.ensures.uses
+
+pub returns-clause-form : goal.returns-clause-form
+returns-clause-form g c = c.in_ok-catalogue.ensures.form

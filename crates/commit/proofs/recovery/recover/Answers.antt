@@ -176,3 +176,6 @@ returns-clause-map_size g c = kept _ c.make_safe.result c.in_ok-store.store c.ma
 
 pub returns-clause-uses : goal.returns-clause-uses
 returns-clause-uses g c = kept _ c.make_safe.result c.in_ok-store.store c.make_safe.ensures.kept c.in_ok-store.ensures.uses
+
+pub returns-clause-form : goal.returns-clause-form
+returns-clause-form g c = kept _ c.make_safe.result c.in_ok-store.store c.make_safe.ensures.kept c.in_ok-store.ensures.form

@@ -6,7 +6,7 @@ use Rattle.catalogue.specs.declared.limits.TheConstants.{MAX_SEGMENTS}
 use Rattle.catalogue.specs.Entries.{plain_entry, plain_root}
 use Rattle.pages.specs.Stored.{pages_shown}
 use Rattle.pages.proofs.Behind.{behind, told_at, read_at, all_read}
-use Rattle.pages.proofs.Gathered.{named_at, one_sound, one_named, one_counted, all_sound}
+use Rattle.pages.proofs.Gathered.{named_at, one_sound, one_formed, one_named, one_counted, all_sound}
 use Rattle.pages.proofs.reading.read_pages.Goals as goal
 
 pub returns-in-Err-clause-moments : goal.returns-in-Err-clause-moments
@@ -48,6 +48,7 @@ loop-root-preserved g c =
           (c.in-Ok.ensures.sound (named_at c.args.roots.now i _ c.requires.root.named c.loop-root-test.true));
       names = one_named c.args.roots.now i _ c.loop-root.entries.items c.push.new.self.items c.in-Ok.entry c.loop-root-test.true c.in-Ok-push.ensures.items c.in-Ok.ensures.entry c.loop-root.invariant.names;
       few = one_counted c.loop-root.entries.items c.push.new.self.items c.in-Ok.entry c.loop-root.left (length c.segments.result.now) c.in-Ok-push.ensures.items count c.in-Ok.ensures.few c.loop-root.invariant.few;
+      form = one_formed c.args.form c.loop-root.entries.items c.push.new.self.items c.in-Ok.entry c.in-Ok-push.ensures.items c.loop-root.invariant.form c.in-Ok.ensures.form;
     }
 
 pub returns-clause-sound : goal.returns-clause-sound

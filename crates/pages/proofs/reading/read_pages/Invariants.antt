@@ -2,7 +2,7 @@ use Rattle.std.proofs.Common.{◌≡◌, ◌+◌, true, map, take, drop}
 use Rattle.std.specs.List.{list_all}
 use Rattle.sector_dev.specs.Time.{OnlyReads}
 use Rattle.catalogue.specs.declared.limits.TheConstants.{MAX_SEGMENTS}
-use Rattle.catalogue.specs.Entries.{plain_entry, plain_root, is_entry, names_of, root_names, segment_count}
+use Rattle.catalogue.specs.Entries.{plain_entry, plain_root, is_entry, names_of, root_names, segment_count, has_form}
 use Rattle.pages.specs.Stored.{pages_shown}
 use Rattle.pages.proofs.Behind.{behind}
 use Rattle.pages.proofs.reading.read_pages.Given as goal
@@ -18,4 +18,5 @@ invariant-loop-root g l = let D = g.D.SectorDevice in record {
   entries : list_all is_entry (map plain_entry l.entries.items) ≡ true;
   names : names_of (map plain_entry l.entries.items) ≡ root_names (map plain_root (take l.root-index l.roots));
   few : segment_count (map plain_entry l.entries.items) + l.left ≡ MAX_SEGMENTS;
+  form : has_form l.form (map plain_entry l.entries.items) ≡ true;
 }

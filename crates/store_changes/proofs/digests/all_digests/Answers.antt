@@ -7,10 +7,10 @@ use Rattle.commit.specs.Standing.{is_size}
 use Rattle.tables.specs.declared.refusal.Refusal.{Refusal}
 use Rattle.tables.specs.declared.refusal.Refusal.TheVariants as refusals
 use Rattle.store_runs.specs.Calls.{done, refused}
-use Rattle.store_runs.specs.Digesting.{segments_of, AreDigests}
+use Rattle.store_runs.specs.Digesting.{AllDigested}
 use Rattle.store_changes.specs.laws.ReadTables.{reads_none, reads_more, reads_ended, image_then}
-use Rattle.store_changes.proofs.StepFound.{item_at, read_then, item_placed, item_sound}
-use Rattle.store_changes.proofs.Digesting.{digests_behind, digests_then, segments_more, tables_more, unreads_then, inside_map}
+use Rattle.store_changes.proofs.StepFound.{item_at, item_placed, item_sound}
+use Rattle.store_changes.proofs.Digesting.{is_digested_then, all_digested_more, tables_more, unreads_then}
 use Rattle.store_changes.proofs.digests.all_digests.Goals as goal
 
 -- memory was refused
@@ -44,16 +44,16 @@ loop-entry-preserved g c =
     let i = c.loop-entry.entry-index in
     let item = c.entry-item.result in
     let e = plain_entry item in
+    let lt = c.loop-entry-test.true in
     let same : D.tells ≡ true → later ≡ shown = λ told. image_then before mid (c.loop-entry.invariant.reads.moments told) in
-    let own = digests_then D.tells shown later same e.segments c.in-Ok.own.items c.in-Ok.ensures.found in
-    let behind = digests_behind D.tells shown (segments_of (map plain_entry (take i entries))) e.segments c.loop-entry.digests.items c.in-Ok.own.items c.loop-entry.invariant.own own in
+    let digests = c.loop-entry.digests.items in
+    let one = is_digested_then D.tells shown later same e c.in-Ok.own.items c.in-Ok.ensures.found in
+    let pushed = c.in-Ok-extend_from_slice.ensures.items ∙ ap (λ (ds : List (List ℕ)). digests ++ ds) c.deref.ensures.value in
     record {
       reads = reads_more D.size D.story D.failed D.tells done c.args.device.now c.loop-entry.device c.entry_digests.new.device c.loop-entry.invariant.reads c.in-Ok.ensures.reads;
-      read = tables_more D.tells shown (map plain_entry entries) i e (item_at entries i item c.loop-entry-test.true c.entry-item.is) c.loop-entry.invariant.read
-          (c.in-Ok.ensures.read.0, read_then D.tells shown later same e c.in-Ok.ensures.read.0 c.in-Ok.ensures.read.1);
-      own = subst (λ (gs : List Segment). AreDigests D.tells shown gs c.extend_from_slice.new.self.items) (sym (segments_more entries i item c.loop-entry-test.true c.entry-item.is))
-          (subst (λ (ds : List (List ℕ)). AreDigests D.tells shown (segments_of (map plain_entry (take i entries)) ++ e.segments) ds)
-          (sym (c.in-Ok-extend_from_slice.ensures.items ∙ ap (λ (ds : List (List ℕ)). c.loop-entry.digests.items ++ ds) c.deref.ensures.value)) behind);
+      read = tables_more D.tells shown (map plain_entry entries) i e (item_at entries i item lt c.entry-item.is) c.loop-entry.invariant.read (one.table, one.read);
+      own = all_digested_more D.tells shown entries i item digests c.extend_from_slice.new.self.items c.in-Ok.own.items lt c.entry-item.is
+          c.loop-entry.invariant.own one pushed;
     }
 
 pub returns-in-Err-clause-reads : goal.returns-in-Err-clause-reads
@@ -78,14 +78,11 @@ returns-in-Err-clause-stops g c =
 pub returns-clause-reads : goal.returns-clause-reads
 returns-clause-reads g c = c.loop-entry.invariant.reads
 
-pub returns-clause-read : goal.returns-clause-read
-returns-clause-read g c = λ number e at.
-    c.loop-entry.invariant.read number e (let inside = inside_map c.args.entries.now number e at in omega (arith, inside, c.loop-entry-test.false)) at
-
 pub returns-clause-found : goal.returns-clause-found
 returns-clause-found g c =
     let D = g.D.SectorDevice in
-    subst (λ (es : List TableEntry). AreDigests D.tells (shown_image (now (D.story c.args.device.now))) (segments_of (map plain_entry es)) c.loop-entry.digests.items)
+    let image = shown_image (now (D.story c.args.device.now)) in
+    subst (λ (es : List TableEntry). AllDigested D.tells image (map plain_entry es) c.loop-entry.digests.items)
     (take_all c.loop-entry.entry-index c.args.entries.now (omega (arith, c.loop-entry-test.false))) c.loop-entry.invariant.own
 
 pub returns-in-Err-extend_from_slice-clause-reads : goal.returns-in-Err-extend_from_slice-clause-reads

@@ -1,59 +1,57 @@
-use Rattle.std.proofs.Common.{◌≡◌, ◌∙◌, ℕ, true, List, sym, ap, subst}
 use Rattle.std.specs.List.{list_all}
+use Rattle.std.proofs.Common.{◌≡◌, ℕ, true, List, refl, sym, ap, ◌∙◌, subst}
 use Rattle.sector_dev.specs.Disk.{now, shown_image}
+use Rattle.arrow_schema.specs.Limits.{IsWithinLimits}
 use Rattle.catalogue.specs.declared.entry.Segment.{Segment}
 use Rattle.catalogue.specs.Entries.{plain_entry, is_segment, runs_in_segments}
 use Rattle.catalogue.specs.laws.Kept.{entry_is}
-use Rattle.commit.specs.Standing.{is_size, all_on_device}
-use Rattle.store_runs.specs.Calls.{done, refused}
-use Rattle.store_runs.specs.Digesting.{AreDigests}
-use Rattle.store_changes.specs.inner.Digesting.{LacksCopy}
-use Rattle.store_changes.specs.laws.ReadTables.{reads_more, image_then}
-use Rattle.store_changes.proofs.Digesting.{digests_then, lacks_then, lacks_none}
+use Rattle.commit.specs.Standing.{all_on_device}
+use Rattle.ipc_write.specs.Written.{schema_message}
+use Rattle.tables.specs.declared.refusal.Refusal.TheVariants.{OutOfMemory}
+use Rattle.store_runs.specs.Calls.{refused}
+use Rattle.store_runs.specs.Changes.{rows_under}
+use Rattle.store_runs.specs.Reading.{Unreads}
+use Rattle.store_changes.specs.inner.Digesting.{DigestsRows}
+use Rattle.store_changes.specs.laws.ReadTables.{reads_quiet}
+use Rattle.store_changes.specs.laws.ReadRows.{rows_are_read}
 use Rattle.store_changes.proofs.digests.entry_digests.Goals as goal
 
-pub segment_digests-requires-clause-size : goal.segment_digests-requires-clause-size
-segment_digests-requires-clause-size g c = ap is_size c.in-Ok.ensures.reads.same ∙ c.requires.size
+pub encode_schema-requires : goal.encode_schema-requires
+encode_schema-requires g c = subst IsWithinLimits (sym c.schema.ensures) (entry_is (plain_entry c.args.entry.now) c.requires.sound).schema
 
 pub segment_digests-requires-clause-placed : goal.segment_digests-requires-clause-placed
 segment_digests-requires-clause-placed g c =
-    let D = g.D.SectorDevice in
-    subst (λ (gs : List Segment). all_on_device (D.size c.weigh_entry.new.device) (runs_in_segments gs) ≡ true) (sym c.segments.ensures)
-    (subst (λ (n : ℕ). all_on_device n (runs_in_segments (plain_entry c.args.entry.now).segments) ≡ true) (sym c.in-Ok.ensures.reads.same) c.requires.placed)
+    let size = g.D.SectorDevice.size c.args.device.now in
+    subst (λ (gs : List Segment). all_on_device size (runs_in_segments gs) ≡ true) (sym c.segments.ensures) c.requires.placed
 
 pub segment_digests-requires-clause-sound : goal.segment_digests-requires-clause-sound
 segment_digests-requires-clause-sound g c =
     subst (λ (gs : List Segment). list_all is_segment gs ≡ true) (sym c.segments.ensures) (entry_is (plain_entry c.args.entry.now) c.requires.sound).segments
 
-pub returns-in-Ok-segment_digests-clause-reads : goal.returns-in-Ok-segment_digests-clause-reads
-returns-in-Ok-segment_digests-clause-reads g c =
-    let D = g.D.SectorDevice in
-    reads_more D.size D.story D.failed D.tells done c.args.device.now c.weigh_entry.new.device c.segment_digests.new.device c.in-Ok.ensures.reads c.in-Ok-segment_digests.ensures.reads
-
-pub returns-in-Ok-segment_digests-clause-read : goal.returns-in-Ok-segment_digests-clause-read
-returns-in-Ok-segment_digests-clause-read g c = (c.in-Ok.ensures.weight.0, c.in-Ok.ensures.weight.1)
-
 pub returns-in-Ok-segment_digests-clause-found : goal.returns-in-Ok-segment_digests-clause-found
 returns-in-Ok-segment_digests-clause-found g c =
     let D = g.D.SectorDevice in
-    let before = D.story c.args.device.now in
-    let mid = D.story c.weigh_entry.new.device in
-    let digests = c.in-Ok-segment_digests.digests.items in
-    subst (λ (gs : List Segment). AreDigests D.tells (shown_image (now before)) gs digests) c.segments.ensures
-    (digests_then D.tells (shown_image (now before)) (shown_image (now mid)) (λ told. image_then before mid (c.in-Ok.ensures.reads.moments told)) c.segments.result.now digests c.in-Ok-segment_digests.ensures.found)
-
-pub returns-in-Err-segment_digests-clause-reads : goal.returns-in-Err-segment_digests-clause-reads
-returns-in-Err-segment_digests-clause-reads g c =
-    let D = g.D.SectorDevice in
-    reads_more D.size D.story D.failed D.tells (refused c.in-Err-segment_digests.refusal) c.args.device.now c.weigh_entry.new.device c.segment_digests.new.device c.in-Ok.ensures.reads c.in-Err-segment_digests.ensures.reads
-
-pub returns-in-Err-segment_digests-clause-unread : goal.returns-in-Err-segment_digests-clause-unread
-returns-in-Err-segment_digests-clause-unread g c =
-    let D = g.D.SectorDevice in
-    let before = D.story c.args.device.now in
-    let mid = D.story c.weigh_entry.new.device in
+    let image = shown_image (now (D.story c.args.device.now)) in
     let e = plain_entry c.args.entry.now in
-    let r = c.in-Err-segment_digests.refusal in
-    lacks_none D.tells (shown_image (now before)) e c.in-Ok.ensures.weight.0 c.in-Ok.ensures.weight.1 r
-    (subst (λ (gs : List Segment). LacksCopy D.tells (shown_image (now before)) gs r) c.segments.ensures
-    (lacks_then D.tells (shown_image (now before)) (shown_image (now mid)) (λ told. image_then before mid (c.in-Ok.ensures.reads.moments told)) c.segments.result.now r c.in-Err-segment_digests.ensures.told))
+    let within = (entry_is e c.requires.sound).schema in
+    let message = c.deref.ensures.value ∙ c.in-Ok.ensures.message ∙ ap schema_message c.schema.ensures in
+    let digests = c.in-Ok-segment_digests.digests.items in
+    let found = subst (λ (gs : List Segment). (weight : ℕ) × DigestsRows D.tells image e.schema gs weight digests) c.segments.ensures
+    (c.in-Ok-segment_digests.ensures.found e.schema within message) in
+    let table = rows_under e.schema found.1.0 in
+    record { table = table; read = rows_are_read c.table_laws.ensures D.tells image e table refl found.1.1; own = found.1.3 }
+
+pub returns-in-Ok-clause-unread : goal.returns-in-Ok-clause-unread
+returns-in-Ok-clause-unread g c =
+    let D = g.D.SectorDevice in
+    let image = shown_image (now (D.story c.args.device.now)) in
+    let e = plain_entry c.args.entry.now in
+    let within = (entry_is e c.requires.sound).schema in
+    let message = c.deref.ensures.value ∙ c.in-Ok.ensures.message ∙ ap schema_message c.schema.ensures in
+    let refusal = c.in-Err-segment_digests.refusal in
+    subst (λ (gs : List Segment). Unreads D.tells image (record { name = e.name; schema = e.schema; segments = gs; page = e.page }) refusal) c.segments.ensures
+    (c.in-Err-segment_digests.ensures.unread e.schema e.name e.page within message)
+
+-- without memory no call of the device is made
+pub returns-clause-reads : goal.returns-clause-reads
+returns-clause-reads g c = let D = g.D.SectorDevice in reads_quiet D.size D.story D.failed D.tells (refused OutOfMemory) c.args.device.now refl

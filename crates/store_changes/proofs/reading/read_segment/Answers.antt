@@ -1,74 +1,47 @@
-use Rattle.std.proofs.Common.{◌≡◌, ℕ, Bool, List, None, refl, sym, ap, ◌∙◌, subst}
+use Rattle.std.proofs.lemmas.Result.{IfOk-weaker, IfErr-weaker}
 use Rattle.sector_dev.specs.Disk.{now, shown_image}
-use Rattle.tables.specs.declared.refusal.Refusal.{Refusal}
-use Rattle.tables.specs.declared.refusal.Refusal.TheVariants as refusals
-use Rattle.catalogue.specs.declared.entry.Segment.{Segment}
-use Rattle.sector_dev.specs.Disk.{Image}
-use Rattle.store_runs.specs.Held.{is_undamaged}
-use Rattle.store_runs.specs.Reading.{LacksBytes, LacksRows}
-use Rattle.store_changes.specs.ReadSegment.{table_in_bytes, LacksTable}
-use Rattle.store_changes.specs.laws.Digests.{undamaged_none, copy_undamaged, copy_rows, lacks_rows}
+use Rattle.store_changes.specs.laws.Digests.{lacks_rows}
+use Rattle.store_changes.specs.laws.ReadTables.{reads_ended}
+use Rattle.store_changes.proofs.SegmentBytes.{lacks_table}
 use Rattle.store_changes.proofs.reading.read_segment.Goals as goal
 
--- where the bytes are not given, no table is
-lacks_table : (tells : Bool) (image : Image) (front : List ℕ) (segment : Segment) (place : ℕ) (r : Refusal) → LacksBytes tells image segment place r
-    → LacksTable (λ found. found ≡ None) tells image front segment place r
-lacks_table tells image front segment place refusals.Device u = tt
-lacks_table tells image front segment place refusals.OutOfMemory u = tt
-lacks_table tells image front segment place (refusals.SegmentUnread other) u =
-    (u.0, λ told. (ap (is_undamaged segment.digest) (u.1 told) ∙ undamaged_none segment.digest, ap (table_in_bytes front segment.rows) (u.1 told)))
-lacks_table tells image front segment place (refusals.SegmentDamaged other) u = u
-lacks_table tells image front segment place _ u = absurd u
+-- ---- the bytes are given
 
--- ---- with any front
+pub returns-in-Ok-clause-reads : goal.returns-in-Ok-clause-reads
+returns-in-Ok-clause-reads g c =
+    let D = g.D.SectorDevice in
+    reads_ended D.size D.story D.failed D.tells c.segment_in_bytes.result c.args.device.now c.read_bytes.new.device c.segment_in_bytes.ensures.quiet
+    c.in-Ok.ensures.reads
 
-pub returns-in-Ok-Some-clause-means : goal.returns-in-Ok-Some-clause-means
-returns-in-Ok-Some-clause-means g c =
-    let means = rw c.in-Ok-Some.field-0-is at c.in-Ok-Some.ensures.means in
-    record { bytes = c.in-Ok.bytes.items; copy = c.in-Ok.ensures.copy; means = sym means }
+pub returns-in-Ok-clause-means : goal.returns-in-Ok-clause-means
+returns-in-Ok-clause-means g c =
+    IfOk-weaker c.segment_in_bytes.result _ _
+    (λ w means. record { bytes = c.in-Ok.bytes.items; copy = c.in-Ok.ensures.copy; means = means }) c.segment_in_bytes.ensures.means
 
-pub returns-in-Ok-None-clause-lacks : goal.returns-in-Ok-None-clause-lacks
-returns-in-Ok-None-clause-lacks g c =
-    let copy = c.in-Ok.ensures.copy in
-    let means = rw c.in-Ok-None.field-0-is at c.in-Ok-None.ensures.means in
-    let segment = c.args.segment in
-    (refl, λ told. (ap (is_undamaged segment.digest) (copy.held told) ∙ copy.undamaged, ap (table_in_bytes c.args.front.now segment.rows) (copy.held told) ∙ sym means))
-
-pub returns-in-Err-table_in_bytes-clause-lacks : goal.returns-in-Err-table_in_bytes-clause-lacks
-returns-in-Err-table_in_bytes-clause-lacks g c =
+pub returns-in-Ok-clause-lacks : goal.returns-in-Ok-clause-lacks
+returns-in-Ok-clause-lacks g c =
     let D = g.D.SectorDevice in
     let image = shown_image (now (D.story c.args.device.now)) in
-    subst (λ (r : Refusal). LacksTable (λ found. found ≡ None) D.tells image c.args.front.now c.args.segment c.args.place r) (sym c.in-Err-table_in_bytes.ensures.memory) tt
+    IfErr-weaker c.segment_in_bytes.result _ _ (λ e lacks. lacks D.tells image c.in-Ok.ensures.copy) c.segment_in_bytes.ensures.lacks
+
+pub returns-in-Ok-clause-rows : goal.returns-in-Ok-clause-rows
+returns-in-Ok-clause-rows g c =
+    IfOk-weaker c.segment_in_bytes.result _ _
+    (λ w rows. λ s message. record { bytes = c.in-Ok.bytes.items; copy = c.in-Ok.ensures.copy; means = rows s message })
+    c.segment_in_bytes.ensures.rows
+
+pub returns-in-Ok-clause-told : goal.returns-in-Ok-clause-told
+returns-in-Ok-clause-told g c =
+    let D = g.D.SectorDevice in
+    let image = shown_image (now (D.story c.args.device.now)) in
+    IfErr-weaker c.segment_in_bytes.result _ _ (λ e told. λ s message. told D.tells image s c.in-Ok.ensures.copy message) c.segment_in_bytes.ensures.told
+
+-- ---- they are not given
 
 pub returns-in-Err-clause-lacks : goal.returns-in-Err-clause-lacks
 returns-in-Err-clause-lacks g c =
     let D = g.D.SectorDevice in
     lacks_table D.tells (shown_image (now (D.story c.args.device.now))) c.args.front.now c.args.segment c.args.place c.in-Err.refusal c.in-Err.ensures.told
-
--- ---- with the message of a schema
-
-pub returns-in-Ok-Some-clause-rows : goal.returns-in-Ok-Some-clause-rows
-returns-in-Ok-Some-clause-rows g c = λ s message.
-    let means = rw c.in-Ok-Some.field-0-is at c.in-Ok-Some.ensures.rows in
-    record { bytes = c.in-Ok.bytes.items; copy = c.in-Ok.ensures.copy; means = sym (means s message) }
-
--- ---- the bytes mean no such rows
-
-pub returns-in-Ok-None-clause-told : goal.returns-in-Ok-None-clause-told
-returns-in-Ok-None-clause-told g c = λ s message.
-    let D = g.D.SectorDevice in
-    let image = shown_image (now (D.story c.args.device.now)) in
-    let copy = c.in-Ok.ensures.copy in
-    let means = rw c.in-Ok-None.field-0-is at c.in-Ok-None.ensures.rows in
-    (refl, λ told. (copy_undamaged D.tells image s c.args.segment c.in-Ok.bytes.items copy told, copy_rows D.tells image s c.args.segment c.in-Ok.bytes.items copy told ∙ sym (means s message)))
-
-pub returns-in-Err-table_in_bytes-clause-told : goal.returns-in-Err-table_in_bytes-clause-told
-returns-in-Err-table_in_bytes-clause-told g c = λ s message.
-    let D = g.D.SectorDevice in
-    let image = shown_image (now (D.story c.args.device.now)) in
-    subst (λ (r : Refusal). LacksRows D.tells image s c.args.segment c.args.place r) (sym c.in-Err-table_in_bytes.ensures.memory) tt
-
--- ---- they are not given
 
 pub returns-in-Err-clause-told : goal.returns-in-Err-clause-told
 returns-in-Err-clause-told g c = λ s message.

@@ -9,6 +9,7 @@ use Rattle.segments.specs.declared.run.Run.{Run}
 use Rattle.segments.specs.Usages.{IsUsedIn, GivesAll}
 use Rattle.segments.specs.Writing.{runs_of}
 use Rattle.catalogue.specs.Entries as entries
+use Rattle.catalogue.specs.Entries.{has_form}
 use Rattle.catalogue.specs.View.{catalogue_of}
 use Rattle.catalogue.specs.laws.Kept.{catalogue_is}
 use Rattle.commit.specs.declared.sector.Commit.{Commit}
@@ -16,6 +17,7 @@ use Rattle.commit.specs.Placing.{Uses, Takes}
 use Rattle.commit.specs.Standing.{is_size, is_on_device, runs_fault}
 use Rattle.commit.specs.laws.Taking.{took_takes}
 use Rattle.pages.specs.declared.stored.StoredCatalogue.{StoredCatalogue}
+use Rattle.pages.specs.Stored.{form_of}
 use Rattle.store_runs.specs.Calls.{is_failure, is_device_reply}
 use Rattle.export_book.specs.Book.{runs_kept}
 use Rattle.store.specs.Exported.{AreExportable}
@@ -63,6 +65,8 @@ invariant_of-self-in-Ok g c =
       own = ap (λ (k : Commit). k.device_sectors) (commit_is ∙ prep.commit) ∙ s.own ∙ sym sized;
       fit = (λ i. runs_fault ((sized ∙ sym s.same) i) (commit_is i).catalogue.run (entries.runs_of (catalogue_of (catalogue_is' i).list))) ∙ fit_then old mid s.opened.commit listed change plan back prep on fit (runs_kept (book_of s).exports) s.uses sound stands;
       placed = (λ i. is_on_device ((sized ∙ sym s.same) i) (commit_is i).catalogue.run) ∙ placed_then old mid s.opened.commit listed change plan back prep;
+      form = (λ i. has_form (form_of (commit_is i).version) (catalogue_of (catalogue_is' i).list))
+          ∙ ap (λ (k : Commit). has_form (form_of k.version) (catalogue_of plan.catalogue.list)) prep.commit ∙ prep.form s.form;
       uses = subst (λ (x : StoredCatalogue). Uses c.settle.new.opened.map.entries (c.settle.new.opened.commit.catalogue.run ∷ entries.runs_of (catalogue_of x.list)) (runs_kept (book_of s).exports)) (sym catalogue_is')
           (subst (λ (k : Commit). Uses c.settle.new.opened.map.entries (k.catalogue.run ∷ entries.runs_of (catalogue_of plan.catalogue.list)) (runs_kept (book_of s).exports)) (sym commit_is)
           (uses_then old mid s.opened.commit listed change plan back prep on fit (runs_kept (book_of s).exports) s.uses sound c.settle.new.opened.map stands c.settle.ensures.map));
@@ -86,6 +90,7 @@ invariant_of-self-in-Err g c =
       own = s.own ∙ sym sized;
       fit = subst (λ (n : ℕ). runs_fault n s.opened.commit.catalogue.run (entries.runs_of listed) ≡ None) (sym sized) s.fit;
       placed = subst (λ (n : ℕ). is_on_device n s.opened.commit.catalogue.run ≡ true) (sym sized) s.placed;
+      form = s.form;
       uses = λ run. usages run ∙ s.uses run;
       exported = subst (λ (n : ℕ). AreExportable n (book_of s).exports) (sym sized) s.exported;
     }

@@ -58,6 +58,7 @@ invariant_of-self g c =
       own = s.own;
       fit = s.fit;
       placed = s.placed;
+      form = s.form;
       uses = subst (λ (b : PlainBook). Uses new.entries (text ∷ runs_of listed) (runs_kept b.exports)) (sym c.close.ensures.closed)
           (closed_uses s.opened.map new (text ∷ runs_of listed) (book_of s).exports c.args.id (plain_export c.in-Some.export) s.book.sound.rising (sym c.in-Some.ensures.export) s.uses pins);
       exported = subst (λ (b : PlainBook). AreExportable size b.exports) (sym c.close.ensures.closed) (left_exportable size (book_of s).exports c.args.id s.exported);

@@ -1,13 +1,12 @@
-use Rattle.std.specs.Prelude.{◌||◌, slice_get, Some}
-use Rattle.std.proofs.Common.{◌≡◌, Bool, true, ℕ, refl, sym, ap, ◌∙◌, subst}
+use Rattle.std.specs.Prelude.{◌||◌}
+use Rattle.std.proofs.Common.{◌≡◌, Bool, true, refl, sym, ap, ◌∙◌, subst}
 use Rattle.std.proofs.lemmas.Result.{IfOk-weaker, IfErr-weaker}
 use Rattle.sector_dev.specs.Disk.{now, shown_image}
-use Rattle.cells.specs.Cell.{PlainTable}
-use Rattle.catalogue.specs.Entries.{PlainEntry, PlainCatalogue, runs_of}
+use Rattle.catalogue.specs.Entries.{PlainCatalogue, runs_of}
 use Rattle.commit.specs.Standing.{all_on_device}
 use Rattle.store_runs.specs.Calls.{is_device_reply}
-use Rattle.store_runs.specs.Reading.{IsRead, ended}
-use Rattle.store_runs.specs.Digesting.{segments_of, AreDigests, StopsReading}
+use Rattle.store_runs.specs.Reading.{ended}
+use Rattle.store_runs.specs.Digesting.{AllDigested, StopsReading}
 use Rattle.store.proofs.StillSound.{still_sound, all_placed}
 use Rattle.store.proofs.store.Store.find_digests.Goals as goal
 
@@ -20,20 +19,13 @@ pub returns-clause-reads : goal.returns-clause-reads
 returns-clause-reads g c =
     record { device = c.all_digests-digests.ensures.reads; kept = refl; book = refl; halts = c.halts-self.ensures ∙ sym (ap (λ (b : Bool). b || is_device_reply (ended c.all_digests-digests.result)) c.requires.on) }
 
-pub returns-clause-read : goal.returns-clause-read
-returns-clause-read g c =
-    let D = g.D.SectorDevice in
-    let s = c.args.self.now in
-    let image = shown_image (now (D.story s.device)) in
-    IfOk-weaker c.all_digests-digests.result _ _
-    (λ digests read. subst (λ (x : PlainCatalogue). (number : ℕ) (e : PlainEntry) → slice_get x number ≡ Some e → (table : PlainTable) × IsRead D.tells image e table) c.entries-entries.ensures.entries read) c.all_digests-digests.ensures.read
-
 pub returns-clause-found : goal.returns-clause-found
 returns-clause-found g c =
     let D = g.D.SectorDevice in
     let s = c.args.self.now in
     let image = shown_image (now (D.story s.device)) in
-    IfOk-weaker c.all_digests-digests.result _ _ (λ digests are. subst (λ (x : PlainCatalogue). AreDigests D.tells image (segments_of x) digests.items) c.entries-entries.ensures.entries are) c.all_digests-digests.ensures.found
+    IfOk-weaker c.all_digests-digests.result _ _
+    (λ digests are. subst (λ (x : PlainCatalogue). AllDigested D.tells image x digests.items) c.entries-entries.ensures.entries are) c.all_digests-digests.ensures.found
 
 pub returns-clause-stops : goal.returns-clause-stops
 returns-clause-stops g c =

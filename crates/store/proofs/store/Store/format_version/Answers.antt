@@ -9,7 +9,7 @@ use Rattle.commit.specs.Ruling.{ruling}
 use Rattle.commit.specs.Standing.{is_size, is_on_device, Stands}
 use Rattle.commit.specs.Formatting.{first_commit}
 use Rattle.commit.specs.Placing.{Uses}
-use Rattle.catalogue.specs.Entries.{PlainCatalogue, runs_of}
+use Rattle.catalogue.specs.Entries.{PlainCatalogue, runs_of, has_form}
 use Rattle.catalogue.specs.View.{catalogue_of}
 use Rattle.commit.specs.declared.opening_refusal.OpeningRefusal.{OpeningRefusal}
 use Rattle.tables.specs.Tables.{no_tables}
@@ -17,7 +17,7 @@ use Rattle.store_runs.specs.Calls.{format_call, shut_by, counted}
 use Rattle.store_runs.specs.Machine.{opened, shut_down, Allows}
 use Rattle.store_runs.specs.Runs.{Goes}
 use Rattle.store_runs.specs.Held.{tables_held}
-use Rattle.pages.specs.Stored.{stored_reading}
+use Rattle.pages.specs.Stored.{stored_reading, form_of}
 use Rattle.export_book.specs.Book.{PlainBook, runs_kept}
 use Rattle.store.specs.Exported.{AreExportable}
 use Rattle.store.specs.Fits.{setting_of, fresh, ExportsFit}
@@ -36,6 +36,7 @@ invariant_of-result g c =
       own = ap (λ (k : Commit). k.device_sectors) c.in-Ok.ensures.commit ∙ sym c.format.ensures.size;
       fit = no_runs (D.size c.format.new.device) c.in-Ok.commit.catalogue.run (catalogue_of c.empty.result) c.empty.ensures;
       placed = (λ i. is_on_device (c.format.ensures.size i) (c.in-Ok.ensures.commit i).catalogue.run) ∙ first_placed size c.args.version limits;
+      form = ap (has_form (form_of c.in-Ok.commit.version)) c.empty.ensures;
       uses = subst (λ (b : PlainBook). Uses c.in-Ok.map.entries (c.in-Ok.commit.catalogue.run ∷ runs_of (catalogue_of c.empty.result)) (runs_kept b.exports)) (sym c.new.ensures)
           (subst (λ (x : PlainCatalogue). Uses c.in-Ok.map.entries (c.in-Ok.commit.catalogue.run ∷ runs_of x) []) (sym c.empty.ensures) c.in-Ok.ensures.uses);
       exported = subst (λ (b : PlainBook). AreExportable (D.size c.format.new.device) b.exports) (sym c.new.ensures) tt;

@@ -66,6 +66,7 @@ invariant_of-self g c =
       own = s.own ∙ sym sized;
       fit = subst (λ (n : ℕ). runs_fault n s.opened.commit.catalogue.run (runs_of (listed_in s)) ≡ None) (sym sized) s.fit;
       placed = subst (λ (n : ℕ). is_on_device n s.opened.commit.catalogue.run ≡ true) (sym sized) s.placed;
+      form = s.form;
       uses = subst (λ (b : PlainBook). Uses s.opened.map.entries (s.opened.commit.catalogue.run ∷ runs_of (listed_in s)) (runs_kept b.exports)) (sym c.give.ensures)
           (subst (λ (rs : List Run). Uses s.opened.map.entries (s.opened.commit.catalogue.run ∷ runs_of (listed_in s)) rs) (sym (kept_given (book_of s).exports c.args.id)) s.uses);
       exported = subst (λ (b : PlainBook). AreExportable (g.D.SectorDevice.size c.next_piece-piece.new.device) b.exports) (sym c.give.ensures)

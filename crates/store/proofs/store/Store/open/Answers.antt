@@ -129,3 +129,8 @@ invariant_of-result-clause-uses g c =
 pub invariant_of-result-clause-exported : goal.invariant_of-result-clause-exported
 invariant_of-result-clause-exported g c =
     subst (λ (b : PlainBook). AreExportable (g.D.SectorDevice.size c.recover.new.device) b.exports) (sym c.new.ensures) tt
+
+-- ---- it has the form of its version
+
+pub invariant_of-result-clause-form : goal.invariant_of-result-clause-form
+invariant_of-result-clause-form g c = c.in-Ok.ensures.form

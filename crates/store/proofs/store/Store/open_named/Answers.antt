@@ -75,6 +75,7 @@ invariant_of-self g c =
       own = s.own;
       fit = s.fit;
       placed = s.placed;
+      form = s.form;
       uses = subst (λ (b : PlainBook). Uses c.pin_each.new.self.entries (text ∷ runs_of listed) (runs_kept b.exports)) (sym c.in-Ok-open.ensures.opened)
           (opened_uses s.opened.map c.pin_each.new.self (text ∷ runs_of listed) (book_of s).exports export s.uses pins);
       exported = subst (λ (b : PlainBook). AreExportable size b.exports) (sym c.in-Ok-open.ensures.opened) (more_exportable size (book_of s).exports export s.exported is);

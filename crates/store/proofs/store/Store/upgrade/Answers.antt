@@ -35,7 +35,7 @@ pub carry_out-requires-clause-sound : goal.carry_out-requires-clause-sound
 carry_out-requires-clause-sound g c =
     let D = g.D.SectorDevice in
     let s = c.args.self.now in
-    let u : IsUpgrade D.tells (shown_image (now (D.story s.device))) (listed_in s) (names_changed (digest c.in-Ok.digests.items)) = (record { digests = c.in-Ok.digests.items; read = c.in-Ok.ensures.read; own = c.in-Ok.ensures.found; is = refl }) in
+    let u : IsUpgrade D.tells (shown_image (now (D.story s.device))) (listed_in s) (names_changed (digest c.in-Ok.digests.items)) = (record { digests = c.in-Ok.digests.items; own = c.in-Ok.ensures.found; is = refl }) in
     subst (λ (opened : Opened StoredCatalogue). CanChange (catalogue_of opened.catalogue.list) (names_changed (digest c.in-Ok.digests.items))) (sym c.in-Ok.ensures.reads.kept)
     (can_upgrade D.tells (shown_image (now (D.story s.device))) (listed_in s) (names_changed (digest c.in-Ok.digests.items)) u)
 
@@ -53,7 +53,7 @@ returns-in-Ok-carry_out-clause-goes g c = λ told base m fits.
     let runs = is_running m.phase old.halted fits.phase c.if-self.false in
     let there = fits_reading D.size D.story D.failed base m D.tells told old mid fits done refl reads in
     let ends = c.in-Ok-carry_out.ensures in
-    upgraded_goes D.size D.story D.failed base m D.tells told old mid c.carry_out.new.self fits runs there reads (names_changed (digest c.in-Ok.digests.items)) c.in-One.is (record { digests = c.in-Ok.digests.items; read = c.in-Ok.ensures.read; own = c.in-Ok.ensures.found; is = refl }) ends.size ends.book mid.exported (ends.carries told (there.sound runs).stands)
+    upgraded_goes D.size D.story D.failed base m D.tells told old mid c.carry_out.new.self fits runs there reads (names_changed (digest c.in-Ok.digests.items)) c.in-One.is (record { digests = c.in-Ok.digests.items; own = c.in-Ok.ensures.found; is = refl }) ends.size ends.book mid.exported (ends.carries told (there.sound runs).stands)
     ends.count ends.carried (false_from_ne_true c.carry_out.new.self.halted (λ is. cc (ends.halts.0 is))) (ends.done told (there.sound runs).stands)
 
 pub returns-in-Ok-carry_out-clause-upgraded : goal.returns-in-Ok-carry_out-clause-upgraded
@@ -62,7 +62,7 @@ returns-in-Ok-carry_out-clause-upgraded g c =
       c.in-One.is,
       (
         (names_changed (digest c.in-Ok.digests.items)),
-        (record { digests = c.in-Ok.digests.items; read = c.in-Ok.ensures.read; own = c.in-Ok.ensures.found; is = refl }),
+        (record { digests = c.in-Ok.digests.items; own = c.in-Ok.ensures.found; is = refl }),
         ends_after D.size D.story D.failed D.tells c.args.self.now c.find_digests.new.self done c.in-Ok.ensures.reads (Ok (names_changed (digest c.in-Ok.digests.items))) (Ok tt) c.carry_out.new.self c.in-Ok-carry_out.ensures.carried,
       ),
     )
@@ -76,7 +76,7 @@ returns-in-Ok-carry_out-clause-listed g c =
     let old = c.args.self.now in
     let new = c.carry_out.new.self in
     upgrade_listed D.tells (shown_image (now (D.story old.device))) (listed_in old) (names_changed (digest c.in-Ok.digests.items))
-    (record { digests = c.in-Ok.digests.items; read = c.in-Ok.ensures.read; own = c.in-Ok.ensures.found; is = refl }) (D.size old.device) (IsUsedIn old.opened.map.entries) old.opened.commit new.opened.commit (listed_in new)
+    (record { digests = c.in-Ok.digests.items; own = c.in-Ok.ensures.found; is = refl }) (D.size old.device) (IsUsedIn old.opened.map.entries) old.opened.commit new.opened.commit (listed_in new)
     (ends_after D.size D.story D.failed D.tells old c.find_digests.new.self done c.in-Ok.ensures.reads (Ok (names_changed (digest c.in-Ok.digests.items))) (Ok tt) new c.in-Ok-carry_out.ensures.carried)
 
 pub returns-in-Ok-clause-listed : goal.returns-in-Ok-clause-listed
@@ -111,7 +111,7 @@ returns-in-Ok-carry_out-clause-writes g c = λ told on.
     let reads = c.in-Ok.ensures.reads in
     inr (
       (names_changed (digest c.in-Ok.digests.items)),
-      (record { digests = c.in-Ok.digests.items; read = c.in-Ok.ensures.read; own = c.in-Ok.ensures.found; is = refl }),
+      (record { digests = c.in-Ok.digests.items; own = c.in-Ok.ensures.found; is = refl }),
       carries_after D.size D.story D.failed D.tells old mid done reads told (names_changed (digest c.in-Ok.digests.items)) c.carry_out.new.self on
           (c.in-Ok-carry_out.ensures.carries told (on_disk_after D.size D.story D.failed D.tells old mid done reads told on)),
     )
@@ -129,7 +129,7 @@ returns-in-Ok-carry_out-clause-written g c = λ is told on.
     let mid = c.find_digests.new.self in
     let reads = c.in-Ok.ensures.reads in (
       (names_changed (digest c.in-Ok.digests.items)),
-      (record { digests = c.in-Ok.digests.items; read = c.in-Ok.ensures.read; own = c.in-Ok.ensures.found; is = refl }),
+      (record { digests = c.in-Ok.digests.items; own = c.in-Ok.ensures.found; is = refl }),
       carried_after D.size D.story D.failed D.tells old mid done reads told (names_changed (digest c.in-Ok.digests.items)) c.carry_out.new.self
           (c.in-Ok-carry_out.ensures.done told (on_disk_after D.size D.story D.failed D.tells old mid done reads told on)),
     )
@@ -144,7 +144,7 @@ returns-in-Ok-clause-writes g c = λ told on.
     let reads = c.in-Ok.ensures.reads in
     inr (
       (names_changed (digest c.in-Ok.digests.items)),
-      (record { digests = c.in-Ok.digests.items; read = c.in-Ok.ensures.read; own = c.in-Ok.ensures.found; is = refl }),
+      (record { digests = c.in-Ok.digests.items; own = c.in-Ok.ensures.found; is = refl }),
       carries_after D.size D.story D.failed D.tells old mid done reads told (names_changed (digest c.in-Ok.digests.items)) c.carry_out.new.self on
           (c.in-Err-carry_out.ensures.carries told (on_disk_after D.size D.story D.failed D.tells old mid done reads told on)),
     )
@@ -164,7 +164,7 @@ returns-in-Ok-clause-refused g c = λ told base m fits.
     let runs = is_running m.phase old.halted fits.phase c.if-self.false in
     let there = fits_reading D.size D.story D.failed base m D.tells told old mid fits done refl reads in
     let ends = c.in-Err-carry_out.ensures in
-    unmade_goes D.size D.story D.failed base m D.tells told old mid c.carry_out.new.self fits runs there reads (names_changed (digest c.in-Ok.digests.items)) c.in-One.is (record { digests = c.in-Ok.digests.items; read = c.in-Ok.ensures.read; own = c.in-Ok.ensures.found; is = refl }) ends.size ends.book mid.exported (ends.carries told (there.sound runs).stands)
+    unmade_goes D.size D.story D.failed base m D.tells told old mid c.carry_out.new.self fits runs there reads (names_changed (digest c.in-Ok.digests.items)) c.in-One.is (record { digests = c.in-Ok.digests.items; own = c.in-Ok.ensures.found; is = refl }) ends.size ends.book mid.exported (ends.carries told (there.sound runs).stands)
     c.in-Err-carry_out.refusal ends.count ends.carried ends.halts ends.kept ends.quiet
 
 pub returns-in-Ok-clause-told : goal.returns-in-Ok-clause-told
@@ -177,7 +177,7 @@ returns-in-Ok-clause-told g c =
       c.in-One.is,
       inr (record {
         change = (names_changed (digest c.in-Ok.digests.items));
-        upgrade = (record { digests = c.in-Ok.digests.items; read = c.in-Ok.ensures.read; own = c.in-Ok.ensures.found; is = refl });
+        upgrade = (record { digests = c.in-Ok.digests.items; own = c.in-Ok.ensures.found; is = refl });
         ends = ends_after D.size D.story D.failed D.tells old c.find_digests.new.self done c.in-Ok.ensures.reads (Ok (names_changed (digest c.in-Ok.digests.items))) (Err r) new c.in-Err-carry_out.ensures.carried;
       }),
     )
