@@ -3,7 +3,7 @@ ghost use Rattle.std.specs.Prelude.{◌≡◌, string_bytes, IfOk};
 ghost use Rattle.cli_refusals.specs.Page.{file_refusals, table_refusals, refusals_page};
 
 use crate::remedies::{
-    BLANK_DEVICE, BYTES_OF_THE_TYPE, CHECK_FILES, CLOSE_AN_EXPORT, CLOSE_QUOTATION_MARKS,
+    BLANK_DEVICE, BYTES_OF_THE_TYPE, CHECK_FILES, CLOSE_AN_EXPORT, CLOSE_QUOTATION_MARKS, COMMIT_FIRST,
     CONVERT_COLUMN, DONE_ALREADY, EARLIER_COPY, ESCAPE_CONTROLS, FEWER_FIELDS, FEWER_ROWS,
     FEWER_SEGMENTS, FEWER_TABLES, FEWER_VALUES, FIELDS_OF_THE_TABLE, FILE_OF_A_STORE, FIX_ROW,
     FOLDER_OF_A_NEW_FILE, FORM_OF_A_CONDITION, FORM_OF_A_FIELD, FORM_OF_A_NAME, GIVE_A_NUMBER,
@@ -267,7 +267,7 @@ or appended. If no advice follows a fault, the cause is the program that wrote t
 ];
 
 /// The pieces of the page of which the other sections are made: refusals of a text, of a query and of an open store.
-pub const TABLE_REFUSALS: [&str; 83] = [
+pub const TABLE_REFUSALS: [&str; 85] = [
     "
 ## X: a text that was to be appended
 
@@ -448,6 +448,11 @@ appended.
   ",
     IMPORT_AGAIN,
     "
+- S16 RowsUnwritten: a command of several that are applied together has to read rows that one before it puts
+  into the table. Nothing is written before all of them are decided, so they cannot be read yet.
+  ",
+    COMMIT_FIRST,
+    "
 
 ## A store that does not open
 
@@ -515,7 +520,7 @@ Each other code has one word. After S5 it is the word of the fault (F), and afte
 - Q1 `unknown-column`, Q2 `bad-condition`, Q3 `not-comparable`.
 - S1 `no-table`, S2 `name-taken`, S3 `bad-name`, S4 `schema-mismatch`, S6 `row-unfit`, S7 `too-many`,
   S8 `no-room`, S9 `device`, S10 `halted`, S13 `segment-unread`, S15 `segment-damaged`,
-  and `out-of-memory`.
+  S16 `rows-unwritten`, and `out-of-memory`.
 
 After `device` the command is done as a whole or not at all. After every other word but `output-after` no
 table is changed, except that the steps of a `compact` before the refused one are done. Wrong arguments,

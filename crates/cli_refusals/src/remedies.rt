@@ -216,6 +216,8 @@ pub const LOOK_AGAIN: &str =
 pub const IMPORT_AGAIN: &str =
     "Save the readable rows of the table with `salvage`, and drop it or import it again. Then run `check` once more: other tables may be damaged too.";
 
+pub const COMMIT_FIRST: &str = "Apply the commands before it first, and then it and the others.";
+
 pub const MORE_MEMORY: &str =
     "Give the program more memory: a stream or a table that is read needs a small multiple of its size.";
 
@@ -344,6 +346,7 @@ fn store_remedy(refusal: tables::Refusal) -> &'static str
         tables::Refusal::Device | tables::Refusal::Halted => LOOK_AGAIN,
         tables::Refusal::Query(reason) => query_remedy(reason),
         tables::Refusal::SegmentUnread(_) | tables::Refusal::SegmentDamaged(_) => IMPORT_AGAIN,
+        tables::Refusal::RowsUnwritten => COMMIT_FIRST,
         tables::Refusal::NoExport | tables::Refusal::Read | tables::Refusal::Write => CHECK_FILES,
         tables::Refusal::OutOfMemory => MORE_MEMORY,
     }

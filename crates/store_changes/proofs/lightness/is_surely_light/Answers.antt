@@ -8,10 +8,10 @@ use Rattle.catalogue.specs.Entries.{plain_entry, row_count}
 use Rattle.catalogue.specs.laws.Kept.{entry_is}
 use Rattle.weight_bounds.specs.Bound.{row_more_in_eight, most_in_eight}
 use Rattle.store_changes.proofs.SurelyLight.{surely_light, StreamLaws, byte_count}
-use Rattle.store_changes.proofs.lightness.stays_light.Goals as goal
+use Rattle.store_changes.proofs.lightness.is_surely_light.Goals as goal
 
-pub returns-then-bytes-gt-FEW_BYTES : goal.returns-then-bytes-gt-FEW_BYTES
-returns-then-bytes-gt-FEW_BYTES c = λ is rows weighs.
+pub returns-in-Some : goal.returns-in-Some
+returns-in-Some c = λ is rows weighs.
     let e = plain_entry c.args.entry.now in
     let s = schema_of c.schema.result.now in
     let found = c.stays_light.ensures is in
