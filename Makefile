@@ -92,6 +92,7 @@ vectors: bin/arrowstore
 	tests/failing_writes bin/arrowstore
 	tests/run_vectors bin/arrowstore tests/vectors/ints tests/vectors/streams tests/vectors/traps
 	tests/texts bin/arrowstore tests/vectors/texts.jsonl tests/vectors/texts_worked.jsonl
+	tests/dates bin/arrowstore
 	tests/advice bin/arrowstore
 	tests/costs bin/arrowstore
 	tests/dist bin/arrowstore

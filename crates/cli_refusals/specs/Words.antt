@@ -74,6 +74,8 @@ text_word texts.FixedWidth = codes "fixed-width"
 text_word texts.TooHeavy = codes "row-too-heavy"
 text_word texts.DictionaryFull = codes "dictionary-full"
 text_word texts.WrongKind = codes "wrong-kind"
+text_word texts.NotADate = codes "not-a-date"
+text_word texts.WrongOffset = codes "wrong-offset"
 
 unfoldable pub query_word : QueryRefusal → List ℕ
 query_word queries.UnknownColumn = codes "unknown-column"

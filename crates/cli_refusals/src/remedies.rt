@@ -123,7 +123,7 @@ pub const ITEMS_OF_A_LINE: &str =
 pub const WRITE_UTF_8: &str = "Write the text in UTF-8, and append the whole text again.";
 
 pub const WRITE_DIGITS: &str =
-    "Write an integer as digits, within 64 bits; a date or a timestamp is the number of days or seconds, .. since 1970-01-01. Then append the whole text again.";
+    "Write an integer as digits, within 64 bits; a date or a timestamp is the number of days or seconds, .. since 1970-01-01, or with `--dates iso` a text as 2026-11-30. Then append the whole text again.";
 
 pub const GIVE_A_NUMBER: &str =
     "Give an integer. An empty field is a null only if the column allows nulls and `--null` names no other text. Then append the whole text again.";
@@ -163,6 +163,12 @@ pub const FEWER_VALUES: &str =
 
 pub const KIND_OF_THE_TYPE: &str =
     "Give a string for a text or bytes, an array for a list, and an array or an object for a struct or the row. Then append the whole text again.";
+
+pub const FORM_OF_A_DATE: &str =
+    "Write a date as 2026-11-30, and a timestamp as 2026-11-30T12:34:56, with at most as many digits behind the second as its unit has. Then append the whole text again.";
+
+pub const OFFSET_OF_THE_ZONE: &str =
+    "Write an offset, as in 2026-11-30T12:34:56Z or +01:00, if the column has a time zone other than UTC, and none if it has no zone. Then append the whole text again.";
 
 pub const NAMES_FIRST: &str =
     "Begin the text with the names of the columns, in the order that `schema` prints.";
@@ -289,6 +295,8 @@ pub(crate) fn text_remedy(refusal: text_import::Refusal) -> &'static str
         text_import::Refusal::FixedWidth => BYTES_OF_THE_TYPE,
         text_import::Refusal::DictionaryFull => FEWER_VALUES,
         text_import::Refusal::WrongKind => KIND_OF_THE_TYPE,
+        text_import::Refusal::NotADate => FORM_OF_A_DATE,
+        text_import::Refusal::WrongOffset => OFFSET_OF_THE_ZONE,
     }
 }
 

@@ -80,6 +80,8 @@ fn text_word(refusal: text_import::Refusal) -> &'static str
         text_import::Refusal::TooHeavy => "row-too-heavy",
         text_import::Refusal::DictionaryFull => "dictionary-full",
         text_import::Refusal::WrongKind => "wrong-kind",
+        text_import::Refusal::NotADate => "not-a-date",
+        text_import::Refusal::WrongOffset => "wrong-offset",
     }
 }
 

@@ -94,10 +94,10 @@ copy_plain name p = by_each (1 == p) (2 == p) (3 == p) refl refl refl
     by_each false false true d e f = rw (d, e, f) refl
     by_each false false false d e f = rw (d, e, f) refl
 
-pub append_plain : (forms : ValueParser) (name : Text) (p : ℕ) → ends_options (arg_by_index (built (append_app forms name)).top.rules p) ≡ false
-append_plain forms name p = by_each (1 == p) (2 == p) refl refl
+pub append_plain : (forms dates : ValueParser) (name : Text) (p : ℕ) → ends_options (arg_by_index (built (append_app forms dates name)).top.rules p) ≡ false
+append_plain forms dates name p = by_each (1 == p) (2 == p) refl refl
   where
-    by_each : (a b : Bool) → (1 == p) ≡ a → (2 == p) ≡ b → ends_options (arg_by_index (built (append_app forms name)).top.rules p) ≡ false
+    by_each : (a b : Bool) → (1 == p) ≡ a → (2 == p) ≡ b → ends_options (arg_by_index (built (append_app forms dates name)).top.rules p) ≡ false
     by_each true b d e = rw d refl
     by_each false true d e = rw (d, e) refl
     by_each false false d e = rw (d, e) refl
@@ -144,8 +144,8 @@ format_top name = (built (format_app name)).top
 abbrev pub copy_top : Text → Shape
 copy_top name = (built (copy_app name)).top
 
-abbrev pub append_top : ValueParser → Text → Shape
-append_top forms name = (built (append_app forms name)).top
+abbrev pub append_top : (forms dates : ValueParser) → Text → Shape
+append_top forms dates name = (built (append_app forms dates name)).top
 
 abbrev pub create_top : Text → Shape
 create_top name = (built (create_app name)).top
@@ -247,13 +247,13 @@ last_fault : (s : Shape) (ops : List Text) → or_else (defaults_fault (settled 
     → check_fault s (finished s.rules (operands_held s ops)) false ≡ []
 last_fault s ops e = later_fault (defaults_fault (settled s.rules (operands_held s ops)).rows s.rules) (check_fault s (finished s.rules (operands_held s ops)) false) e
 
-append_named : (forms : ValueParser) (name : Text) (ops : List Text) → operands_fault (append_top forms name) ops ≡ []
-    → ops ≡ row_value (codes "STORE") (operand_rows (append_top forms name) ops) ∷ row_value (codes "NAME") (operand_rows (append_top forms name) ops) ∷ []
+append_named : (forms dates : ValueParser) (name : Text) (ops : List Text) → operands_fault (append_top forms dates name) ops ≡ []
+    → ops ≡ row_value (codes "STORE") (operand_rows (append_top forms dates name) ops) ∷ row_value (codes "NAME") (operand_rows (append_top forms dates name) ops) ∷ []
 unfolding clap_on_literals
-append_named forms name [] e = absurd (some_kind _ _ (last_fault (append_top forms name) [] e))
-append_named forms name (a ∷ []) e = absurd (some_kind _ _ (last_fault (append_top forms name) (a ∷ []) e))
-append_named forms name (a ∷ b ∷ []) e = refl
-append_named forms name (a ∷ b ∷ c ∷ rest) e = absurd (some_kind _ _ e)
+append_named forms dates name [] e = absurd (some_kind _ _ (last_fault (append_top forms dates name) [] e))
+append_named forms dates name (a ∷ []) e = absurd (some_kind _ _ (last_fault (append_top forms dates name) (a ∷ []) e))
+append_named forms dates name (a ∷ b ∷ []) e = refl
+append_named forms dates name (a ∷ b ∷ c ∷ rest) e = absurd (some_kind _ _ e)
 
 -- all values of an argument
 abbrev row_values : Text → List Row → List Text
@@ -303,13 +303,13 @@ query_named name (a ∷ b ∷ c ∷ rest) e =
     ap (named_in s (codes "CONDITION")) (sym held)
 
 -- without options
-append_stream : (forms : ValueParser) (name : Text) (ops : List Text) → operands_fault (append_top forms name) ops ≡ []
-    → row_value (codes "as") (operand_rows (append_top forms name) ops) ≡ codes "stream"
+append_stream : (forms dates : ValueParser) (name : Text) (ops : List Text) → operands_fault (append_top forms dates name) ops ≡ []
+    → row_value (codes "as") (operand_rows (append_top forms dates name) ops) ≡ codes "stream"
 unfolding clap_on_literals
-append_stream forms name [] e = absurd (some_kind _ _ (last_fault (append_top forms name) [] e))
-append_stream forms name (a ∷ []) e = absurd (some_kind _ _ (last_fault (append_top forms name) (a ∷ []) e))
-append_stream forms name (a ∷ b ∷ []) e = refl
-append_stream forms name (a ∷ b ∷ c ∷ rest) e = absurd (some_kind _ _ e)
+append_stream forms dates name [] e = absurd (some_kind _ _ (last_fault (append_top forms dates name) [] e))
+append_stream forms dates name (a ∷ []) e = absurd (some_kind _ _ (last_fault (append_top forms dates name) (a ∷ []) e))
+append_stream forms dates name (a ∷ b ∷ []) e = refl
+append_stream forms dates name (a ∷ b ∷ c ∷ rest) e = absurd (some_kind _ _ e)
 
 abbrev options_in : Text → Held → Option Text × Option Text × Option Text × Option Text
 options_in name h =
@@ -441,14 +441,14 @@ module _ (word : Text) (words : List Text) (m : ArgMatches) (a : App) (name : Te
       copy_named name ops (sym reads.fault ∙ p.faultless refl)
       ∙ (λ i. found_value m _ (codes "STORE") rows i ∷ found_value m _ (codes "NEW") rows i ∷ found_value m _ (codes "SECTORS") rows i ∷ [])
 
-  append_found : (forms : ValueParser) → a ≡ append_app forms name → (ops : List Text) → operands words ≡ Some ops
+  append_found : (forms dates : ValueParser) → a ≡ append_app forms dates name → (ops : List Text) → operands words ≡ Some ops
       → ops ≡ value_of (found_of m) (codes "STORE") ∷ value_of (found_of m) (codes "NAME") ∷ []
   unfolding clap_on_literals
-  append_found forms is ops e =
-      let reads = reads_operands (append_app forms name) word words ops e refl refl (append_plain forms name) in
-      let p : Parsed (append_app forms name) (word ∷ words) m = subst (λ (x : App). Parsed x (word ∷ words) m) is parsed in
+  append_found forms dates is ops e =
+      let reads = reads_operands (append_app forms dates name) word words ops e refl refl (append_plain forms dates name) in
+      let p : Parsed (append_app forms dates name) (word ∷ words) m = subst (λ (x : App). Parsed x (word ∷ words) m) is parsed in
       let rows = (p.matches refl).0 ∙ reads.rows in
-      append_named forms name ops (sym reads.fault ∙ p.faultless refl)
+      append_named forms dates name ops (sym reads.fault ∙ p.faultless refl)
       ∙ (λ i. found_value m _ (codes "STORE") rows i ∷ found_value m _ (codes "NAME") rows i ∷ [])
 
   create_found : a ≡ create_app name → (ops : List Text) → operands words ≡ Some ops
@@ -471,13 +471,13 @@ module _ (word : Text) (words : List Text) (m : ArgMatches) (a : App) (name : Te
       query_named name ops (sym reads.fault ∙ p.faultless refl)
       ∙ (λ i. found_value m _ (codes "STORE") rows i ∷ found_value m _ (codes "NAME") rows i ∷ found_values m _ (codes "CONDITION") rows i)
 
-  append_default : (forms : ValueParser) → a ≡ append_app forms name → (ops : List Text) → operands words ≡ Some ops → value_of (found_of m) (codes "as") ≡ codes "stream"
+  append_default : (forms dates : ValueParser) → a ≡ append_app forms dates name → (ops : List Text) → operands words ≡ Some ops → value_of (found_of m) (codes "as") ≡ codes "stream"
   unfolding clap_on_literals
-  append_default forms is ops e =
-      let reads = reads_operands (append_app forms name) word words ops e refl refl (append_plain forms name) in
-      let p : Parsed (append_app forms name) (word ∷ words) m = subst (λ (x : App). Parsed x (word ∷ words) m) is parsed in
+  append_default forms dates is ops e =
+      let reads = reads_operands (append_app forms dates name) word words ops e refl refl (append_plain forms dates name) in
+      let p : Parsed (append_app forms dates name) (word ∷ words) m = subst (λ (x : App). Parsed x (word ∷ words) m) is parsed in
       let rows = (p.matches refl).0 ∙ reads.rows in
-      sym (found_value m _ (codes "as") rows) ∙ append_stream forms name ops (sym reads.fault ∙ p.faultless refl)
+      sym (found_value m _ (codes "as") rows) ∙ append_stream forms dates name ops (sym reads.fault ∙ p.faultless refl)
 
   query_options : a ≡ query_app name → (ops : List Text) → operands words ≡ Some ops → HasNoOption (found_of m)
   unfolding clap_on_literals
@@ -536,7 +536,7 @@ module _ (word : Text) (words : List Text) (m : ArgMatches) (a : App) (own : IsO
       → ops ≡ value_of (found_of m) (codes "STORE") ∷ value_of (found_of m) (codes "NAME") ∷ []
   names_rows is ops e =
       let own_app = subst (λ (b : Parameters). IsAppWith word b a) is own in
-      append_found word words m a word parsed own_app.0 own_app.2 ops e
+      append_found word words m a word parsed own_app.0 own_app.2 own_app.4 ops e
 
   names_fields : parameters_of word ≡ parameters.TableAndFields → (ops : List Text) → operands words ≡ Some ops
       → ops ≡ value_of (found_of m) (codes "STORE") ∷ value_of (found_of m) (codes "NAME") ∷ values_of (found_of m) (codes "FIELD")
@@ -549,7 +549,7 @@ module _ (word : Text) (words : List Text) (m : ArgMatches) (a : App) (own : IsO
   asks_stream : parameters_of word ≡ parameters.TableAndRows → (ops : List Text) → operands words ≡ Some ops → bytes_eq (value_of (found_of m) (codes "as")) (codes "stream") ≡ false → ⊥
   asks_stream is ops e other =
       let own_app = subst (λ (b : Parameters). IsAppWith word b a) is own in
-      true≢false (ap (λ (form : Text). bytes_eq form (codes "stream")) (sym (append_default word words m a word parsed own_app.0 own_app.2 ops e)) ∙ other)
+      true≢false (ap (λ (form : Text). bytes_eq form (codes "stream")) (sym (append_default word words m a word parsed own_app.0 own_app.2 own_app.4 ops e)) ∙ other)
 
   pub asks_all : parameters_of word ≡ parameters.TableAndQuery → (ops : List Text) → operands words ≡ Some ops → HasNoOption (found_of m)
   asks_all is ops e = query_options word words m a word parsed (subst (λ (b : Parameters). IsAppWith word b a) is own) ops e

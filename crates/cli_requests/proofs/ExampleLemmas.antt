@@ -14,7 +14,7 @@ use Rattle.clap.specs.Lexer.{usize_max}
 use Rattle.clap.specs.declared.builder.value_parser.ValueParser.TheVariants as parsers
 use Rattle.clap.proofs.OnLiterals.{clap_on_literals}
 use Rattle.clap.specs.declared.builder.value_parser.ValueParser.{ValueParser}
-use Rattle.cli_requests.specs.Apps.{AreForms, IsOwnApp, info_app, format_app, import_app, query_app, replay_app, append_app, other_parameters, parameters_of}
+use Rattle.cli_requests.specs.Apps.{AreForms, AreDateForms, IsOwnApp, info_app, format_app, import_app, query_app, replay_app, append_app, other_parameters, parameters_of}
 use Rattle.cli_requests.specs.Examples.{AreExamples, AreFound, AreReadAs, AreValuesRead, IsVersion, Valued, called}
 use Rattle.cli_requests.specs.Numbers.{is_number, is_number_if_any}
 use Rattle.cli_requests.specs.Operands.{names_file, names_table}
@@ -144,16 +144,16 @@ past fault = or_else fault []
 abbrev form_fault : ValueParser → Bool → Kinds
 form_fault forms accepted = past (past (past (past (past (if accepted then [] else refused_kind forms ∷ [])))))
 
-append_faultless : (forms : ValueParser) → AreForms forms → fault_of (append_app forms (codes "append")) append_words ≡ []
+append_faultless : (forms dates : ValueParser) → AreForms forms → AreDateForms dates → fault_of (append_app forms dates (codes "append")) append_words ≡ []
 unfolding walked clap_on_literals
-append_faultless forms known = ap (form_fault forms) (known (codes "csv"))
+append_faultless forms dates known dated = rw (known (codes "csv"), dated (codes "number")) refl
 
 append_example : AreReadAs (called (codes "append" ∷ codes "store" ∷ codes "readings" ∷ codes "--as" ∷ codes "csv" ∷ codes "--null=NA" ∷ []))
     ((codes "STORE", codes "store" ∷ []) ∷ (codes "NAME", codes "readings" ∷ []) ∷ (codes "as", codes "csv" ∷ []) ∷ (codes "null", codes "NA" ∷ []) ∷ [])
 unfolding names_file names_table other_parameters parameters_of first_word makes_word is_number walked clap_on_literals
 append_example =
     let only : (command : App) → IsOwnApp (codes "append") command → AreTakenAs command = λ command own.
-    subst AreTakenAs (sym own.2) (append_faultless own.0 own.1, append_takable _ _, (refl, (refl, (refl, (refl, tt))))) in
+    subst AreTakenAs (sym own.4) (append_faultless own.0 own.2 own.1 own.3, append_takable _ _, (refl, (refl, (refl, (refl, tt))))) in
     record { taken = λ command own. ((only command own).0, (only command own).1); found = λ command own. (only command own).2 }
 
 printed_example : AreReadAs
@@ -220,19 +220,19 @@ import_values : (file name : Text) → AreReadAs (called (codes "import" ∷ cod
 unfolding names_file names_table other_parameters parameters_of first_word makes_word is_number walked clap_on_literals
 import_values file name = read_as _ _ (import_app (codes "import")) (λ command own. sym own) refl (import_takable _ _) (refl, (refl, (refl, tt)))
 
-module _ (forms : ValueParser) (known : AreForms forms) where
+module _ (forms dates : ValueParser) (known : AreForms forms) (dated : AreDateForms dates) where
   abbrev words_of_append : (form null file name : Text) → List Text
   words_of_append form null file name = codes "append" ∷ (codes "--as=" ++ form) ∷ (codes "--null=" ++ null) ∷ codes "--" ∷ file ∷ name ∷ []
 
   append_form : (form null file name : Text) → (form ≡ codes "csv") ⊎ (form ≡ codes "jsonl")
-      → fault_of (append_app forms (codes "append")) (words_of_append form null file name) ≡ []
+      → fault_of (append_app forms dates (codes "append")) (words_of_append form null file name) ≡ []
   unfolding walked clap_on_literals
   append_form form null file name (inl csv) =
-      subst (λ (f : Text). fault_of (append_app forms (codes "append")) (words_of_append f null file name) ≡ []) (sym csv)
-      (ap (λ (ok : Bool). past (past (past (past (if ok then [] else refused_kind forms ∷ []))))) (known (codes "csv")))
+      subst (λ (f : Text). fault_of (append_app forms dates (codes "append")) (words_of_append f null file name) ≡ []) (sym csv)
+      (rw (known (codes "csv"), dated (codes "number")) refl)
   append_form form null file name (inr lines) =
-      subst (λ (f : Text). fault_of (append_app forms (codes "append")) (words_of_append f null file name) ≡ []) (sym lines)
-      (ap (λ (ok : Bool). past (past (past (past (if ok then [] else refused_kind forms ∷ []))))) (known (codes "jsonl")))
+      subst (λ (f : Text). fault_of (append_app forms dates (codes "append")) (words_of_append f null file name) ≡ []) (sym lines)
+      (rw (known (codes "jsonl"), dated (codes "number")) refl)
 
 append_values : (form null file name : Text) → (form ≡ codes "csv") ⊎ (form ≡ codes "jsonl")
     → AreReadAs (called (codes "append" ∷ (codes "--as=" ++ form) ∷ (codes "--null=" ++ null) ∷ codes "--" ∷ file ∷ name ∷ []))
@@ -241,9 +241,9 @@ unfolding names_file names_table other_parameters parameters_of first_word makes
 append_values form null file name is = record {
   taken = λ command own. subst (λ (a : App). (fault_of a (codes "append" ∷ (codes "--as=" ++ form) ∷ (codes "--null=" ++ null) ∷ codes "--" ∷ file ∷ name ∷ []) ≡ [])
       × AreRowsTakable (codes "append") (matches_of a (codes "append" ∷ (codes "--as=" ++ form) ∷ (codes "--null=" ++ null) ∷ codes "--" ∷ file ∷ name ∷ [])))
-      (sym own.2) (append_form own.0 own.1 form null file name is, append_takable _ _);
+      (sym own.4) (append_form own.0 own.2 own.1 own.3 form null file name is, append_takable _ _);
   found = λ command own. subst (λ (a : App). AreFound (matches_of a (codes "append" ∷ (codes "--as=" ++ form) ∷ (codes "--null=" ++ null) ∷ codes "--" ∷ file ∷ name ∷ []))
-      ((codes "STORE", file ∷ []) ∷ (codes "NAME", name ∷ []) ∷ (codes "as", form ∷ []) ∷ (codes "null", null ∷ []) ∷ [])) (sym own.2) (refl, (refl, (refl, (refl, tt))));
+      ((codes "STORE", file ∷ []) ∷ (codes "NAME", name ∷ []) ∷ (codes "as", form ∷ []) ∷ (codes "null", null ∷ []) ∷ [])) (sym own.4) (refl, (refl, (refl, (refl, tt))));
 }
 
 -- ---- a query, with any conditions

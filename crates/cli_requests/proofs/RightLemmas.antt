@@ -28,7 +28,7 @@ use Rattle.clap.specs.declared.parser.matches.ArgMatches.{ArgMatches}
 use Rattle.clap.specs.declared.parser.matches.Found.{Found}
 use Rattle.clap.proofs.OnLiterals.{clap_on_literals}
 use Rattle.clap.specs.Walk.{walked}
-use Rattle.cli_requests.specs.Apps.{info_app, format_app, copy_app, table_app, import_app, rename_app, create_app, append_app, query_app, other_parameters, parameters_of, AreForms, IsAppWith, IsOwnApp}
+use Rattle.cli_requests.specs.Apps.{info_app, format_app, copy_app, table_app, import_app, rename_app, create_app, append_app, query_app, other_parameters, parameters_of, AreForms, AreDateForms, IsAppWith, IsOwnApp}
 use Rattle.cli_requests.specs.Apps.{HasFound, IsOfMemory, value_of}
 use Rattle.cli_requests.specs.Numbers.{is_number, is_number_if_any}
 use Rattle.cli_requests.specs.Operands.{is_option, operands, names_file, names_table}
@@ -125,13 +125,13 @@ full_copy name (a ∷ b ∷ []) e = absurd (true≢false (sym e))
 full_copy name (a ∷ b ∷ c ∷ []) e = ap number_fault (number_accepted c e)
 full_copy name (a ∷ b ∷ c ∷ d ∷ rest) e = absurd (true≢false (sym e))
 
-full_append : (forms : ValueParser) (name : Text) (ops : List Text) → AreForms forms → length ops ≡ 2
-    → operands_fault (append_top forms name) ops ≡ []
+full_append : (forms dates : ValueParser) (name : Text) (ops : List Text) → AreForms forms → AreDateForms dates → length ops ≡ 2
+    → operands_fault (append_top forms dates name) ops ≡ []
 unfolding clap_on_literals
-full_append forms name [] known e = absurd (omega (arith, e))
-full_append forms name (a ∷ []) known e = absurd (omega (arith, e))
-full_append forms name (a ∷ b ∷ []) known e = rw (known (codes "stream")) refl
-full_append forms name (a ∷ b ∷ c ∷ rest) known e = absurd (omega (arith, e))
+full_append forms dates name [] known dated e = absurd (omega (arith, e))
+full_append forms dates name (a ∷ []) known dated e = absurd (omega (arith, e))
+full_append forms dates name (a ∷ b ∷ []) known dated e = rw (known (codes "stream"), dated (codes "number")) refl
+full_append forms dates name (a ∷ b ∷ c ∷ rest) known dated e = absurd (omega (arith, e))
 
 texts_accepted : (vs : List Text) → values_kinds false parsers.String vs ≡ []
 texts_accepted [] = refl
@@ -203,10 +203,10 @@ module _ (word : Text) (words ops : List Text) (is : operands words ≡ Some ops
       subst (λ (x : App). IsFaultless x (word ∷ words)) (sym own)
       (refl, (reads_operands (create_app word) word words ops is refl refl (create_plain word)).fault ∙ full_create word ops right few)
   right_faultless parameters.TableAndRows a own right =
-      subst (λ (x : App). IsFaultless x (word ∷ words)) (sym own.2) (
+      subst (λ (x : App). IsFaultless x (word ∷ words)) (sym own.4) (
         refl,
-        (reads_operands (append_app own.0 word) word words ops is refl refl (append_plain own.0 word)).fault
-            ∙ full_append own.0 word ops own.1 (eqb-true (length ops) 2 right),
+        (reads_operands (append_app own.0 own.2 word) word words ops is refl refl (append_plain own.0 own.2 word)).fault
+            ∙ full_append own.0 own.2 word ops own.1 own.3 (eqb-true (length ops) 2 right),
       )
   right_faultless parameters.TableAndQuery a own right =
       subst (λ (x : App). IsFaultless x (word ∷ words)) (sym own)

@@ -27,6 +27,8 @@ use Rattle.cli_requests.specs.declared.store_words.StoreCommand.{StoreCommand}
 use Rattle.cli_requests.specs.declared.store_words.StoreCommand.TheVariants as commands
 use Rattle.cli_requests.specs.declared.store_words.StoreRequest.{StoreRequest}
 use Rattle.cli_requests.specs.declared.store_words.StoreRequest.TheVariants as requests
+use Rattle.civil_days.specs.declared.date_form.DateForm.{DateForm}
+use Rattle.civil_days.specs.declared.date_form.DateForm.TheVariants.{Numbers, Iso}
 use Rattle.text_import.specs.declared.form.TextForm.{TextForm}
 use Rattle.text_import.specs.declared.form.TextForm.TheVariants as text_forms
 
@@ -93,8 +95,12 @@ form_rule forms = record (option_rule (codes "as")) { parser = Some forms; defau
 abbrev pub null_rule : Rule
 null_rule = record (option_rule (codes "null")) { defaults = [] ∷ [] }
 
-abbrev pub append_app : ValueParser → Text → App
-append_app forms name = with_rule (with_rule (table_app name) (form_rule forms)) null_rule
+-- how dates and times stand in texts, by default as numbers
+abbrev pub dates_rule : ValueParser → Rule
+dates_rule dates = record (option_rule (codes "dates")) { parser = Some dates; defaults = codes "number" ∷ [] }
+
+abbrev pub append_app : (forms dates : ValueParser) → Text → App
+append_app forms dates name = with_rule (with_rule (with_rule (table_app name) (form_rule forms)) null_rule) (dates_rule dates)
 
 -- a command that takes a query, and a name to save it under
 abbrev pub limit_rule : Rule
@@ -131,6 +137,13 @@ is_form word = bytes_eq (codes "stream") word || (bytes_eq (codes "csv") word ||
 abbrev pub AreForms : ValueParser → Type 0
 AreForms forms = (word : Text) → accepts false forms word ≡ is_form word
 
+-- how dates may stand, and in no other way
+abbrev pub is_date_form : Text → Bool
+is_date_form word = bytes_eq (codes "number") word || bytes_eq (codes "iso") word
+
+abbrev pub AreDateForms : ValueParser → Type 0
+AreDateForms dates = (word : Text) → accepts false dates word ≡ is_date_form word
+
 -- the command of this name with these parameters
 abbrev pub IsAppWith : Text → Parameters → App → Type 0
 IsAppWith name parameters.Nothing command = command ≡ store_app name
@@ -141,7 +154,8 @@ IsAppWith name parameters.TableAndNewName command = command ≡ rename_app name
 IsAppWith name parameters.Sectors command = command ≡ format_app name
 IsAppWith name parameters.NewStore command = command ≡ copy_app name
 IsAppWith name parameters.TableAndFields command = command ≡ create_app name
-IsAppWith name parameters.TableAndRows command = (forms : ValueParser) × AreForms forms × (command ≡ append_app forms name)
+IsAppWith name parameters.TableAndRows command =
+    (forms : ValueParser) × AreForms forms × (dates : ValueParser) × AreDateForms dates × (command ≡ append_app forms dates name)
 IsAppWith name parameters.TableAndQuery command = command ≡ query_app name
 IsAppWith name parameters.ScriptAndFaults command = command ≡ replay_app name
 
@@ -187,10 +201,16 @@ pub record HasFlag (found : Found) (id : Text) (flag : Bool) : Type 0 where
   pub left_out : one_text found id ≡ Some (codes "false") → flag ≡ false
   pub given : one_text found id ≡ Some (codes "true") → flag ≡ true
 
+-- dates stand as people write them if this was found
+abbrev pub HasDates : Found → DateForm → Type 0
+HasDates found Iso = value_of found (codes "dates") ≡ codes "iso"
+HasDates found Numbers = value_of found (codes "dates") ≢ codes "iso"
+
 -- the form of a text is the one that was found, and in CSV the text that was found stands for null
 abbrev pub HasTextForm : Found → TextForm → Type 0
-HasTextForm found (text_forms.Csv null_text) = (value_of found (codes "as") ≡ codes "csv") × (null_text.now ≡ value_of found (codes "null"))
-HasTextForm found text_forms.JsonLines = value_of found (codes "as") ≢ codes "csv"
+HasTextForm found (text_forms.Csv form) =
+    (value_of found (codes "as") ≡ codes "csv") × (form.null_text.now ≡ value_of found (codes "null")) × HasDates found form.dates
+HasTextForm found (text_forms.JsonLines date_form) = (value_of found (codes "as") ≢ codes "csv") × HasDates found date_form
 
 -- a command has the names that were found
 abbrev pub HasNames : Found → StoreCommand → Type 0

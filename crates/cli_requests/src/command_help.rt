@@ -48,6 +48,9 @@ nothing is read. For CSV and JSON Lines use create, and then append with --as.",
         example: "Example: arrowstore append store measurements --as csv --null NA < readings.csv
 where readings.csv begins with the line id,value
 
+With --dates iso, dates are written as in 2026-11-30, and timestamps as in
+2026-11-30T12:34:56.789Z, with an offset only if the column has a timezone.
+
 The whole table is read first, also for a single row, so append many rows at once.",
     },
     CommandHelp {

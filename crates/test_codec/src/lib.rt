@@ -9,6 +9,8 @@ mod batches;
 #[cfg(test)]
 mod bitmaps;
 #[cfg(test)]
+mod dates;
+#[cfg(test)]
 mod dictionaries;
 #[cfg(test)]
 mod dictionary_batches;
