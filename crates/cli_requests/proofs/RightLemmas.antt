@@ -160,16 +160,16 @@ full_create name (a ∷ b ∷ c ∷ rest) e few =
     let free = words_faultless s (codes "FIELD") rows (field_met name a b) (λ vs v. refl) (c ∷ []) rest in
     ap₂ (level_with s) free held ∙ words_free c rest (omega (arith, few))
 
-full_query : (name : Text) (ops : List Text) → nat_le 2 (length ops) ≡ true → length ops ≤ usize_max → operands_fault (query_top name) ops ≡ []
+full_query : (dates : ValueParser) (name : Text) (ops : List Text) → nat_le 2 (length ops) ≡ true → length ops ≤ usize_max → operands_fault (query_top dates name) ops ≡ []
 unfolding walked clap_on_literals
-full_query name [] e few = absurd (true≢false (sym e))
-full_query name (a ∷ []) e few = absurd (true≢false (sym e))
-full_query name (a ∷ b ∷ []) e few = refl
-full_query name (a ∷ b ∷ c ∷ rest) e few =
-    let s = query_top name in
+full_query dates name [] e few = absurd (true≢false (sym e))
+full_query dates name (a ∷ []) e few = absurd (true≢false (sym e))
+full_query dates name (a ∷ b ∷ []) e few = refl
+full_query dates name (a ∷ b ∷ c ∷ rest) e few =
+    let s = query_top dates name in
     let rows = file_and_table s.rules a b in
-    let held = words_read s (codes "CONDITION") rows (condition_met name a b) (c ∷ []) rest in
-    let free = words_faultless s (codes "CONDITION") rows (condition_met name a b) (λ vs v. refl) (c ∷ []) rest in
+    let held = words_read s (codes "CONDITION") rows (condition_met dates name a b) (c ∷ []) rest in
+    let free = words_faultless s (codes "CONDITION") rows (condition_met dates name a b) (λ vs v. refl) (c ∷ []) rest in
     ap₂ (level_with s) free held ∙ words_free c rest (omega (arith, few))
 
 abbrev IsFaultless : App → List Text → Type 0
@@ -209,8 +209,8 @@ module _ (word : Text) (words ops : List Text) (is : operands words ≡ Some ops
             ∙ full_append own.0 own.2 word ops own.1 own.3 (eqb-true (length ops) 2 right),
       )
   right_faultless parameters.TableAndQuery a own right =
-      subst (λ (x : App). IsFaultless x (word ∷ words)) (sym own)
-      (refl, (reads_operands (query_app word) word words ops is refl refl (query_plain word)).fault ∙ full_query word ops right few)
+      subst (λ (x : App). IsFaultless x (word ∷ words)) (sym own.2)
+      (refl, (reads_operands (query_app own.0 word) word words ops is refl refl (query_plain own.0 word)).fault ∙ full_query own.0 word ops right few)
   right_faultless parameters.ScriptAndFaults a own right = absurd (true≢false (sym right))
 
 -- ---- what is found of them
@@ -355,8 +355,8 @@ own_free word parameters.TableAndNewName a own = rw own refl
 own_free word parameters.Sectors a own = rw own refl
 own_free word parameters.NewStore a own = rw own refl
 own_free word parameters.TableAndFields a own = rw own refl
-own_free word parameters.TableAndRows a own = rw own.2 refl
-own_free word parameters.TableAndQuery a own = rw own refl
+own_free word parameters.TableAndRows a own = rw own.4 refl
+own_free word parameters.TableAndQuery a own = rw own.2 refl
 own_free word parameters.ScriptAndFaults a own = rw own refl
 
 -- what is so of the rows is so of what was found

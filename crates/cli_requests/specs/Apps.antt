@@ -11,8 +11,8 @@ use Rattle.clap.specs.declared.builder.value_parser.ValueParser.{ValueParser}
 use Rattle.clap.specs.declared.builder.value_parser.ValueParser.TheVariants as parsers
 use Rattle.clap.specs.declared.parser.matches.Found.{Found}
 use Rattle.commit.specs.declared.sector.FormatVersion.{FormatVersion}
-use Rattle.query.specs.declared.row_form.RowForm.{RowForm}
-use Rattle.query.specs.declared.row_form.RowForm.TheVariants.{Array, Object}
+use Rattle.query.specs.declared.row_form.RowShape.{RowShape}
+use Rattle.query.specs.declared.row_form.RowShape.TheVariants.{Array, Object}
 use Rattle.clap.specs.declared.error.kind.ErrorKind.TheVariants.{OutOfMemory}
 use Rattle.cli_requests.specs.declared.command_parameters.Parameters.{Parameters}
 use Rattle.cli_requests.specs.declared.command_parameters.Parameters.TheVariants as parameters
@@ -109,9 +109,13 @@ limit_rule = record (option_rule (codes "limit")) { parser = Some (parsers.Unsig
 abbrev pub conditions_app : Text → App
 conditions_app name = with_rule (table_app name) (repeated_rule (codes "CONDITION"))
 
-abbrev pub query_app : Text → App
-query_app name = with_rule (with_rule (with_rule (with_rule (conditions_app name) (option_rule (codes "columns"))) limit_rule) (option_rule (codes "save")))
-    (flag_rule (codes "objects"))
+-- how dates and times stand in conditions and lines, if it is said
+abbrev pub query_dates_rule : ValueParser → Rule
+query_dates_rule dates = record (option_rule (codes "dates")) { parser = Some dates }
+
+abbrev pub query_app : (dates : ValueParser) → Text → App
+query_app dates name = with_rule (with_rule (with_rule (with_rule (with_rule (conditions_app name) (option_rule (codes "columns"))) limit_rule) (option_rule (codes "save")))
+    (flag_rule (codes "objects"))) (query_dates_rule dates)
 
 -- a script, and what goes wrong while it is played
 abbrev pub number_rule : Text → Rule
@@ -156,7 +160,7 @@ IsAppWith name parameters.NewStore command = command ≡ copy_app name
 IsAppWith name parameters.TableAndFields command = command ≡ create_app name
 IsAppWith name parameters.TableAndRows command =
     (forms : ValueParser) × AreForms forms × (dates : ValueParser) × AreDateForms dates × (command ≡ append_app forms dates name)
-IsAppWith name parameters.TableAndQuery command = command ≡ query_app name
+IsAppWith name parameters.TableAndQuery command = (dates : ValueParser) × AreDateForms dates × (command ≡ query_app dates name)
 IsAppWith name parameters.ScriptAndFaults command = command ≡ replay_app name
 
 -- the parameters of a command
@@ -184,27 +188,28 @@ value_of found id = unwrap_or (first_value found id) []
 abbrev pub values_of : Found → Text → List Text
 values_of found id = unwrap_or (option_map raw_values (matched_of found id)) []
 
--- a query has the conditions, the columns and the limit that were found
+-- dates stand as people write them if this was found
+abbrev pub HasDates : Found → DateForm → Type 0
+HasDates found Iso = value_of found (codes "dates") ≡ codes "iso"
+HasDates found Numbers = value_of found (codes "dates") ≢ codes "iso"
+
+-- a query has the conditions, the columns and the limit that were found, and its dates stand as it was found
 pub record HasQuery (found : Found) (query : QueryWords) : Type 0 where
   pub conditions : texts query.conditions.items ≡ values_of found (codes "CONDITION")
   pub columns : option_map (λ s. s.now) query.columns ≡ first_value found (codes "columns")
   pub is_limit : is_number_if_any (first_value found (codes "limit")) ≡ true
   pub limit : query.limit ≡ option_map (digits_value 10) (first_value found (codes "limit"))
+  pub dates : HasDates found query.dates
 
 -- rows are objects if the option is given
-pub record HasForm (found : Found) (form : RowForm) : Type 0 where
-  pub arrays : one_text found (codes "objects") ≡ Some (codes "false") → form ≡ Array
-  pub objects : one_text found (codes "objects") ≡ Some (codes "true") → form ≡ Object
+pub record HasShape (found : Found) (shape : RowShape) : Type 0 where
+  pub arrays : one_text found (codes "objects") ≡ Some (codes "false") → shape ≡ Array
+  pub objects : one_text found (codes "objects") ≡ Some (codes "true") → shape ≡ Object
 
 -- the flag says whether this option without a value is given
 pub record HasFlag (found : Found) (id : Text) (flag : Bool) : Type 0 where
   pub left_out : one_text found id ≡ Some (codes "false") → flag ≡ false
   pub given : one_text found id ≡ Some (codes "true") → flag ≡ true
-
--- dates stand as people write them if this was found
-abbrev pub HasDates : Found → DateForm → Type 0
-HasDates found Iso = value_of found (codes "dates") ≡ codes "iso"
-HasDates found Numbers = value_of found (codes "dates") ≢ codes "iso"
 
 -- the form of a text is the one that was found, and in CSV the text that was found stands for null
 abbrev pub HasTextForm : Found → TextForm → Type 0
@@ -220,9 +225,9 @@ HasNames found (commands.Create name fields) = (name.now ≡ value_of found (cod
 HasNames found (commands.Append name) = (name.now ≡ value_of found (codes "NAME")) × (bytes_eq (value_of found (codes "as")) (codes "stream") ≡ true)
 HasNames found (commands.AppendText name form) =
     (name.now ≡ value_of found (codes "NAME")) × (bytes_eq (value_of found (codes "as")) (codes "stream") ≡ false) × HasTextForm found form
-HasNames found (commands.Query name query form) = (name.now ≡ value_of found (codes "NAME")) × HasQuery found query × HasForm found form
+HasNames found (commands.Query name query shape) = (name.now ≡ value_of found (codes "NAME")) × HasQuery found query × HasShape found shape
 HasNames found (commands.SaveAs from to query) =
-    (from.now ≡ value_of found (codes "NAME")) × (Some to.now ≡ first_value found (codes "save")) × HasQuery found query × HasForm found Array
+    (from.now ≡ value_of found (codes "NAME")) × (Some to.now ≡ first_value found (codes "save")) × HasQuery found query × HasShape found Array
 HasNames found (commands.Drop name) = name.now ≡ value_of found (codes "NAME")
 HasNames found (commands.Schema name) = name.now ≡ value_of found (codes "NAME")
 HasNames found (commands.Export name) = name.now ≡ value_of found (codes "NAME")

@@ -61,7 +61,8 @@ The whole table is read first, also for a single row, so append many rows at onc
 A LITERAL has no quotation marks, as in 'city = New York': it is all that follows the
 operator and one space. Bytes are pairs of hexadecimal digits, and bools are true or
 false. Dates and timestamps are the stored integers: the number of days, seconds, ..
-since 1970-01-01.",
+since 1970-01-01; with --dates iso they are as in 2026-11-30 or
+2026-11-30T12:34:56.789Z, in the conditions and in the lines.",
     },
     CommandHelp {
         name: "export",

@@ -2,7 +2,7 @@
 ghost use Rattle.std.specs.Prelude.{◌≡◌, false, codes, IfOk};
 ghost use Rattle.clap.specs.Words.{app_of, new_app, rule_of, with_rule};
 ghost use Rattle.clap.specs.declared.builder.value_parser.ValueParser.{ValueParser};
-ghost use Rattle.cli_requests.specs.Apps.{required_rule, flag_rule, sectors_rule, version_rule, repeated_rule, option_rule, form_rule, null_rule, dates_rule, limit_rule};
+ghost use Rattle.cli_requests.specs.Apps.{required_rule, flag_rule, sectors_rule, version_rule, repeated_rule, option_rule, form_rule, null_rule, dates_rule, query_dates_rule, limit_rule};
 ghost use Rattle.cli_requests.specs.Apps.{store_app, info_app, format_app, new_file_app, copy_app, table_app, import_app, rename_app, create_app, append_app, conditions_app, query_app};
 ghost use Rattle.cli_requests.specs.Apps.{AreForms, AreDateForms, other_parameters, parameters_of, IsOwnApp};
 ghost use Rattle.cli_requests.specs.Operands.{names_file, names_table};
@@ -124,6 +124,19 @@ fn dates<'a>(alloc: Global) -> Arg<'a>
     )
     .value_parser(ValueParser::Names(&DATES))
     .default_value("number")
+}
+
+// How dates stand in what a query is given and prints.
+fn query_dates<'a>(alloc: Global) -> Arg<'a>
+    ensures { ((dates : ValueParser) × AreDateForms dates × (rule_of result ≡ query_dates_rule dates)) × (result.global ≡ false) }
+{
+    option(
+        alloc,
+        "dates",
+        "HOW",
+        "How dates and timestamps stand in the conditions and in the lines: number, the default, is the number of days, seconds, .. since 1970-01-01; iso is as in 2026-11-30 or 2026-11-30T12:34:56Z",
+    )
+    .value_parser(ValueParser::Names(&DATES))
 }
 
 fn limit<'a>(alloc: Global) -> Arg<'a>
@@ -290,7 +303,7 @@ fn with_conditions<'a>(alloc: Global, name: &'a str) -> Result<Command<'a>, Allo
 
 /// Makes a command that takes a query, and how to print the rows or a name to save them under.
 pub(crate) fn with_query<'a>(alloc: Global, name: &'a str) -> Result<Command<'a>, AllocError>
-    ensures { IfOk result (λ c. app_of c ≡ query_app name.now) }
+    ensures { IfOk result (λ c. (dates : ValueParser) × AreDateForms dates × (app_of c ≡ query_app dates name.now)) }
 {
     let columns = option(
         alloc,
@@ -313,7 +326,8 @@ pub(crate) fn with_query<'a>(alloc: Global, name: &'a str) -> Result<Command<'a>
         .arg(columns)?
         .arg(limit(alloc))?
         .arg(save)?
-        .arg(objects)
+        .arg(objects)?
+        .arg(query_dates(alloc))
 }
 
 fn command<'a>(alloc: Global, name: &'a str) -> Result<Command<'a>, AllocError>

@@ -23,6 +23,8 @@ mod messages;
 #[cfg(test)]
 mod queries;
 #[cfg(test)]
+mod query_dates;
+#[cfg(test)]
 mod read_streams;
 #[cfg(test)]
 mod record_batches;

@@ -7,7 +7,7 @@ use arrow_schema::Schema;
 use field_texts::field_text;
 use ipc_encode::encode;
 use ipc_stream::{decode, decode_weighed};
-use query::{Condition, Query};
+use query::{Condition, DateForm, Query};
 use std::alloc::Global;
 use store::Reply;
 use tables::{Command, NewTable};
@@ -113,6 +113,7 @@ pub fn query(alloc: Global, asked: Asked) -> Result<Query, NotMade> {
         columns: texts(alloc, asked.0)?,
         conditions: conditions(alloc, asked.1)?,
         limit: asked.2,
+        dates: DateForm::Numbers,
     })
 }
 
