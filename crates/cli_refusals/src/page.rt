@@ -189,7 +189,8 @@ or appended. If no advice follows a fault, the cause is the program that wrote t
     NO_FOLDER,
     "
 - G3 BadScript N: `replay` cannot play line N of the script, counted from 1. Single spaces separate the
-  words of a line. Either these words are not a command of a script, or a field text is refused (P).
+  words of a line, and a word with spaces stands in quotation marks. Either these words are not a command
+  of a script, or the text of a field (P) or the form of a condition (Q2) is refused.
   ",
     LINES_OF_A_SCRIPT,
     "

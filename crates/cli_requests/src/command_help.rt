@@ -144,8 +144,10 @@ copy again.",
         example: "Example: arrowstore replay script --sectors 16 --stop 8 --choice new
 where each line of script is one of these, with single spaces between the words:
 create NAME FIELD .., import NAME FILE, append NAME FILE, rename NAME NEW, drop NAME,
-compact (one step), upgrade or reopen. It prints ok or a refusal for each line. Writes
-and syncs of the device are counted from 1, after the formatting. No line may be empty.",
+save NAME NEW [--columns A,B] [--] CONDITION .., compact (one step), upgrade or reopen.
+A word with spaces stands in quotation marks, and a mark in it is written twice. It
+prints ok or a refusal for each line. Writes and syncs of the device are counted from 1,
+after the formatting. No line may be empty.",
     },
 ];
 
