@@ -83,6 +83,7 @@ vectors: bin/arrowstore
 	tests/killed bin/arrowstore
 	tests/power_cuts bin/arrowstore
 	tests/failing_disks bin/arrowstore
+	tests/block_devices bin/arrowstore
 	tests/types bin/arrowstore
 	tests/shapes bin/arrowstore
 	tests/metadata bin/arrowstore
@@ -91,6 +92,7 @@ vectors: bin/arrowstore
 	tests/failing_writes bin/arrowstore
 	tests/run_vectors bin/arrowstore tests/vectors/ints tests/vectors/streams tests/vectors/traps
 	tests/texts bin/arrowstore tests/vectors/texts.jsonl tests/vectors/texts_worked.jsonl
+	tests/dates bin/arrowstore
 	tests/advice bin/arrowstore
 	tests/costs bin/arrowstore
 	tests/dist bin/arrowstore

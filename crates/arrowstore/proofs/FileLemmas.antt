@@ -10,7 +10,8 @@ use Rattle.std.specs.declared.io.traits.Seek.{Ghosts as SeekGhosts}
 use Rattle.sector_dev.specs.View.{failures_of, IsEmpty, IsOver}
 use Rattle.sector_dev.specs.declared.file.FileDevice.{FileDevice}
 use Rattle.sector_dev.specs.declared.sector_file.SectorFile.{Ghosts as FileGhosts}
-use Rattle.sector_dev.specs.declared.system_file.SystemFile.{SystemFile}
+use Rattle.sector_dev.specs.declared.confirmed_file.ConfirmedFile.{ConfirmedFile}
+use Rattle.sector_dev.specs.declared.system_file.PlainFile.{PlainFile}
 use Rattle.sector_dev.specs.declared.file.FileError.{FileError}
 use Rattle.sector_dev.specs.declared.file.TheConstants.{LEAST_SECTORS, MOST_SECTORS}
 use Rattle.sector_dev.specs.declared.file.FileError.TheVariants as files
@@ -45,7 +46,8 @@ of_file files.Io = tt
 of_file files.BadSize = tt
 
 -- a device that was opened over a file, by what its opening says
-pub opened_file : {F : Type 0} {r : ReadGhosts F} {w : WriteGhosts F} {s : SeekGhosts F} {f : FileGhosts (SystemFile F r w s)} (result : Result (FileDevice (SystemFile F r w s) f) FileError)
+pub opened_file : {F : Type 0} {r : ReadGhosts F} {w : WriteGhosts F} {s : SeekGhosts F} {g : FileGhosts (PlainFile F r w s)}
+    {f : FileGhosts (ConfirmedFile (PlainFile F r w s) g)} (result : Result (FileDevice (ConfirmedFile (PlainFile F r w s) g) f) FileError)
     → IfOk result (λ d. (file : F) × IsOver file d) → IfOk result (λ d. failures_of d ≡ 0) → IfOk result (λ d. IsEmpty d) → IfOk result (λ d. IsOpenedFile d)
 opened_file (Ok device) over none_failed none_buffered = record { over = over; none_failed = none_failed; none_buffered = none_buffered }
 opened_file (Err e) over none_failed none_buffered = tt

@@ -8,7 +8,8 @@ use Rattle.sector_dev.specs.declared.device.SectorDevice.{Ghosts}
 use Rattle.sector_dev.specs.View.{failures_of, IsEmpty, IsOver}
 use Rattle.sector_dev.specs.declared.file.FileDevice.{FileDevice}
 use Rattle.sector_dev.specs.declared.sector_file.SectorFile.{Ghosts as FileGhosts}
-use Rattle.sector_dev.specs.declared.system_file.SystemFile.{SystemFile}
+use Rattle.sector_dev.specs.declared.confirmed_file.ConfirmedFile.{ConfirmedFile}
+use Rattle.sector_dev.specs.declared.system_file.PlainFile.{PlainFile}
 use Rattle.sector_dev.specs.declared.file.TheConstants.{LEAST_SECTORS, MOST_SECTORS}
 use Rattle.commit.specs.Standing.{is_size}
 use Rattle.store.specs.declared.store.Store.{Store}
@@ -53,8 +54,8 @@ use Rattle.arrowstore.specs.OnDevice.{IsOpened, RefusesOpening, ServesDevice}
 use Rattle.arrowstore.specs.Serving.{Channels, channels, image_of}
 
 -- a device that was opened over a file: the whole file, with no write held back
-pub record IsOpenedFile {F : Type 0} {r : ReadGhosts F} {w : WriteGhosts F} {s : SeekGhosts F} {f : FileGhosts (SystemFile F r w s)}
-    (device : FileDevice (SystemFile F r w s) f) : Type 0 where
+pub record IsOpenedFile {F : Type 0} {r : ReadGhosts F} {w : WriteGhosts F} {s : SeekGhosts F} {g : FileGhosts (PlainFile F r w s)}
+    {f : FileGhosts (ConfirmedFile (PlainFile F r w s) g)} (device : FileDevice (ConfirmedFile (PlainFile F r w s) g) f) : Type 0 where
   pub over : (file : F) × IsOver file device
   pub none_failed : failures_of device ≡ 0
   pub none_buffered : IsEmpty device

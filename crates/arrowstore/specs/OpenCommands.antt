@@ -18,7 +18,7 @@ use Rattle.arrowstore.specs.declared.open_command.OpenCommand.TheVariants as ope
 
 -- the query that the words state, if they state one
 abbrev pub query_stated : QueryWords → Option PlainQuery
-query_stated q = stated_query (map (λ t. t.now) q.conditions.items) (option_copied q.columns) q.limit
+query_stated q = stated_query (map (λ t. t.now) q.conditions.items) (option_copied q.columns) q.limit q.dates
 
 -- the command makes a table of this name, with the fields that the texts state
 abbrev pub StatesTable : (name : List ℕ) → (texts : List (List ℕ)) → PlainCommand → Type 0
@@ -41,7 +41,8 @@ States (words.Import name) (opened.Import n) = n.now ≡ name.now
 States (words.ImportNew name) (opened.ImportNew n) = n.now ≡ name.now
 States (words.Append name) (opened.Append n) = n.now ≡ name.now
 States (words.AppendText name form) (opened.AppendText n f) = (n.now ≡ name.now) × (f ≡ form)
-States (words.Query name query form) (opened.Select n q f) = (n.now ≡ name.now) × (query_stated query ≡ Some (query_in q)) × (f ≡ form)
+States (words.Query name query shape) (opened.Select n q f) =
+    (n.now ≡ name.now) × (query_stated query ≡ Some (query_in q)) × (f.shape ≡ shape) × (f.dates ≡ query.dates)
 States words.Tables opened.Tables = Unit {0}
 States (words.Schema name) (opened.Schema n) = n.now ≡ name.now
 States (words.Export name) (opened.Export n) = n.now ≡ name.now
@@ -55,7 +56,7 @@ States _ _ = ⊥
 unfoldable pub RefusesStating : StoreCommand → Refusal → Type 0
 RefusesStating (words.Create name fields) refusal = RefusesFields (map (λ t. t.now) fields.items) refusal
 RefusesStating (words.SaveAs from to query) refusal = RefusesWords (query_stated query) refusal
-RefusesStating (words.Query name query form) refusal = RefusesWords (query_stated query) refusal
+RefusesStating (words.Query name query shape) refusal = RefusesWords (query_stated query) refusal
 RefusesStating (words.Rename from to) refusal = refusal ≡ refusals.OutOfMemory
 RefusesStating (words.Drop name) refusal = refusal ≡ refusals.OutOfMemory
 RefusesStating _ refusal = ⊥

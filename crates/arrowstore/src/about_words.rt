@@ -1,7 +1,8 @@
-// What is wrong with a refused word of the command line or with a field text in a script, in sentences for a terminal.
+// What is wrong with a refused word of the command line or with a line of a script, in sentences for a terminal.
 use crate::nearest_type::nearest_type;
 use arrow_schema::Field;
 use cli_refusals::{MOST_SHOWN, Refusal, Role, Word, has_unshown};
+use cli_scripts::{ScriptLine, line_of, script_words};
 use field_texts::{ParseError, field_text, parse_fields};
 use query::{Condition, Test};
 use std::alloc::Global;
@@ -59,11 +60,9 @@ fn about_field(alloc: Global, text: &str) -> Option<String> {
     }
 }
 
-/// Returns which field text of a line of a script is refused, and what is wrong with it.
-pub(crate) fn about_line(alloc: Global, line: &[u8]) -> Option<String> {
-    let words = str::from_utf8(line).ok()?.strip_prefix("create ")?;
-    let (_, texts) = words.split_once(' ')?;
-    for text in texts.split(' ') {
+// Returns which text of a field is refused, and what is wrong with it.
+fn about_fields(alloc: Global, texts: &[&str]) -> Option<String> {
+    for text in texts {
         if parse_fields(alloc, &[text]).is_err() {
             if !is_shown(text) {
                 return None;
@@ -92,6 +91,48 @@ fn about_form(alloc: Global, text: &str) -> Option<String> {
         "is" => String::from_str(alloc, "It ends neither in `is null` nor in `is not null`. ").ok(),
         _ if is_shown(operator) => format!(in alloc; "`{operator}` is not an operator. ").ok(),
         _ => None,
+    }
+}
+
+// Returns which text has not the form of a condition, and what is wrong with it.
+fn about_conditions(alloc: Global, texts: &[&str]) -> Option<String> {
+    for text in texts {
+        if Condition::parse(alloc, text).is_err() {
+            if !is_shown(text) {
+                return None;
+            }
+            let about = about_form(alloc, text)?;
+            return format!(in alloc; "The condition `{text}` is refused. {about}").ok();
+        }
+    }
+    None
+}
+
+fn about_texts(alloc: Global, words: &[String]) -> Option<String> {
+    let texts: Vec<&str> = words.iter().map(|word| word.as_str()).collect(alloc).ok()?;
+    match line_of(alloc, &texts).ok()?? {
+        ScriptLine::Create { fields, .. } => about_fields(alloc, &fields),
+        ScriptLine::Save { rows, .. } => about_conditions(alloc, &rows.conditions),
+        _ => None,
+    }
+}
+
+// Returns what is wrong with a line that has no words, if it is a text.
+fn about_marks(alloc: Global, line: &[u8]) -> Option<String> {
+    str::from_utf8(line).ok()?;
+    String::from_str(
+        alloc,
+        "A quotation mark is not closed, or something else than a space follows the one that closes a word. ",
+    )
+    .ok()
+}
+
+/// Returns which text of a field or condition of a line of a script is refused, and what is wrong with it; or that its quotation marks are wrong.
+pub(crate) fn about_line(alloc: Global, line: &[u8]) -> Option<String> {
+    let lines = script_words(alloc, line).ok()?;
+    match lines.first()? {
+        Some(words) => about_texts(alloc, words),
+        None => about_marks(alloc, line),
     }
 }
 

@@ -1,6 +1,7 @@
 // What a terminal shows beside a refusal: the system call that failed, or what a second look at the store, its path, the script or the kept start
 // of the input finds.
 use crate::about_words::about_tables;
+use crate::block_devices::unfit_device;
 use crate::copying_files::open_to_read;
 use crate::failing::report_of_failure;
 use crate::in_place_of_store::{
@@ -113,7 +114,10 @@ fn found_of<F: Read + Write + Seek + OpenFile + LockFile + Drop, H: Files<File =
     }
     match refusal {
         Refusal::Io(Side::File) => {
-            let file = file_in_place_of_store(rt, request)?;
+            let file = match unfit_device(rt, request) {
+                Some(file) => file,
+                None => file_in_place_of_store(rt, request)?,
+            };
             Some(AskedAgain::File(file))
         }
         Refusal::BadSize | Refusal::Opening(OpeningRefusal::Damaged(Cause::DeviceSize)) => {

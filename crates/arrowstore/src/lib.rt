@@ -13,6 +13,7 @@
 
 mod about_words;
 mod asking_again;
+mod block_devices;
 mod command_line;
 mod copying_files;
 mod ending;
@@ -36,6 +37,7 @@ mod serving_device;
 mod serving_open;
 mod streams_again;
 mod unread_tables;
+mod waiting;
 mod with_files;
 mod writing_streams;
 
@@ -48,5 +50,6 @@ pub use open_command::{OpenCommand, stated};
 pub use running::run;
 pub use serving_device::serve_device;
 pub use serving_open::serve_open;
+pub use waiting::asks_to_wait;
 pub use with_files::run_with_files;
 pub use writing_streams::writes_stream;

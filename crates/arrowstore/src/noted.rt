@@ -200,4 +200,16 @@ impl<F: LockFile> LockFile for NotedFile<'_, F> {
         self.note(FileCall::Lock, &locked);
         locked
     }
+
+    fn wait_to_write(&self) -> io::Result<()> {
+        let locked = self.file.wait_to_write();
+        self.note(FileCall::Lock, &locked);
+        locked
+    }
+
+    fn wait_to_read(&self) -> io::Result<()> {
+        let locked = self.file.wait_to_read();
+        self.note(FileCall::Lock, &locked);
+        locked
+    }
 }

@@ -82,7 +82,13 @@ fn query(alloc: Global, words: &QueryWords<'_>) -> Result<Query, Refusal>
     ensures stated { IfOk result (λ q. query_stated words.now ≡ Some (query_in q)) }
     ensures refused { IfErr result (RefusesWords (query_stated words.now)) }
 {
-    query_of(alloc, &words.conditions, words.columns, words.limit)
+    query_of(
+        alloc,
+        &words.conditions,
+        words.columns,
+        words.limit,
+        words.dates,
+    )
 }
 
 fn save_as(alloc: Global, from: &str, to: &str, words: &QueryWords<'_>) -> Result<Command, Refusal>
@@ -122,11 +128,14 @@ pub fn stated<'a>(alloc: Global, command: &StoreCommand<'a>) -> Result<OpenComma
         StoreCommand::Query {
             name,
             query: words,
-            form,
+            shape,
         } => Ok(OpenCommand::Select {
             name,
             query: query(alloc, words)?,
-            form: *form,
+            form: RowForm {
+                shape: *shape,
+                dates: words.dates,
+            },
         }),
         StoreCommand::SaveAs { from, to, query } => {
             Ok(OpenCommand::Change(save_as(alloc, from, to, query)?))

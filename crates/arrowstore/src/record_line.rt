@@ -74,7 +74,7 @@ pub(crate) fn line_of_refused(
         (
             StoreRequest::Command {
                 command: StoreCommand::AppendText {
-                    form: TextForm::Csv { .. },
+                    form: TextForm::Csv(_),
                     ..
                 },
                 ..

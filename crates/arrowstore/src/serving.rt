@@ -140,7 +140,16 @@ fn device_of<F: Read + Write + Seek + OpenFile + LockFile + Drop, H: Files<File 
     }
 }
 
-/// Returns `done`, and removes the new file if it is an error. The file's device still holds its lock, so nobody else has written to it.
+// Returns whether a regular file is at the path, and no device.
+fn is_file_at<H: Files>(rt: &H, path: &str) -> bool {
+    match fs::metadata(rt, path) {
+        Ok(found) => found.is_file(),
+        Err(_) => false,
+    }
+}
+
+/// Returns `done`, and removes the new file if it is an error. The file's device still holds its lock, so nobody else has written to it. A block device
+/// stays at its path.
 pub(crate) fn remove_on_error<T: Drop, H: Files>(
     rt: &H,
     path: &str,
@@ -148,7 +157,7 @@ pub(crate) fn remove_on_error<T: Drop, H: Files>(
 ) -> Result<T, Refusal>
     ensures { result ≡ done }
 {
-    if done.is_err() {
+    if done.is_err() && is_file_at(rt, path) {
         let _removed = fs::remove_file(rt, path);
     }
     done

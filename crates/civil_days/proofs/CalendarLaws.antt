@@ -191,7 +191,7 @@ days_from_civil-is y m d low first =
     omega (arith, signed_arith, year_start-count y low, days_from_civil-day_count y m d, day_count-day_of_year y m d first)
 
 -- dates in order have day numbers in order
-day_in_year : (y : ℤ) (m d : ℕ) → IsCivil y m d → days_of_months y (m - 1) + d ≤ days_in_year y
+pub day_in_year : (y : ℤ) (m d : ℕ) → IsCivil y m d → days_of_months y (m - 1) + d ≤ days_in_year y
 day_in_year y m d h = omega (arith, day_of_year_before y m d 12 h.0.0 h.1.1 h.0.1, days_of_months_all y)
 
 year_start-later : (y z : ℤ) → y <ℤ z → (year_start y +ℤ pos (days_in_year y)) ≤ℤ year_start z

@@ -7,3 +7,4 @@ pub mod Unit
 pub mod FarYear
 pub mod TimeRead
 pub mod Read
+pub mod Typed

@@ -1,13 +1,14 @@
 // Reads times.
-ghost use Rattle.std.specs.Prelude.{◌≡◌, ◌≤◌, ℕ, ℤ, pos, length, drop, take, IfSome, IsSome, Some};
-ghost use Rattle.jiff_core.specs.Calendar.{IsBetween};
+ghost use Rattle.std.specs.Prelude.{◌≡◌, ◌≤◌, ℕ, ℤ, length, IfSome, Some};
 ghost use Rattle.civil_days.specs.Calendar.{date_of_day};
+ghost use Rattle.civil_days.specs.FarYear.{IsYear};
+ghost use Rattle.civil_days.specs.Read.{time_in};
 ghost use Rattle.civil_days.specs.TimeRead.{IsTime};
-ghost use Rattle.civil_days.specs.inner.TimeForm.{behind_second, behind_date, fraction_of, zone_of, with_zone};
+ghost use Rattle.civil_days.specs.inner.TimeForm.{date_length, behind_second, behind_date, behind_day, fraction_of};
 
-use crate::clock::{clock_at, zone_at};
+use crate::clock::{clock_at, is_separator, zone_at};
 use crate::fraction::fraction_at;
-use crate::near::near_date;
+use crate::parse::parse_date;
 use crate::zone::Zone;
 
 // Returns the units behind a second, and the offset.
@@ -37,31 +38,51 @@ fn behind_date(text: &[u8], places: usize) -> Option<(u32, u32, Zone)>
     }
 }
 
+// Returns the same, or midnight if there is nothing.
+fn behind_day(text: &[u8], places: usize) -> Option<(u32, u32, Zone)>
+    requires { places ≤ 9 }
+    ensures { result ≡ behind_day places text.now }
+{
+    if text.is_empty() {
+        return Some((0, 0, Zone::Unzoned));
+    }
+    if text.len() < 9 {
+        return None;
+    }
+    behind_date(text, places)
+}
+
+// Returns how many bytes are before the first T or space.
+fn date_length(text: &[u8]) -> usize
+    ensures value { result ≡ date_length text.now }
+    ensures within { result ≤ length text.now }
+{
+    for i in 0..text.len() {
+        if is_separator(text[i]) {
+            return i;
+        }
+    }
+    text.len()
+}
+
 /// What the text of a time says: the day, the second of the day, the units behind it, and the offset.
 #[derive(Clone, Copy, Debug)]
 pub struct ReadTime {
-    pub day: i32,
+    pub day: i64,
     pub second: u32,
     pub units: u32,
     pub zone: Zone,
 }
 
-/// Reads a time of the years 0 to 9999, where a second has `places` digits behind it.
-pub fn near_time(text: &[u8], places: usize) -> Option<ReadTime>
+fn read_time(text: &[u8], places: usize) -> Option<ReadTime>
     requires { places ≤ 9 }
-    ensures shown { IfSome result (λ r. IsTime places text.now r.day r.second r.units r.zone) }
-    ensures exact { (day : ℤ) (second units : ℕ) (zone : Zone) → IsBetween (pos 0) (pos 9999) ((date_of_day day).year)
-        → IsTime places text.now day second units zone
-        → IfSome result (λ r. (r.day ≡ day) × (r.second ≡ second) × (r.units ≡ units) × (r.zone ≡ zone)) × IsSome result }
+    ensures { result ≡ time_in places text.now }
 {
-    if text.len() < 19 {
-        return None;
-    }
-    let (date, rest) = text.split_at(10);
-    let Some(day) = near_date(date) else {
+    let (date, rest) = text.split_at(date_length(text));
+    let Some(day) = parse_date(date) else {
         return None;
     };
-    match behind_date(rest, places) {
+    match behind_day(rest, places) {
         Some((second, units, zone)) => Some(ReadTime {
             day,
             second,
@@ -70,4 +91,15 @@ pub fn near_time(text: &[u8], places: usize) -> Option<ReadTime>
         }),
         None => None,
     }
+}
+
+/// Reads a time, or a date as its midnight, where a second has `places` digits behind it. Years have at most twelve digits.
+pub fn parse_time(text: &[u8], places: usize) -> Option<ReadTime>
+    requires { places ≤ 9 }
+    ensures value { result ≡ time_in places text.now }
+    ensures shown { IfSome result (λ r. IsTime places text.now r.day r.second r.units r.zone) }
+    ensures exact { (day : ℤ) (second units : ℕ) (zone : Zone) → IsYear (date_of_day day).year → IsTime places text.now day second units zone
+        → result ≡ Some (record { day = day; second = second; units = units; zone = zone }) }
+{
+    read_time(text, places)
 }

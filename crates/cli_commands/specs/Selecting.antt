@@ -4,6 +4,7 @@ use Rattle.std.specs.List.{slice_split}
 use Rattle.sector_dev.specs.Disk.{Image}
 use Rattle.cells.specs.Cell.{PlainTable}
 use Rattle.catalogue.specs.Entries.{PlainEntry}
+use Rattle.civil_days.specs.declared.date_form.DateForm.{DateForm}
 use Rattle.query.specs.Bound as query
 use Rattle.query.specs.ConditionText.{condition_of}
 use Rattle.query.specs.Printed.{printed_selection}
@@ -26,8 +27,8 @@ abbrev pub conditions_of : List (List ℕ) → Option (List PlainCondition)
 conditions_of texts = all_some (map condition_of texts)
 
 -- the query that the words of a command line state, or none if a text is no condition
-abbrev pub stated_query : List (List ℕ) → Option (List ℕ) → Option ℕ → Option PlainQuery
-stated_query texts columns limit = option_map (λ cs. record { columns = named_columns columns; conditions = cs; limit = limit }) (conditions_of texts)
+abbrev pub stated_query : List (List ℕ) → Option (List ℕ) → Option ℕ → DateForm → Option PlainQuery
+stated_query texts columns limit dates = option_map (λ cs. record { columns = named_columns columns; conditions = cs; limit = limit; dates = dates }) (conditions_of texts)
 
 -- why words state no query
 abbrev pub RefusesWords : {A : Type 0} → Option A → Refusal → Type 0

@@ -14,7 +14,7 @@ ghost use Rattle.cli_commands.specs.Reading.{store_ended};
 ghost use Rattle.cli_commands.specs.Selecting.{named_columns, conditions_of, stated_query, RefusesWords, QueryAnswers, RefusesQuery};
 
 use cli_refusals::{Refusal, Side, write_whole};
-use query::{Condition, Query, RowForm};
+use query::{Condition, DateForm, Query, RowForm};
 use sector_dev::SectorDevice;
 use std::alloc::{AllocError, Global};
 use std::io::Write;
@@ -57,7 +57,8 @@ fn conditions_of(alloc: Global, texts: &[&str]) -> Result<Vec<Condition>, Refusa
     Ok(conditions)
 }
 
-/// Returns the query that the words state: conditions, column names separated by commas, and the maximum number of rows.
+/// Returns the query that the words state: conditions, column names separated by commas, and the maximum number of rows. Dates stand in the
+/// conditions in this form.
 ///
 /// # Errors
 /// `Query` with `BadCondition` if a text does not have the form of a condition; `OutOfMemory`.
@@ -66,9 +67,10 @@ pub fn query_of(
     conditions: &[&str],
     columns: Option<&str>,
     limit: Option<u64>,
+    dates: DateForm,
 ) -> Result<Query, Refusal>
-    ensures stated { IfOk result (λ q. stated_query (map (λ t. t.now) conditions.now) (option_copied columns.entry) limit ≡ Some (query_in q)) }
-    ensures refused { IfErr result (RefusesWords (stated_query (map (λ t. t.now) conditions.now) (option_copied columns.entry) limit)) }
+    ensures stated { IfOk result (λ q. stated_query (map (λ t. t.now) conditions.now) (option_copied columns.entry) limit dates ≡ Some (query_in q)) }
+    ensures refused { IfErr result (RefusesWords (stated_query (map (λ t. t.now) conditions.now) (option_copied columns.entry) limit dates)) }
 {
     let conditions = conditions_of(alloc, conditions)?;
     let columns = columns_of(alloc, columns)?;
@@ -76,6 +78,7 @@ pub fn query_of(
         columns,
         conditions,
         limit,
+        dates,
     })
 }
 

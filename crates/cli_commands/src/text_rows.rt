@@ -88,8 +88,8 @@ fn read_table(
     ensures refused { IfErr result (λ e. Reports (refused_by e) (rows_of_text form.now (schema_of schema.now) text.now)) }
 {
     match form {
-        TextForm::Csv { null_text } => csv_table(alloc, schema, text, null_text),
-        TextForm::JsonLines => Ok(jsonl_table(alloc, schema, text)?),
+        TextForm::Csv(form) => csv_table(alloc, schema, text, form),
+        TextForm::JsonLines(date_form) => Ok(jsonl_table(alloc, *date_form, schema, text)?),
     }
 }
 

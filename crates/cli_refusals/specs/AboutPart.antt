@@ -4,7 +4,7 @@ use Rattle.arrow_schema.specs.Column.{Kind, Column, days, date_milliseconds, int
 use Rattle.arrow_schema.specs.Parts.{kind_of_column}
 use Rattle.field_texts.specs.FieldText.{field_text, printed}
 use Rattle.text_import.specs.declared.refusal.Refusal.{Refusal}
-use Rattle.text_import.specs.declared.refusal.Refusal.TheVariants.{OutOfRange, FixedWidth, NullMismatch, WrongKind}
+use Rattle.text_import.specs.declared.refusal.Refusal.TheVariants.{OutOfRange, FixedWidth, NullMismatch, WrongKind, NotADate, WrongOffset}
 use Rattle.text_import.specs.Part.{PlainPart}
 use Rattle.text_import.specs.Place.{column_of_part}
 use Rattle.cli_refusals.specs.Shown.{shown}
@@ -44,6 +44,8 @@ about_text kind OutOfRange (Some text) = about_range text (integers_of kind)
 about_text kind FixedWidth (Some text) = about_type text
 about_text kind NullMismatch (Some text) = about_type text
 about_text kind WrongKind (Some text) = about_type text
+about_text kind NotADate (Some text) = about_type text
+about_text kind WrongOffset (Some text) = about_type text
 about_text kind refusal (Some text) = []
 
 abbrev pub about_column : Refusal → Option Column → List ℕ

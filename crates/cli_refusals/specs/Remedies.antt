@@ -60,6 +60,8 @@ text_remedy texts.MissingName = remedies.GIVE_THE_NAME.now
 text_remedy texts.FixedWidth = remedies.BYTES_OF_THE_TYPE.now
 text_remedy texts.DictionaryFull = remedies.FEWER_VALUES.now
 text_remedy texts.WrongKind = remedies.KIND_OF_THE_TYPE.now
+text_remedy texts.NotADate = remedies.FORM_OF_A_DATE.now
+text_remedy texts.WrongOffset = remedies.OFFSET_OF_THE_ZONE.now
 
 -- for a query
 unfoldable pub query_remedy : QueryRefusal → List ℕ
@@ -101,6 +103,7 @@ store_remedy (stores.Query reason) = query_remedy reason
 store_remedy (stores.SegmentUnread segment) = remedies.IMPORT_AGAIN.now
 store_remedy stores.Read = remedies.CHECK_FILES.now
 store_remedy (stores.SegmentDamaged segment) = remedies.IMPORT_AGAIN.now
+store_remedy stores.RowsUnwritten = remedies.COMMIT_FIRST.now
 store_remedy stores.Write = remedies.CHECK_FILES.now
 store_remedy stores.OutOfMemory = remedies.MORE_MEMORY.now
 

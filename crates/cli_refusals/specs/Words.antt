@@ -74,6 +74,8 @@ text_word texts.FixedWidth = codes "fixed-width"
 text_word texts.TooHeavy = codes "row-too-heavy"
 text_word texts.DictionaryFull = codes "dictionary-full"
 text_word texts.WrongKind = codes "wrong-kind"
+text_word texts.NotADate = codes "not-a-date"
+text_word texts.WrongOffset = codes "wrong-offset"
 
 unfoldable pub query_word : QueryRefusal → List ℕ
 query_word queries.UnknownColumn = codes "unknown-column"
@@ -121,6 +123,7 @@ store_word (stores.Query reason) known = query_word reason
 store_word (stores.SegmentUnread segment) known = codes "segment-unread"
 store_word stores.Read known = codes "input"
 store_word (stores.SegmentDamaged segment) known = codes "segment-damaged"
+store_word stores.RowsUnwritten known = codes "rows-unwritten"
 store_word stores.Write known = output_word known.changes
 store_word stores.OutOfMemory known = codes "out-of-memory"
 

@@ -7,8 +7,9 @@ ghost use Rattle.cli_refusals.specs.Shown.{is_unshown};
 
 use crate::Refusal;
 use crate::remedies::{
-    FILE_OF_A_STORE, FOLDER_OF_A_NEW_FILE, LATER_PROGRAM, LENGTH_OF_THE_STORE, NEW_PATH, NO_FOLDER,
-    PATH_AND_RIGHTS, READABLE_FILE, ROOM_FOR_THE_NEW_FILE, ROOM_ON_THE_DISK, UNFINISHED_COPY, WAIT,
+    BLANK_DEVICE, FILE_OF_A_STORE, FOLDER_OF_A_NEW_FILE, LATER_PROGRAM, LENGTH_OF_THE_STORE,
+    NEW_PATH, NO_FOLDER, PATH_AND_RIGHTS, READABLE_FILE, ROOM_FOR_THE_NEW_FILE, ROOM_ON_THE_DISK,
+    SIZE_OF_THE_DEVICE, UNFINISHED_COPY, WAIT,
 };
 use crate::shown::has_unshown;
 use std::alloc::Global;
@@ -66,6 +67,10 @@ pub enum FileReason {
     Length(u64),
     /// It has another length than its store.
     OtherLength(OtherLength),
+    /// It is a block device with this number of sectors, and not with that of the store to be made.
+    DeviceSize(u64),
+    /// It is a block device with something at its front.
+    NotBlank,
     /// It has a store of this version, which is a later one than the program knows.
     LaterVersion(u32),
     /// It could not be opened, with the system's reason.
@@ -114,6 +119,8 @@ impl FileReason {
             FileReason::Folder | FileReason::NotRegular => NO_FOLDER,
             FileReason::Length(_) => FILE_OF_A_STORE,
             FileReason::OtherLength(other) => other.remedy(),
+            FileReason::DeviceSize(_) => SIZE_OF_THE_DEVICE,
+            FileReason::NotBlank => BLANK_DEVICE,
             FileReason::LaterVersion(_) => LATER_PROGRAM,
             FileReason::Unopened(_) => PATH_AND_RIGHTS,
             FileReason::Unmade(_) => FOLDER_OF_A_NEW_FILE,
@@ -138,6 +145,12 @@ impl fmt::Display for FileReason {
             FileReason::NotRegular => f.write_str("is not a regular file"),
             FileReason::Length(bytes) => write!(f, "has {bytes} bytes"),
             FileReason::OtherLength(other) => write!(f, "{other}"),
+            FileReason::DeviceSize(sectors) => {
+                write!(f, "is a block device of {sectors} sectors of 512 bytes")
+            }
+            FileReason::NotBlank => {
+                f.write_str("is a block device whose first 2048 sectors are not all zeros")
+            }
             FileReason::LaterVersion(version) => write!(
                 f,
                 "is a store of version {version}, which this program does not know"

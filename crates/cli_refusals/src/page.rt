@@ -3,25 +3,26 @@ ghost use Rattle.std.specs.Prelude.{◌≡◌, string_bytes, IfOk};
 ghost use Rattle.cli_refusals.specs.Page.{file_refusals, table_refusals, refusals_page};
 
 use crate::remedies::{
-    BYTES_OF_THE_TYPE, CHECK_FILES, CLOSE_AN_EXPORT, CLOSE_QUOTATION_MARKS, CONVERT_COLUMN,
-    DONE_ALREADY, EARLIER_COPY, ESCAPE_CONTROLS, FEWER_FIELDS, FEWER_ROWS, FEWER_SEGMENTS,
-    FEWER_TABLES, FEWER_VALUES, FIELDS_OF_THE_TABLE, FILE_OF_A_STORE, FIX_ROW,
-    FOLDER_OF_A_NEW_FILE, FORM_OF_A_CONDITION, FORM_OF_A_FIELD, FORM_OF_A_NAME, GIVE_A_NUMBER,
-    GIVE_A_STREAM, GIVE_A_VALUE, GIVE_ALL, GIVE_ARRAYS, GIVE_JSON_LINES, GIVE_LESS, GIVE_THE_NAME,
-    IMPORT_AGAIN, ITEMS_OF_A_LINE, KIND_OF_THE_TYPE, LATER_PROGRAM, LEAVE_OUT_MESSAGES,
-    LENGTH_OF_THE_STORE, LINES_OF_A_SCRIPT, LITTLE_ENDIAN, LOOK_AGAIN, MORE_MEMORY, MORE_ROOM,
-    NAME_OF_A_TABLE, NAMES_FIRST, NAMES_OF_COLUMNS, NAMES_OF_THE_SCHEMA, NEW_OUTPUT, NEW_PATH,
-    NEW_STORE, NO_COMPRESSION, NO_FOLDER, NUMBER_OF_SECTORS, ONE_STREAM, OTHER_NAME, OTHER_TABLE,
-    PATH_AND_RIGHTS, READ_INPUT, READABLE_FILE, ROOM_FOR_THE_NEW_FILE, ROOM_ON_THE_DISK,
-    ROW_ON_A_LINE, SCHEMA_FIRST, SHORTER_BATCHES, SHORTER_VALUES, SMALLER_FIELDS, TEST_FOR_NULL,
-    TRY_AGAIN, UNFINISHED_COPY, WAIT, WHOLE_FILE, WITHIN_THE_RANGE, WRITE_A_BOOLEAN, WRITE_AGAIN,
-    WRITE_DIGITS, WRITE_HEXADECIMAL, WRITE_UTF_8, WRITE_V5,
+    BLANK_DEVICE, BYTES_OF_THE_TYPE, CHECK_FILES, CLOSE_AN_EXPORT, CLOSE_QUOTATION_MARKS,
+    COMMIT_FIRST, CONVERT_COLUMN, DONE_ALREADY, EARLIER_COPY, ESCAPE_CONTROLS, FEWER_FIELDS,
+    FEWER_ROWS, FEWER_SEGMENTS, FEWER_TABLES, FEWER_VALUES, FIELDS_OF_THE_TABLE, FILE_OF_A_STORE,
+    FIX_ROW, FOLDER_OF_A_NEW_FILE, FORM_OF_A_CONDITION, FORM_OF_A_DATE, FORM_OF_A_FIELD,
+    FORM_OF_A_NAME, GIVE_A_NUMBER, GIVE_A_STREAM, GIVE_A_VALUE, GIVE_ALL, GIVE_ARRAYS,
+    GIVE_JSON_LINES, GIVE_LESS, GIVE_THE_NAME, IMPORT_AGAIN, ITEMS_OF_A_LINE, KIND_OF_THE_TYPE,
+    LATER_PROGRAM, LEAVE_OUT_MESSAGES, LENGTH_OF_THE_STORE, LINES_OF_A_SCRIPT, LITTLE_ENDIAN,
+    LOOK_AGAIN, MORE_MEMORY, MORE_ROOM, NAME_OF_A_TABLE, NAMES_FIRST, NAMES_OF_COLUMNS,
+    NAMES_OF_THE_SCHEMA, NEW_OUTPUT, NEW_PATH, NEW_STORE, NO_COMPRESSION, NO_FOLDER,
+    NUMBER_OF_SECTORS, OFFSET_OF_THE_ZONE, ONE_STREAM, OTHER_NAME, OTHER_TABLE, PATH_AND_RIGHTS,
+    READ_INPUT, READABLE_FILE, ROOM_FOR_THE_NEW_FILE, ROOM_ON_THE_DISK, ROW_ON_A_LINE,
+    SCHEMA_FIRST, SHORTER_BATCHES, SHORTER_VALUES, SIZE_OF_THE_DEVICE, SMALLER_FIELDS,
+    TEST_FOR_NULL, TRY_AGAIN, UNFINISHED_COPY, WAIT, WHOLE_FILE, WITHIN_THE_RANGE, WRITE_A_BOOLEAN,
+    WRITE_AGAIN, WRITE_DIGITS, WRITE_HEXADECIMAL, WRITE_UTF_8, WRITE_V5,
 };
 use std::alloc::{AllocError, Global};
 
 /// The pieces of the page of which its first sections are made: what each refusal of a stream, a file, a store or a field text means and what to do
 /// about it, among them the sentences of `remedies`. The file `docs/refusals.md` has the same bytes as the page.
-pub const FILE_REFUSALS: [&str; 85] = [
+pub const FILE_REFUSALS: [&str; 89] = [
     "# What each refusal means
 
 A refusal is one line on standard error: `refused`, a code, a name, and for some of them a detail, as in
@@ -164,6 +165,14 @@ or appended. If no advice follows a fault, the cause is the program that wrote t
   For a folder, a named pipe or a device that is not a disk: ",
     NO_FOLDER,
     "
+  For a block device that does not have the given number of sectors:
+  ",
+    SIZE_OF_THE_DEVICE,
+    "
+  For a block device that something is on:
+  ",
+    BLANK_DEVICE,
+    "
 - G2 BadSize: a store has 16 to 4,194,304 sectors, and its file has exactly 512 bytes for each of them.
   The given number of sectors, or the length of the file, is not possible. Such a file is not a store, or
   it was cut short or made longer, or a `copy` into it was interrupted: until its end, a copy has one byte
@@ -193,7 +202,8 @@ or appended. If no advice follows a fault, the cause is the program that wrote t
     NO_FOLDER,
     "
 - G3 BadScript N: `replay` cannot play line N of the script, counted from 1. Single spaces separate the
-  words of a line. Either these words are not a command of a script, or a field text is refused (P).
+  words of a line, and a word with spaces stands in quotation marks. Either these words are not a command
+  of a script, or the text of a field (P) or the form of a condition (Q2) is refused.
   ",
     LINES_OF_A_SCRIPT,
     "
@@ -259,7 +269,7 @@ or appended. If no advice follows a fault, the cause is the program that wrote t
 ];
 
 /// The pieces of the page of which the other sections are made: refusals of a text, of a query and of an open store.
-pub const TABLE_REFUSALS: [&str; 83] = [
+pub const TABLE_REFUSALS: [&str; 89] = [
     "
 ## X: a text that was to be appended
 
@@ -352,6 +362,16 @@ appended.
   ",
     KIND_OF_THE_TYPE,
     "
+- X18 NotADate N: with `--dates iso`, a value is no date or time, or has more digits behind the second than
+  its unit. Dates that are numbers are also refused. A date that its type does not hold is X5.
+  ",
+    FORM_OF_A_DATE,
+    "
+- X19 WrongOffset N: with `--dates iso`, a time has an offset where the column has no time zone, or has none
+  where the time zone is not UTC: the time would be wrong by the offset.
+  ",
+    OFFSET_OF_THE_ZONE,
+    "
 
 ## Q: a query
 
@@ -440,6 +460,11 @@ appended.
   ",
     IMPORT_AGAIN,
     "
+- S16 RowsUnwritten: a command of several that are applied together has to read rows that one before it puts
+  into the table. Nothing is written before all of them are decided, so they cannot be read yet.
+  ",
+    COMMIT_FIRST,
+    "
 
 ## A store that does not open
 
@@ -474,7 +499,7 @@ change.
 
 G1 has eight words, which say whether the command was done:
 
-- `locked`: another program holds the file. The command was not done; it can be run again later.
+- `locked`: another program holds the file. The command was not done; it can be run again later, or with `--wait`.
 - `missing`: the file, or the folder of a file to be made, does not exist. The command was not done.
 - `denied`: the system does not permit it, for lack of rights or since the file system is only read. The
   command was not done.
@@ -503,11 +528,11 @@ Each other code has one word. After S5 it is the word of the fault (F), and afte
 - X1 `header`, X2 `width`, X3 `text-not-utf8`, X4 `not-a-number`, X5 `out-of-range`, X6 `not-a-bool`,
   X7 `not-hex`, X8 `null-mismatch`, X9 `nested-columns`, X10 `not-json`, X11 `unknown-name`,
   X12 `missing-name`, X13 `ambiguous-names`, X14 `fixed-width`, X15 `row-too-heavy`,
-  X16 `dictionary-full`, X17 `wrong-kind`.
+  X16 `dictionary-full`, X17 `wrong-kind`, X18 `not-a-date`, X19 `wrong-offset`.
 - Q1 `unknown-column`, Q2 `bad-condition`, Q3 `not-comparable`.
 - S1 `no-table`, S2 `name-taken`, S3 `bad-name`, S4 `schema-mismatch`, S6 `row-unfit`, S7 `too-many`,
   S8 `no-room`, S9 `device`, S10 `halted`, S13 `segment-unread`, S15 `segment-damaged`,
-  and `out-of-memory`.
+  S16 `rows-unwritten`, and `out-of-memory`.
 
 After `device` the command is done as a whole or not at all. After every other word but `output-after` no
 table is changed, except that the steps of a `compact` before the refused one are done. Wrong arguments,

@@ -96,9 +96,14 @@ fn about_text(
 {
     match (text, refusal) {
         (Some(text), Refusal::OutOfRange) => about_range(alloc, text, integers_of(data_type)),
-        (Some(text), Refusal::FixedWidth | Refusal::NullMismatch | Refusal::WrongKind) => {
-            about_type(alloc, text)
-        }
+        (
+            Some(text),
+            Refusal::FixedWidth
+            | Refusal::NullMismatch
+            | Refusal::WrongKind
+            | Refusal::NotADate
+            | Refusal::WrongOffset,
+        ) => about_type(alloc, text),
         _ => Ok(String::new(alloc)),
     }
 }

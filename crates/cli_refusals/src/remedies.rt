@@ -53,7 +53,8 @@ pub const DONE_ALREADY: &str = "The command is done: do not run it again.";
 
 pub const NEW_OUTPUT: &str = "Check the output, and run the command again: it changes nothing.";
 
-pub const WAIT: &str = "Wait until the other program is done with it, and try again.";
+pub const WAIT: &str =
+    "Wait until the other program is done with it, and try again; with `--wait` the command does so.";
 
 pub const NEW_PATH: &str =
     "Give a path where nothing is: no file is overwritten. This one may be what an interrupted `format` or `copy` has left.";
@@ -82,10 +83,16 @@ pub const UNFINISHED_COPY: &str =
 pub const LENGTH_OF_THE_STORE: &str =
     "Use an earlier copy of the file. Or give a copy of it the length of its store, as by `truncate -s`, and run `check` on that.";
 
+pub const SIZE_OF_THE_DEVICE: &str =
+    "Give the number of sectors that the device has. If that is more than 4194304, make a partition or a volume of a size that fits.";
+
+pub const BLANK_DEVICE: &str =
+    "If nothing on the device is needed, write zeros over its first MiB, as `dd if=/dev/zero of=DEVICE bs=1M count=1` does, and try again.";
+
 pub const NO_FOLDER: &str = "Give the file of a store, or a disk that holds one.";
 
 pub const LINES_OF_A_SCRIPT: &str =
-    "Write each line as `create NAME FIELD ..`, `import NAME FILE`, `append NAME FILE`, `rename FROM TO`, `drop NAME`, `compact`, `upgrade` or `reopen`.";
+    "Write each line as `create NAME FIELD ..`, `import NAME FILE`, `append NAME FILE`, `save FROM TO CONDITION ..`, `rename FROM TO`, `drop NAME`, `compact`, `upgrade` or `reopen`.";
 
 pub const FILE_OF_A_STORE: &str =
     "Give the file of a store. If this is the new file of a `format` or `copy` that was interrupted, run the command again, with another path.";
@@ -116,7 +123,7 @@ pub const ITEMS_OF_A_LINE: &str =
 pub const WRITE_UTF_8: &str = "Write the text in UTF-8, and append the whole text again.";
 
 pub const WRITE_DIGITS: &str =
-    "Write an integer as digits, within 64 bits; a date or a timestamp is the number of days or seconds, .. since 1970-01-01. Then append the whole text again.";
+    "Write an integer as digits, within 64 bits; a date or a timestamp is the number of days or seconds, .. since 1970-01-01, or with `--dates iso` a text as 2026-11-30. Then append the whole text again.";
 
 pub const GIVE_A_NUMBER: &str =
     "Give an integer. An empty field is a null only if the column allows nulls and `--null` names no other text. Then append the whole text again.";
@@ -156,6 +163,12 @@ pub const FEWER_VALUES: &str =
 
 pub const KIND_OF_THE_TYPE: &str =
     "Give a string for a text or bytes, an array for a list, and an array or an object for a struct or the row. Then append the whole text again.";
+
+pub const FORM_OF_A_DATE: &str =
+    "Write a date as 2026-11-30, and a timestamp as 2026-11-30T12:34:56, with at most as many digits behind the second as its unit has. Then append the whole text again.";
+
+pub const OFFSET_OF_THE_ZONE: &str =
+    "Write an offset, as in 2026-11-30T12:34:56Z or +01:00, if the column has a time zone other than UTC, and none if it has no zone. Then append the whole text again.";
 
 pub const NAMES_FIRST: &str =
     "Begin the text with the names of the columns, in the order that `schema` prints.";
@@ -208,6 +221,8 @@ pub const LOOK_AGAIN: &str =
 
 pub const IMPORT_AGAIN: &str =
     "Save the readable rows of the table with `salvage`, and drop it or import it again. Then run `check` once more: other tables may be damaged too.";
+
+pub const COMMIT_FIRST: &str = "Apply the commands before it first, and then it and the others.";
 
 pub const MORE_MEMORY: &str =
     "Give the program more memory: a stream or a table that is read needs a small multiple of its size.";
@@ -280,6 +295,8 @@ pub(crate) fn text_remedy(refusal: text_import::Refusal) -> &'static str
         text_import::Refusal::FixedWidth => BYTES_OF_THE_TYPE,
         text_import::Refusal::DictionaryFull => FEWER_VALUES,
         text_import::Refusal::WrongKind => KIND_OF_THE_TYPE,
+        text_import::Refusal::NotADate => FORM_OF_A_DATE,
+        text_import::Refusal::WrongOffset => OFFSET_OF_THE_ZONE,
     }
 }
 
@@ -337,6 +354,7 @@ fn store_remedy(refusal: tables::Refusal) -> &'static str
         tables::Refusal::Device | tables::Refusal::Halted => LOOK_AGAIN,
         tables::Refusal::Query(reason) => query_remedy(reason),
         tables::Refusal::SegmentUnread(_) | tables::Refusal::SegmentDamaged(_) => IMPORT_AGAIN,
+        tables::Refusal::RowsUnwritten => COMMIT_FIRST,
         tables::Refusal::NoExport | tables::Refusal::Read | tables::Refusal::Write => CHECK_FILES,
         tables::Refusal::OutOfMemory => MORE_MEMORY,
     }

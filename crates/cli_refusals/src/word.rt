@@ -80,6 +80,8 @@ fn text_word(refusal: text_import::Refusal) -> &'static str
         text_import::Refusal::TooHeavy => "row-too-heavy",
         text_import::Refusal::DictionaryFull => "dictionary-full",
         text_import::Refusal::WrongKind => "wrong-kind",
+        text_import::Refusal::NotADate => "not-a-date",
+        text_import::Refusal::WrongOffset => "wrong-offset",
     }
 }
 
@@ -160,6 +162,7 @@ fn store_word(refusal: tables::Refusal, known: Known<'_>) -> &'static str
         tables::Refusal::SegmentUnread(_) => "segment-unread",
         tables::Refusal::Read => "input",
         tables::Refusal::SegmentDamaged(_) => "segment-damaged",
+        tables::Refusal::RowsUnwritten => "rows-unwritten",
         tables::Refusal::Write => output_word(known.changes),
         tables::Refusal::OutOfMemory => OUT_OF_MEMORY,
     }

@@ -1,4 +1,4 @@
-pub mod Lines
+pub mod Scripts
 pub mod LineCalls
 pub mod Inputs
 pub mod Results

@@ -2,9 +2,9 @@
 use Rattle.std.proofs.Common.{◌≡◌, ◌<◌, ◌+◌, ◌++◌, ◌∷◌, [], ℕ, List, length, take, get_or, Option, sym, subst}
 use Rattle.std.proofs.lemmas.List.{take_more, map-append}
 use Rattle.store.specs.declared.call.Call.{Call}
-use Rattle.cli_replay.specs.declared.script.ScriptLine.{ScriptLine}
-use Rattle.cli_replay.specs.Plain.{plain_line, plain_lines}
-use Rattle.cli_replay.specs.Script.{PlainLine}
+use Rattle.cli_scripts.specs.declared.line.ScriptLine.{ScriptLine}
+use Rattle.cli_scripts.specs.Plain.{plain_line, plain_lines}
+use Rattle.cli_scripts.specs.Script.{PlainLine}
 use Rattle.cli_replay.specs.Replay.{IsCallOfLine, AreCallsOfLines}
 
 -- one more

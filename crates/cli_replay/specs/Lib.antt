@@ -1,4 +1,2 @@
-pub mod Script
-pub mod Plain
 pub mod Playing
 pub mod Replay

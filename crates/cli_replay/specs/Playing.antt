@@ -6,7 +6,7 @@ use Rattle.tables.specs.declared.refusal.Refusal.TheVariants.{OutOfMemory}
 use Rattle.store.specs.declared.call.Call.{Call}
 use Rattle.store.specs.declared.call.StoreOrDevice.{StoreOrDevice}
 use Rattle.store.specs.declared.call.Reply.{Reply}
-use Rattle.store_runs.specs.Calls.{PlainCall, PlainReply, done, counts, refused, shut_by}
+use Rattle.store_runs.specs.Calls.{PlainCall, PlainReply, done, counts, refused, refused_at, shut_by}
 use Rattle.store_runs.specs.Machine.{Machine}
 use Rattle.store.specs.Places.{AreCallsOf, device_in, reply_in, PlaceRuns}
 use Rattle.store.specs.Answering.{AnswersCall}
@@ -67,6 +67,7 @@ refused_text refusal = codes "refused " ++ refusal_text refusal ++ codes "\n"
 -- for each line: that it was done, or why not
 abbrev pub reply_text : PlainReply → List ℕ
 reply_text (refused refusal) = refused_text (Store refusal)
+reply_text (refused_at place refusal) = refused_text (Store refusal)
 reply_text (shut_by refusal) = refused_text (Opening refusal)
 reply_text _ = codes "ok\n"
 

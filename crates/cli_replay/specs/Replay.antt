@@ -1,5 +1,5 @@
 -- The replay of a script: on which device, what was answered, what a crash left of it, and what is printed.
-use Rattle.std.specs.Prelude.{◌≡◌, ◌+◌, ◌-◌, ◌^◌, ◌++◌, ℕ, zero, suc, min, true, false, List, [], ◌∷◌, take, length, codes, Option, IfSome, Ok, Err}
+use Rattle.std.specs.Prelude.{◌≡◌, ◌+◌, ◌-◌, ◌^◌, ◌++◌, ℕ, zero, suc, min, true, false, List, [], ◌∷◌, take, length, codes, Option, Some, None, IfSome, Ok, Err}
 use Rattle.sector_dev.specs.Disk.{now, shown_image}
 use Rattle.sector_dev.specs.Chosen.{IsChosen}
 use Rattle.sector_dev.specs.Faults.{no_faults}
@@ -34,9 +34,11 @@ use Rattle.cli_refusals.specs.declared.refusal.Refusal.TheVariants.{TooManyBytes
 use Rattle.cli_refusals.specs.declared.refusal.Side.TheVariants.{File, Output}
 use Rattle.cli_commands.specs.declared.input.TheConstants.{LARGEST_INPUT}
 use Rattle.cli_commands.specs.Changing.{StateSchema}
-use Rattle.cli_replay.specs.declared.script.ScriptError.TheVariants.{BadLine}
+use Rattle.cli_commands.specs.Selecting.{stated_query}
+use Rattle.query.specs.Query.{PlainQuery}
+use Rattle.cli_scripts.specs.declared.script.ScriptError.TheVariants.{BadLine}
 use Rattle.std.specs.Io.KnownBytes.{Appends}
-use Rattle.cli_replay.specs.Script.{IsScript, PlainLine, create, import_file, append_file, rename, drop, compact, upgrade, reopen}
+use Rattle.cli_scripts.specs.Script.{IsScript, PlainLine, PlainRows, create, import_file, append_file, save, rename, drop, compact, upgrade, reopen}
 use Rattle.cli_replay.specs.Playing.{Plays, replies_text, stop_text, FoundText}
 
 -- ---- lines as calls
@@ -49,6 +51,10 @@ IsOfFile {F} remaining bytes = (file : F) × IfSome (remaining file) (λ all. by
 abbrev pub IsFrontOfFile : {F : Type 0} → (remaining : F → Option (List ℕ)) → List ℕ → Type 0
 IsFrontOfFile {F} remaining bytes = (file : F) × IfSome (remaining file) (λ all. bytes ≡ take (LARGEST_INPUT + 1) all)
 
+-- the command saves the rows that these texts select
+abbrev pub SavesRows : (from to : List ℕ) → PlainRows → PlainCommand → Type 0
+SavesRows from to rows command = (query : PlainQuery) × (stated_query rows.conditions rows.columns None ≡ Some query) × (command ≡ commands.save_as from to query)
+
 -- the call of a line
 abbrev pub IsCallOfLine : {F R : Type 0} → (remaining : F → Option (List ℕ)) → PlainLine → Call R → Type 0
 IsCallOfLine remaining (create name texts) (calls.Apply command) = (s : PlainSchema) × StateSchema texts s × (command_of command ≡ commands.create name s)
@@ -56,6 +62,7 @@ IsCallOfLine remaining (import_file name path) (calls.Apply command) = (bytes : 
     × (command_of command ≡ commands.import_stream name bytes)
 IsCallOfLine remaining (append_file name path) (calls.Apply command) = (bytes : List ℕ) × IsFrontOfFile remaining bytes
     × (command_of command ≡ commands.append_stream name bytes)
+IsCallOfLine remaining (save from to rows) (calls.Apply command) = SavesRows from to rows (command_of command)
 IsCallOfLine remaining (rename from to) (calls.Apply command) = command_of command ≡ commands.rename from to
 IsCallOfLine remaining (drop name) (calls.Apply command) = command_of command ≡ commands.drop_table name
 IsCallOfLine remaining compact calls.Compact = Unit {0}

@@ -4,13 +4,13 @@ ghost use Rattle.facts.specs.Texts.{text_list};
 ghost use Rattle.cli_commands.specs.Changing.{StateSchema};
 ghost use Rattle.tables.specs.Commands as commands;
 ghost use Rattle.tables.specs.View.{command_of};
-ghost use Rattle.cli_replay.specs.Plain.{plain_line, plain_lines};
-ghost use Rattle.cli_replay.specs.Replay.{IsCallOfLine, AreCallsOfLines, IsOfReading};
+ghost use Rattle.cli_scripts.specs.Plain.{plain_line, plain_lines, plain_rows};
+ghost use Rattle.cli_replay.specs.Replay.{IsCallOfLine, AreCallsOfLines, IsOfReading, SavesRows};
 
-use crate::ScriptLine;
 use crate::files::named_input;
-use cli_commands::{drop_table, new_table, rename_table};
+use cli_commands::{drop_table, new_table, query_of, rename_table};
 use cli_refusals::Refusal;
+use cli_scripts::{SavedRows, ScriptLine};
 use std::alloc::{AllocError, Global};
 use std::fs::OpenFile;
 use std::io::Read;
@@ -26,6 +26,20 @@ fn create(alloc: Global, name: &str, fields: &[&str]) -> Result<Command, AllocEr
         Ok(new) => Ok(Command::Create(new)),
         Err(_) => Err(AllocError),
     }
+}
+
+// The conditions were parsed when the script was read, so only memory can be refused here.
+fn save(alloc: Global, from: &str, to: &str, rows: &SavedRows<'_>) -> Result<Command, AllocError>
+    ensures { IfOk result (λ c. SavesRows from.now to.now (plain_rows rows.now) (command_of c)) }
+{
+    let Ok(query) = query_of(alloc, &rows.conditions, rows.columns, None) else {
+        return Err(AllocError);
+    };
+    Ok(Command::SaveAs {
+        from: String::from_str(alloc, from)?,
+        to: String::from_str(alloc, to)?,
+        query,
+    })
 }
 
 fn call_of<F: Read + OpenFile + Drop, H: Files<File = F> + AllocGlobal>(
@@ -45,6 +59,7 @@ fn call_of<F: Read + OpenFile + Drop, H: Files<File = F> + AllocGlobal>(
             let (name, bytes) = named_input(rt, name, file)?;
             Command::AppendStream { name, bytes }
         }
+        ScriptLine::Save { from, to, rows } => save(rt.alloc(), from, to, rows)?,
         ScriptLine::Rename { from, to } => rename_table(rt.alloc(), from, to)?,
         ScriptLine::Drop { name } => drop_table(rt.alloc(), name)?,
         ScriptLine::Compact => return Ok(Call::Compact),

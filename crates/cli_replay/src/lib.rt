@@ -1,7 +1,7 @@
 //! Scripts of commands that are played on a device in memory, where a call fails or the device stops, and what a crash then leaves.
 //!
 //! ```
-//! let lines = parse_script(alloc, b"create t a:int32?\nreopen\n")?;
+//! replay(&rt, "script", 64, FormatVersion::Two, faults, &mut output)?; // a stop in the third write, say
 //! ```
 #![tactic(auto)]
 
@@ -11,8 +11,6 @@ mod files;
 mod laws;
 mod playing;
 mod replaying;
-mod script;
 
 pub use laws::played_lines_are_a_run;
 pub use replaying::{Faults, replay};
-pub use script::{ScriptError, ScriptLine, parse_script};

@@ -60,7 +60,9 @@ fn push_reply(text: &mut String, reply: &Reply) -> Result<(), AllocError>
     ensures { OnOk result (string_bytes text.new ≡ string_bytes text.old ++ reply_text (reply_in reply.now)) }
 {
     match reply {
-        Reply::Refused(refusal) => push_refusal(text, Refusal::Store(*refusal)),
+        Reply::Refused(refusal) | Reply::RefusedAt { refusal, .. } => {
+            push_refusal(text, Refusal::Store(*refusal))
+        }
         Reply::NotOpened(refusal) => push_refusal(text, Refusal::Opening(*refusal)),
         _ => text.push_str("ok\n"),
     }

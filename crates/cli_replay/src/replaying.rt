@@ -1,9 +1,10 @@
 // Replays a whole script.
-ghost use Rattle.std.specs.Prelude.{◌≡◌, ◌≢◌, ◌++◌, ℕ, codes, string_bytes, Ok, IfOk, IfErr, OnOk};
+ghost use Rattle.std.specs.Prelude.{◌≡◌, ◌≢◌, ◌++◌, ℕ, List, codes, map, string_bytes, Ok, IfOk, IfErr, OnOk};
 ghost use Rattle.cli_replay.specs.Playing.{stop_text};
-ghost use Rattle.cli_replay.specs.Plain.{plain_lines};
 ghost use Rattle.cli_replay.specs.Replay.{IsEmptyStore, IsOfPlaying, IsReplay, IsReplayOfFile, RefusesReplay, RefusesScript};
-ghost use Rattle.cli_replay.specs.Script.{IsScript};
+ghost use Rattle.cli_scripts.specs.Plain.{plain_lines, plain_words};
+ghost use Rattle.cli_scripts.specs.Script.{IsScript};
+ghost use Rattle.cli_scripts.specs.Words.{HaveWords, lines_of};
 ghost use Rattle.sector_dev.specs.Faults.{no_faults};
 ghost use Rattle.sector_dev.specs.View.{faults_of};
 
@@ -11,8 +12,8 @@ use crate::calls::calls_of;
 use crate::device::{empty_store, found_on, left_by_crash, open, with_faults};
 use crate::files::read_script;
 use crate::playing::{lines_of_replies, play};
-use crate::{ScriptError, ScriptLine, parse_script};
 use cli_refusals::{Refusal, Side, write_whole};
+use cli_scripts::{ScriptError, ScriptLine, parse_script, script_words};
 use commit::FormatVersion;
 use sector_dev::{CrashChoice, ModelDevice, SectorDevice};
 use std::alloc::{AllocError, Global};
@@ -72,12 +73,17 @@ pub(crate) fn play_lines(
     Ok(joined_text(text, place.device().has_stopped(), &found)?)
 }
 
-// Parses the lines of a script, with errors as the program reports them.
-fn lines_of(alloc: Global, script: &[u8]) -> Result<Vec<ScriptLine<'_>>, Refusal>
-    ensures lines { IfOk result (λ lines. IsScript script.now (Ok (plain_lines lines.items))) }
-    ensures told { IfErr result (RefusesScript script.now) }
+// Parses the lines of a script that have these words, with errors as the program reports them.
+fn lines_of<'a>(
+    alloc: Global,
+    words: &'a [Option<Vec<String>>],
+) -> Result<Vec<ScriptLine<'a>>, Refusal>
+    ensures lines { IfOk result (λ lines. (script : List ℕ) → HaveWords (lines_of script) (map plain_words words.now)
+        → IsScript script (Ok (plain_lines lines.items))) }
+    ensures told { IfErr result (λ refusal. (script : List ℕ) → HaveWords (lines_of script) (map plain_words words.now)
+        → RefusesScript script refusal) }
 {
-    match parse_script(alloc, script) {
+    match parse_script(alloc, words) {
         Ok(lines) => Ok(lines),
         Err(ScriptError::BadLine(number)) => Err(Refusal::BadScript(number)),
         Err(ScriptError::OutOfMemory) => Err(Refusal::OutOfMemory),
@@ -107,7 +113,8 @@ pub fn replay<F: Read + OpenFile + Drop, H: Files<File = F> + AllocGlobal, W: Wr
     let alloc = rt.alloc();
     let device = empty_store(alloc, sectors, version)?;
     let script = read_script(rt, script)?;
-    let lines = lines_of(alloc, &script)?;
+    let words = script_words(alloc, &script)?;
+    let lines = lines_of(alloc, &words)?;
     let calls = calls_of(rt, &lines)?;
     let text = play_lines(alloc, device, calls, faults)?;
     write_whole(output, text.as_bytes())

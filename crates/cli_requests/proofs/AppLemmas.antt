@@ -20,7 +20,9 @@ use Rattle.clap.specs.declared.parser.matches.ArgMatches.{ArgMatches}
 use Rattle.clap.proofs.OnLiterals.{clap_on_literals}
 use Rattle.clap.proofs.WalkLemmas.{first_value-rows, one_text-rows, raw_values-rows}
 use Rattle.cli_requests.specs.Apps.{info_app, format_app, copy_app, store_app, table_app, import_app, rename_app, create_app, append_app, query_app, other_parameters, parameters_of, IsAppWith, IsOwnApp, value_of, values_of}
-use Rattle.cli_requests.specs.Apps.{HasFound}
+use Rattle.civil_days.specs.declared.date_form.DateForm.{DateForm}
+use Rattle.civil_days.specs.declared.date_form.DateForm.TheVariants.{Numbers, Iso}
+use Rattle.cli_requests.specs.Apps.{HasDates, HasFound}
 use Rattle.cli_requests.specs.Asked.{request_word}
 use Rattle.cli_requests.specs.Operands.{version_named, operands, names_file, names_table, IsNamedBy, Names}
 use Rattle.cli_requests.specs.StoreWords.{is_of_store, is_store_word, first_word}
@@ -94,10 +96,10 @@ copy_plain name p = by_each (1 == p) (2 == p) (3 == p) refl refl refl
     by_each false false true d e f = rw (d, e, f) refl
     by_each false false false d e f = rw (d, e, f) refl
 
-pub append_plain : (forms : ValueParser) (name : Text) (p : ℕ) → ends_options (arg_by_index (built (append_app forms name)).top.rules p) ≡ false
-append_plain forms name p = by_each (1 == p) (2 == p) refl refl
+pub append_plain : (forms dates : ValueParser) (name : Text) (p : ℕ) → ends_options (arg_by_index (built (append_app forms dates name)).top.rules p) ≡ false
+append_plain forms dates name p = by_each (1 == p) (2 == p) refl refl
   where
-    by_each : (a b : Bool) → (1 == p) ≡ a → (2 == p) ≡ b → ends_options (arg_by_index (built (append_app forms name)).top.rules p) ≡ false
+    by_each : (a b : Bool) → (1 == p) ≡ a → (2 == p) ≡ b → ends_options (arg_by_index (built (append_app forms dates name)).top.rules p) ≡ false
     by_each true b d e = rw d refl
     by_each false true d e = rw (d, e) refl
     by_each false false d e = rw (d, e) refl
@@ -111,10 +113,10 @@ create_plain name p = by_each (1 == p) (2 == p) (3 == p) refl refl refl
     by_each false false true d e f = rw (d, e, f) refl
     by_each false false false d e f = rw (d, e, f) refl
 
-pub query_plain : (name : Text) (p : ℕ) → ends_options (arg_by_index (built (query_app name)).top.rules p) ≡ false
-query_plain name p = by_each (1 == p) (2 == p) (3 == p) refl refl refl
+pub query_plain : (dates : ValueParser) (name : Text) (p : ℕ) → ends_options (arg_by_index (built (query_app dates name)).top.rules p) ≡ false
+query_plain dates name p = by_each (1 == p) (2 == p) (3 == p) refl refl refl
   where
-    by_each : (a b c : Bool) → (1 == p) ≡ a → (2 == p) ≡ b → (3 == p) ≡ c → ends_options (arg_by_index (built (query_app name)).top.rules p) ≡ false
+    by_each : (a b c : Bool) → (1 == p) ≡ a → (2 == p) ≡ b → (3 == p) ≡ c → ends_options (arg_by_index (built (query_app dates name)).top.rules p) ≡ false
     by_each true b c d e f = rw d refl
     by_each false true c d e f = rw (d, e) refl
     by_each false false true d e f = rw (d, e, f) refl
@@ -144,14 +146,14 @@ format_top name = (built (format_app name)).top
 abbrev pub copy_top : Text → Shape
 copy_top name = (built (copy_app name)).top
 
-abbrev pub append_top : ValueParser → Text → Shape
-append_top forms name = (built (append_app forms name)).top
+abbrev pub append_top : (forms dates : ValueParser) → Text → Shape
+append_top forms dates name = (built (append_app forms dates name)).top
 
 abbrev pub create_top : Text → Shape
 create_top name = (built (create_app name)).top
 
-abbrev pub query_top : Text → Shape
-query_top name = (built (query_app name)).top
+abbrev pub query_top : (dates : ValueParser) → Text → Shape
+query_top dates name = (built (query_app dates name)).top
 
 -- ---- operands that are no fault
 
@@ -247,13 +249,13 @@ last_fault : (s : Shape) (ops : List Text) → or_else (defaults_fault (settled 
     → check_fault s (finished s.rules (operands_held s ops)) false ≡ []
 last_fault s ops e = later_fault (defaults_fault (settled s.rules (operands_held s ops)).rows s.rules) (check_fault s (finished s.rules (operands_held s ops)) false) e
 
-append_named : (forms : ValueParser) (name : Text) (ops : List Text) → operands_fault (append_top forms name) ops ≡ []
-    → ops ≡ row_value (codes "STORE") (operand_rows (append_top forms name) ops) ∷ row_value (codes "NAME") (operand_rows (append_top forms name) ops) ∷ []
+append_named : (forms dates : ValueParser) (name : Text) (ops : List Text) → operands_fault (append_top forms dates name) ops ≡ []
+    → ops ≡ row_value (codes "STORE") (operand_rows (append_top forms dates name) ops) ∷ row_value (codes "NAME") (operand_rows (append_top forms dates name) ops) ∷ []
 unfolding clap_on_literals
-append_named forms name [] e = absurd (some_kind _ _ (last_fault (append_top forms name) [] e))
-append_named forms name (a ∷ []) e = absurd (some_kind _ _ (last_fault (append_top forms name) (a ∷ []) e))
-append_named forms name (a ∷ b ∷ []) e = refl
-append_named forms name (a ∷ b ∷ c ∷ rest) e = absurd (some_kind _ _ e)
+append_named forms dates name [] e = absurd (some_kind _ _ (last_fault (append_top forms dates name) [] e))
+append_named forms dates name (a ∷ []) e = absurd (some_kind _ _ (last_fault (append_top forms dates name) (a ∷ []) e))
+append_named forms dates name (a ∷ b ∷ []) e = refl
+append_named forms dates name (a ∷ b ∷ c ∷ rest) e = absurd (some_kind _ _ e)
 
 -- all values of an argument
 abbrev row_values : Text → List Row → List Text
@@ -272,11 +274,11 @@ pub field_met : (name a b : Text) (vs : List Text) (c : Text) → walked (create
 unfolding walked clap_on_literals
 field_met name a b vs c = refl
 
-pub condition_met : (name a b : Text) (vs : List Text) (c : Text)
-    → walked (query_top name).rules [] (at (words_held (file_and_table (query_top name).rules a b) (codes "CONDITION") vs) true 3 true) c
-    ≡ at (words_held (file_and_table (query_top name).rules a b) (codes "CONDITION") (vs ++ c ∷ [])) true 3 true
+pub condition_met : (dates : ValueParser) (name a b : Text) (vs : List Text) (c : Text)
+    → walked (query_top dates name).rules [] (at (words_held (file_and_table (query_top dates name).rules a b) (codes "CONDITION") vs) true 3 true) c
+    ≡ at (words_held (file_and_table (query_top dates name).rules a b) (codes "CONDITION") (vs ++ c ∷ [])) true 3 true
 unfolding walked clap_on_literals
-condition_met name a b vs c = refl
+condition_met dates name a b vs c = refl
 
 abbrev named_in : Shape → Text → Held → List Text
 named_in s id h = row_value (codes "STORE") (finished s.rules h) ∷ row_value (codes "NAME") (finished s.rules h) ∷ row_values id (finished s.rules h)
@@ -304,40 +306,40 @@ create_alone name (a ∷ b ∷ c ∷ rest) e =
     let s = create_top name in
     ap (like_in name) (words_read s (codes "FIELD") (file_and_table s.rules a b) (field_met name a b) (c ∷ []) rest)
 
-query_named : (name : Text) (ops : List Text) → operands_fault (query_top name) ops ≡ []
-    → ops ≡ named_in (query_top name) (codes "CONDITION") (operands_held (query_top name) ops)
+query_named : (dates : ValueParser) (name : Text) (ops : List Text) → operands_fault (query_top dates name) ops ≡ []
+    → ops ≡ named_in (query_top dates name) (codes "CONDITION") (operands_held (query_top dates name) ops)
 unfolding walked clap_on_literals
-query_named name [] e = absurd (some_kind _ _ e)
-query_named name (a ∷ []) e = absurd (some_kind _ _ e)
-query_named name (a ∷ b ∷ []) e = refl
-query_named name (a ∷ b ∷ c ∷ rest) e =
-    let s = query_top name in
-    let held = words_read s (codes "CONDITION") (file_and_table s.rules a b) (condition_met name a b) (c ∷ []) rest in
+query_named dates name [] e = absurd (some_kind _ _ e)
+query_named dates name (a ∷ []) e = absurd (some_kind _ _ e)
+query_named dates name (a ∷ b ∷ []) e = refl
+query_named dates name (a ∷ b ∷ c ∷ rest) e =
+    let s = query_top dates name in
+    let held = words_read s (codes "CONDITION") (file_and_table s.rules a b) (condition_met dates name a b) (c ∷ []) rest in
     ap (named_in s (codes "CONDITION")) (sym held)
 
 -- without options
-append_stream : (forms : ValueParser) (name : Text) (ops : List Text) → operands_fault (append_top forms name) ops ≡ []
-    → row_value (codes "as") (operand_rows (append_top forms name) ops) ≡ codes "stream"
+append_stream : (forms dates : ValueParser) (name : Text) (ops : List Text) → operands_fault (append_top forms dates name) ops ≡ []
+    → row_value (codes "as") (operand_rows (append_top forms dates name) ops) ≡ codes "stream"
 unfolding clap_on_literals
-append_stream forms name [] e = absurd (some_kind _ _ (last_fault (append_top forms name) [] e))
-append_stream forms name (a ∷ []) e = absurd (some_kind _ _ (last_fault (append_top forms name) (a ∷ []) e))
-append_stream forms name (a ∷ b ∷ []) e = refl
-append_stream forms name (a ∷ b ∷ c ∷ rest) e = absurd (some_kind _ _ e)
+append_stream forms dates name [] e = absurd (some_kind _ _ (last_fault (append_top forms dates name) [] e))
+append_stream forms dates name (a ∷ []) e = absurd (some_kind _ _ (last_fault (append_top forms dates name) (a ∷ []) e))
+append_stream forms dates name (a ∷ b ∷ []) e = refl
+append_stream forms dates name (a ∷ b ∷ c ∷ rest) e = absurd (some_kind _ _ e)
 
-abbrev options_in : Text → Held → Option Text × Option Text × Option Text × Option Text
-options_in name h =
-    let rows = finished (query_top name).rules h in
-    (first_of (codes "columns") rows, first_of (codes "limit") rows, first_of (codes "save") rows, one_of (codes "objects") rows)
+abbrev options_in : ValueParser → Text → Held → Option Text × Option Text × Option Text × Option Text × Option Text
+options_in dates name h =
+    let rows = finished (query_top dates name).rules h in
+    (first_of (codes "columns") rows, first_of (codes "limit") rows, first_of (codes "save") rows, one_of (codes "objects") rows, first_of (codes "dates") rows)
 
-query_alone : (name : Text) (ops : List Text) → operands_fault (query_top name) ops ≡ []
-    → options_in name (operands_held (query_top name) ops) ≡ (None, None, None, Some (codes "false"))
+query_alone : (dates : ValueParser) (name : Text) (ops : List Text) → operands_fault (query_top dates name) ops ≡ []
+    → options_in dates name (operands_held (query_top dates name) ops) ≡ (None, None, None, Some (codes "false"), None)
 unfolding walked clap_on_literals
-query_alone name [] e = absurd (some_kind _ _ e)
-query_alone name (a ∷ []) e = absurd (some_kind _ _ e)
-query_alone name (a ∷ b ∷ []) e = refl
-query_alone name (a ∷ b ∷ c ∷ rest) e =
-    let s = query_top name in
-    ap (options_in name) (words_read s (codes "CONDITION") (file_and_table s.rules a b) (condition_met name a b) (c ∷ []) rest)
+query_alone dates name [] e = absurd (some_kind _ _ e)
+query_alone dates name (a ∷ []) e = absurd (some_kind _ _ e)
+query_alone dates name (a ∷ b ∷ []) e = refl
+query_alone dates name (a ∷ b ∷ c ∷ rest) e =
+    let s = query_top dates name in
+    ap (options_in dates name) (words_read s (codes "CONDITION") (file_and_table s.rules a b) (condition_met dates name a b) (c ∷ []) rest)
 
 -- ---- what is read of a command that was made
 
@@ -372,6 +374,7 @@ pub record HasNoOption (found : Found) : Type 0 where
   pub limit : first_value found (codes "limit") ≡ None
   pub save : first_value found (codes "save") ≡ None
   pub objects : one_text found (codes "objects") ≡ Some (codes "false")
+  pub dates : first_value found (codes "dates") ≡ None
 
 module _ (word : Text) (words : List Text) (m : ArgMatches) (a : App) (name : Text) (parsed : Parsed a (word ∷ words) m) where
   file_found : a ≡ file_app name → (ops : List Text) → operands words ≡ Some ops → ops ≡ value_of (found_of m) (codes "STORE") ∷ []
@@ -454,14 +457,14 @@ module _ (word : Text) (words : List Text) (m : ArgMatches) (a : App) (name : Te
       copy_named name ops (sym reads.fault ∙ p.faultless refl)
       ∙ (λ i. found_value m _ (codes "STORE") rows i ∷ found_value m _ (codes "NEW") rows i ∷ found_value m _ (codes "SECTORS") rows i ∷ [])
 
-  append_found : (forms : ValueParser) → a ≡ append_app forms name → (ops : List Text) → operands words ≡ Some ops
+  append_found : (forms dates : ValueParser) → a ≡ append_app forms dates name → (ops : List Text) → operands words ≡ Some ops
       → ops ≡ value_of (found_of m) (codes "STORE") ∷ value_of (found_of m) (codes "NAME") ∷ []
   unfolding clap_on_literals
-  append_found forms is ops e =
-      let reads = reads_operands (append_app forms name) word words ops e refl refl (append_plain forms name) in
-      let p : Parsed (append_app forms name) (word ∷ words) m = subst (λ (x : App). Parsed x (word ∷ words) m) is parsed in
+  append_found forms dates is ops e =
+      let reads = reads_operands (append_app forms dates name) word words ops e refl refl (append_plain forms dates name) in
+      let p : Parsed (append_app forms dates name) (word ∷ words) m = subst (λ (x : App). Parsed x (word ∷ words) m) is parsed in
       let rows = (p.matches refl).0 ∙ reads.rows in
-      append_named forms name ops (sym reads.fault ∙ p.faultless refl)
+      append_named forms dates name ops (sym reads.fault ∙ p.faultless refl)
       ∙ (λ i. found_value m _ (codes "STORE") rows i ∷ found_value m _ (codes "NAME") rows i ∷ [])
 
   create_found : a ≡ create_app name → (ops : List Text) → operands words ≡ Some ops
@@ -482,37 +485,45 @@ module _ (word : Text) (words : List Text) (m : ArgMatches) (a : App) (name : Te
       let rows = (p.matches refl).0 ∙ reads.rows in
       sym (found_first m _ (codes "like") rows) ∙ create_alone name ops (sym reads.fault ∙ p.faultless refl)
 
-  query_found : a ≡ query_app name → (ops : List Text) → operands words ≡ Some ops
+  query_found : (dates : ValueParser) → a ≡ query_app dates name → (ops : List Text) → operands words ≡ Some ops
       → ops ≡ value_of (found_of m) (codes "STORE") ∷ value_of (found_of m) (codes "NAME") ∷ values_of (found_of m) (codes "CONDITION")
   unfolding clap_on_literals
-  query_found is ops e =
-      let reads = reads_operands (query_app name) word words ops e refl refl (query_plain name) in
-      let p : Parsed (query_app name) (word ∷ words) m = subst (λ (x : App). Parsed x (word ∷ words) m) is parsed in
+  query_found dates is ops e =
+      let reads = reads_operands (query_app dates name) word words ops e refl refl (query_plain dates name) in
+      let p : Parsed (query_app dates name) (word ∷ words) m = subst (λ (x : App). Parsed x (word ∷ words) m) is parsed in
       let rows = (p.matches refl).0 ∙ reads.rows in
-      query_named name ops (sym reads.fault ∙ p.faultless refl)
+      query_named dates name ops (sym reads.fault ∙ p.faultless refl)
       ∙ (λ i. found_value m _ (codes "STORE") rows i ∷ found_value m _ (codes "NAME") rows i ∷ found_values m _ (codes "CONDITION") rows i)
 
-  append_default : (forms : ValueParser) → a ≡ append_app forms name → (ops : List Text) → operands words ≡ Some ops → value_of (found_of m) (codes "as") ≡ codes "stream"
+  append_default : (forms dates : ValueParser) → a ≡ append_app forms dates name → (ops : List Text) → operands words ≡ Some ops → value_of (found_of m) (codes "as") ≡ codes "stream"
   unfolding clap_on_literals
-  append_default forms is ops e =
-      let reads = reads_operands (append_app forms name) word words ops e refl refl (append_plain forms name) in
-      let p : Parsed (append_app forms name) (word ∷ words) m = subst (λ (x : App). Parsed x (word ∷ words) m) is parsed in
+  append_default forms dates is ops e =
+      let reads = reads_operands (append_app forms dates name) word words ops e refl refl (append_plain forms dates name) in
+      let p : Parsed (append_app forms dates name) (word ∷ words) m = subst (λ (x : App). Parsed x (word ∷ words) m) is parsed in
       let rows = (p.matches refl).0 ∙ reads.rows in
-      sym (found_value m _ (codes "as") rows) ∙ append_stream forms name ops (sym reads.fault ∙ p.faultless refl)
+      sym (found_value m _ (codes "as") rows) ∙ append_stream forms dates name ops (sym reads.fault ∙ p.faultless refl)
 
-  query_options : a ≡ query_app name → (ops : List Text) → operands words ≡ Some ops → HasNoOption (found_of m)
+  query_options : (dates : ValueParser) → a ≡ query_app dates name → (ops : List Text) → operands words ≡ Some ops → HasNoOption (found_of m)
   unfolding clap_on_literals
-  query_options is ops e =
-      let reads = reads_operands (query_app name) word words ops e refl refl (query_plain name) in
-      let p : Parsed (query_app name) (word ∷ words) m = subst (λ (x : App). Parsed x (word ∷ words) m) is parsed in
+  query_options dates is ops e =
+      let reads = reads_operands (query_app dates name) word words ops e refl refl (query_plain dates name) in
+      let p : Parsed (query_app dates name) (word ∷ words) m = subst (λ (x : App). Parsed x (word ∷ words) m) is parsed in
       let rows = (p.matches refl).0 ∙ reads.rows in
-      let none = query_alone name ops (sym reads.fault ∙ p.faultless refl) in
+      let none = query_alone dates name ops (sym reads.fault ∙ p.faultless refl) in
       record {
         columns = sym (found_first m _ (codes "columns") rows) ∙ (λ i. (none i).0);
         limit = sym (found_first m _ (codes "limit") rows) ∙ (λ i. (none i).1);
         save = sym (found_first m _ (codes "save") rows) ∙ (λ i. (none i).2);
         objects = sym (found_one m _ (codes "objects") rows) ∙ (λ i. (none i).3);
+        dates = sym (found_first m _ (codes "dates") rows) ∙ (λ i. (none i).4);
       }
+
+-- dates are numbers where nothing is said of them
+numbers_left : (found : Found) (dates : DateForm) → HasDates found dates → first_value found (codes "dates") ≡ None → dates ≡ Numbers
+numbers_left found Numbers has none = refl
+numbers_left found Iso has none =
+    let left : value_of found (codes "dates") ≡ [] = ap (λ (o : Option Text). unwrap_or o []) none in
+    absurd (true≢false (ap (λ (t : Text). bytes_eq t (codes "iso")) (sym has ∙ left)))
 
 no_text : (o : Option (Bor Text)) → option_map (λ s. s.now) o ≡ None → o ≡ None
 no_text None e = refl
@@ -557,7 +568,7 @@ module _ (word : Text) (words : List Text) (m : ArgMatches) (a : App) (own : IsO
       → ops ≡ value_of (found_of m) (codes "STORE") ∷ value_of (found_of m) (codes "NAME") ∷ []
   names_rows is ops e =
       let own_app = subst (λ (b : Parameters). IsAppWith word b a) is own in
-      append_found word words m a word parsed own_app.0 own_app.2 ops e
+      append_found word words m a word parsed own_app.0 own_app.2 own_app.4 ops e
 
   names_fields : parameters_of word ≡ parameters.TableAndFields → (ops : List Text) → operands words ≡ Some ops
       → ops ≡ value_of (found_of m) (codes "STORE") ∷ value_of (found_of m) (codes "NAME") ∷ values_of (found_of m) (codes "FIELD")
@@ -568,15 +579,19 @@ module _ (word : Text) (words : List Text) (m : ArgMatches) (a : App) (own : IsO
 
   names_conditions : parameters_of word ≡ parameters.TableAndQuery → (ops : List Text) → operands words ≡ Some ops
       → ops ≡ value_of (found_of m) (codes "STORE") ∷ value_of (found_of m) (codes "NAME") ∷ values_of (found_of m) (codes "CONDITION")
-  names_conditions is ops e = query_found word words m a word parsed (subst (λ (b : Parameters). IsAppWith word b a) is own) ops e
+  names_conditions is ops e =
+      let own_app = subst (λ (b : Parameters). IsAppWith word b a) is own in
+      query_found word words m a word parsed own_app.0 own_app.2 ops e
 
   asks_stream : parameters_of word ≡ parameters.TableAndRows → (ops : List Text) → operands words ≡ Some ops → bytes_eq (value_of (found_of m) (codes "as")) (codes "stream") ≡ false → ⊥
   asks_stream is ops e other =
       let own_app = subst (λ (b : Parameters). IsAppWith word b a) is own in
-      true≢false (ap (λ (form : Text). bytes_eq form (codes "stream")) (sym (append_default word words m a word parsed own_app.0 own_app.2 ops e)) ∙ other)
+      true≢false (ap (λ (form : Text). bytes_eq form (codes "stream")) (sym (append_default word words m a word parsed own_app.0 own_app.2 own_app.4 ops e)) ∙ other)
 
   pub asks_all : parameters_of word ≡ parameters.TableAndQuery → (ops : List Text) → operands words ≡ Some ops → HasNoOption (found_of m)
-  asks_all is ops e = query_options word words m a word parsed (subst (λ (b : Parameters). IsAppWith word b a) is own) ops e
+  asks_all is ops e =
+      let own_app = subst (λ (b : Parameters). IsAppWith word b a) is own in
+      query_options word words m a word parsed own_app.0 own_app.2 ops e
 
   of_word : (w : Text) (b : Parameters) → w ≡ word → parameters_of w ≡ b → parameters_of word ≡ b
   of_word w b is e = subst (λ (x : Text). parameters_of x ≡ b) is e
@@ -664,14 +679,14 @@ module _ (word : Text) (words : List Text) (m : ArgMatches) (a : App) (own : IsO
   names_command (requests.Command file (commands.AppendText name form)) is found =
       named (requests.Command file (commands.AppendText name form))
       (λ ops e. absurd (asks_stream (of_word (codes "append") parameters.TableAndRows is refl) ops e found.1.1))
-  names_command (requests.Command file (commands.Query name query form)) is found =
-      named (requests.Command file (commands.Query name query form))
+  names_command (requests.Command file (commands.Query name query shape)) is found =
+      named (requests.Command file (commands.Query name query shape))
       (λ ops e.
       let taken = of_word (codes "query") parameters.TableAndQuery is refl in
       let none = asks_all taken ops e in
       let has = found.1.1 in (
         names_conditions taken ops e ∙ (λ i. sym found.0 i ∷ sym found.1.0 i ∷ sym has.conditions i),
-        (no_text query.columns (has.columns ∙ none.columns), has.limit ∙ ap (option_map (digits_value 10)) none.limit, found.1.2.arrays none.objects),
+        (no_text query.columns (has.columns ∙ none.columns), has.limit ∙ ap (option_map (digits_value 10)) none.limit, numbers_left (found_of m) query.dates has.dates none.dates, found.1.2.arrays none.objects),
       ))
   names_command (requests.Command file (commands.SaveAs from to query)) is found =
       named (requests.Command file (commands.SaveAs from to query))

@@ -14,7 +14,7 @@ use Rattle.clap.specs.Lexer.{usize_max}
 use Rattle.clap.specs.declared.builder.value_parser.ValueParser.TheVariants as parsers
 use Rattle.clap.proofs.OnLiterals.{clap_on_literals}
 use Rattle.clap.specs.declared.builder.value_parser.ValueParser.{ValueParser}
-use Rattle.cli_requests.specs.Apps.{AreForms, IsOwnApp, info_app, format_app, import_app, create_app, query_app, replay_app, append_app, other_parameters, parameters_of}
+use Rattle.cli_requests.specs.Apps.{AreForms, AreDateForms, IsOwnApp, info_app, format_app, import_app, create_app, query_app, replay_app, append_app, other_parameters, parameters_of}
 use Rattle.cli_requests.specs.Examples.{AreExamples, AreFound, AreReadAs, AreValuesRead, IsVersion, Valued, called}
 use Rattle.cli_requests.specs.Numbers.{is_number, is_number_if_any}
 use Rattle.cli_requests.specs.Operands.{names_file, names_table}
@@ -120,6 +120,20 @@ module _ (words : List Text) (values : List Valued) (app : App) where
     found = λ command own. subst (λ (a : App). AreFound (matches_of a words) values) (only command own) found;
   }
 
+-- of a query, however dates are said
+module _ (rest : List Text) (values : List Valued) where
+  abbrev words_of_query : List Text
+  words_of_query = codes "query" ∷ rest
+
+  abbrev IsQueryRead : App → Type 0
+  IsQueryRead a = (fault_of a words_of_query ≡ []) × AreRowsTakable (codes "query") (matches_of a words_of_query) × AreFound (matches_of a words_of_query) values
+
+  read_query : ((dates : ValueParser) → IsQueryRead (query_app dates (codes "query"))) → AreReadAs (called words_of_query) values
+  unfolding names_file names_table other_parameters parameters_of first_word
+  read_query each =
+      let only : (command : App) → IsOwnApp (codes "query") command → IsQueryRead command = λ command own. subst IsQueryRead (sym own.2) (each own.0) in
+      record { taken = λ command own. ((only command own).0, (only command own).1); found = λ command own. (only command own).2 }
+
 format_example : AreReadAs (called (codes "format" ∷ codes "store" ∷ codes "4096" ∷ codes "--format-version" ∷ codes "1" ∷ []))
     ((codes "STORE", codes "store" ∷ []) ∷ (codes "SECTORS", codes "4096" ∷ []) ∷ (codes "format-version", codes "1" ∷ []) ∷ [])
 unfolding names_file names_table other_parameters parameters_of first_word makes_word is_number walked clap_on_literals
@@ -158,16 +172,16 @@ past fault = or_else fault []
 abbrev form_fault : ValueParser → Bool → Kinds
 form_fault forms accepted = past (past (past (past (past (if accepted then [] else refused_kind forms ∷ [])))))
 
-append_faultless : (forms : ValueParser) → AreForms forms → fault_of (append_app forms (codes "append")) append_words ≡ []
+append_faultless : (forms dates : ValueParser) → AreForms forms → AreDateForms dates → fault_of (append_app forms dates (codes "append")) append_words ≡ []
 unfolding walked clap_on_literals
-append_faultless forms known = ap (form_fault forms) (known (codes "csv"))
+append_faultless forms dates known dated = rw (known (codes "csv"), dated (codes "number")) refl
 
 append_example : AreReadAs (called (codes "append" ∷ codes "store" ∷ codes "readings" ∷ codes "--as" ∷ codes "csv" ∷ codes "--null=NA" ∷ []))
     ((codes "STORE", codes "store" ∷ []) ∷ (codes "NAME", codes "readings" ∷ []) ∷ (codes "as", codes "csv" ∷ []) ∷ (codes "null", codes "NA" ∷ []) ∷ [])
 unfolding names_file names_table other_parameters parameters_of first_word makes_word is_number walked clap_on_literals
 append_example =
     let only : (command : App) → IsOwnApp (codes "append") command → AreTakenAs command = λ command own.
-    subst AreTakenAs (sym own.2) (append_faultless own.0 own.1, append_takable _ _, (refl, (refl, (refl, (refl, tt))))) in
+    subst AreTakenAs (sym own.4) (append_faultless own.0 own.2 own.1 own.3, append_takable _ _, (refl, (refl, (refl, (refl, tt))))) in
     record { taken = λ command own. ((only command own).0, (only command own).1); found = λ command own. (only command own).2 }
 
 printed_example : AreReadAs
@@ -175,19 +189,19 @@ printed_example : AreReadAs
     ((codes "STORE", codes "store" ∷ []) ∷ (codes "NAME", codes "readings" ∷ []) ∷ (codes "CONDITION", codes "value >= 7" ∷ [])
     ∷ (codes "columns", codes "id,value" ∷ []) ∷ (codes "limit", codes "10" ∷ []) ∷ (codes "objects", codes "false" ∷ []) ∷ [])
 unfolding names_file names_table other_parameters parameters_of first_word makes_word is_number walked clap_on_literals
-printed_example = read_as _ _ (query_app (codes "query")) (λ command own. sym own) refl (query_takable _ _ refl (inl refl)) (refl, (refl, (refl, (refl, (refl, (refl, tt))))))
+printed_example = read_query _ _ (λ dates. (refl, query_takable _ _ refl (inl refl), (refl, (refl, (refl, (refl, (refl, (refl, tt))))))))
 
 objects_example : AreReadAs
     (called (codes "query" ∷ codes "--objects" ∷ codes "store" ∷ codes "readings" ∷ codes "a = 1" ∷ codes "--limit=10" ∷ codes "b = 2" ∷ []))
     ((codes "STORE", codes "store" ∷ []) ∷ (codes "NAME", codes "readings" ∷ []) ∷ (codes "CONDITION", codes "a = 1" ∷ codes "b = 2" ∷ [])
     ∷ (codes "limit", codes "10" ∷ []) ∷ (codes "objects", codes "true" ∷ []) ∷ [])
 unfolding names_file names_table other_parameters parameters_of first_word makes_word is_number walked clap_on_literals
-objects_example = read_as _ _ (query_app (codes "query")) (λ command own. sym own) refl (query_takable _ _ refl (inl refl)) (refl, (refl, (refl, (refl, (refl, tt)))))
+objects_example = read_query _ _ (λ dates. (refl, query_takable _ _ refl (inl refl), (refl, (refl, (refl, (refl, (refl, tt)))))))
 
 saved_example : AreReadAs (called (codes "query" ∷ codes "--save=chosen" ∷ codes "store" ∷ codes "readings" ∷ []))
     ((codes "STORE", codes "store" ∷ []) ∷ (codes "NAME", codes "readings" ∷ []) ∷ (codes "save", codes "chosen" ∷ []) ∷ [])
 unfolding names_file names_table other_parameters parameters_of first_word makes_word is_number walked clap_on_literals
-saved_example = read_as _ _ (query_app (codes "query")) (λ command own. sym own) refl (query_takable _ _ refl (inr refl)) (refl, (refl, (refl, tt)))
+saved_example = read_query _ _ (λ dates. (refl, query_takable _ _ refl (inr refl), (refl, (refl, (refl, tt)))))
 
 replay_example : AreReadAs
     (called (codes "replay" ∷ codes "script" ∷ codes "--sectors" ∷ codes "16" ∷ codes "--stop" ∷ codes "8" ∷ codes "--choice" ∷ codes "new" ∷ []))
@@ -239,19 +253,19 @@ import_values : (file name : Text) → AreReadAs (called (codes "import" ∷ cod
 unfolding names_file names_table other_parameters parameters_of first_word makes_word is_number walked clap_on_literals
 import_values file name = read_as _ _ (import_app (codes "import")) (λ command own. sym own) refl (import_takable _ _) (refl, (refl, (refl, tt)))
 
-module _ (forms : ValueParser) (known : AreForms forms) where
+module _ (forms dates : ValueParser) (known : AreForms forms) (dated : AreDateForms dates) where
   abbrev words_of_append : (form null file name : Text) → List Text
   words_of_append form null file name = codes "append" ∷ (codes "--as=" ++ form) ∷ (codes "--null=" ++ null) ∷ codes "--" ∷ file ∷ name ∷ []
 
   append_form : (form null file name : Text) → (form ≡ codes "csv") ⊎ (form ≡ codes "jsonl")
-      → fault_of (append_app forms (codes "append")) (words_of_append form null file name) ≡ []
+      → fault_of (append_app forms dates (codes "append")) (words_of_append form null file name) ≡ []
   unfolding walked clap_on_literals
   append_form form null file name (inl csv) =
-      subst (λ (f : Text). fault_of (append_app forms (codes "append")) (words_of_append f null file name) ≡ []) (sym csv)
-      (ap (λ (ok : Bool). past (past (past (past (if ok then [] else refused_kind forms ∷ []))))) (known (codes "csv")))
+      subst (λ (f : Text). fault_of (append_app forms dates (codes "append")) (words_of_append f null file name) ≡ []) (sym csv)
+      (rw (known (codes "csv"), dated (codes "number")) refl)
   append_form form null file name (inr lines) =
-      subst (λ (f : Text). fault_of (append_app forms (codes "append")) (words_of_append f null file name) ≡ []) (sym lines)
-      (ap (λ (ok : Bool). past (past (past (past (if ok then [] else refused_kind forms ∷ []))))) (known (codes "jsonl")))
+      subst (λ (f : Text). fault_of (append_app forms dates (codes "append")) (words_of_append f null file name) ≡ []) (sym lines)
+      (rw (known (codes "jsonl"), dated (codes "number")) refl)
 
 append_values : (form null file name : Text) → (form ≡ codes "csv") ⊎ (form ≡ codes "jsonl")
     → AreReadAs (called (codes "append" ∷ (codes "--as=" ++ form) ∷ (codes "--null=" ++ null) ∷ codes "--" ∷ file ∷ name ∷ []))
@@ -260,15 +274,15 @@ unfolding names_file names_table other_parameters parameters_of first_word makes
 append_values form null file name is = record {
   taken = λ command own. subst (λ (a : App). (fault_of a (codes "append" ∷ (codes "--as=" ++ form) ∷ (codes "--null=" ++ null) ∷ codes "--" ∷ file ∷ name ∷ []) ≡ [])
       × AreRowsTakable (codes "append") (matches_of a (codes "append" ∷ (codes "--as=" ++ form) ∷ (codes "--null=" ++ null) ∷ codes "--" ∷ file ∷ name ∷ [])))
-      (sym own.2) (append_form own.0 own.1 form null file name is, append_takable _ _);
+      (sym own.4) (append_form own.0 own.2 own.1 own.3 form null file name is, append_takable _ _);
   found = λ command own. subst (λ (a : App). AreFound (matches_of a (codes "append" ∷ (codes "--as=" ++ form) ∷ (codes "--null=" ++ null) ∷ codes "--" ∷ file ∷ name ∷ []))
-      ((codes "STORE", file ∷ []) ∷ (codes "NAME", name ∷ []) ∷ (codes "as", form ∷ []) ∷ (codes "null", null ∷ []) ∷ [])) (sym own.2) (refl, (refl, (refl, (refl, tt))));
+      ((codes "STORE", file ∷ []) ∷ (codes "NAME", name ∷ []) ∷ (codes "as", form ∷ []) ∷ (codes "null", null ∷ []) ∷ [])) (sym own.4) (refl, (refl, (refl, (refl, tt))));
 }
 
 -- ---- a query, with any conditions
 
-abbrev query_shape : Shape
-query_shape = query_top (codes "query")
+abbrev query_shape : ValueParser → Shape
+query_shape dates = query_top dates (codes "query")
 
 -- what was found of an argument
 abbrev found_row : Text → List Text → ValueParser → Row
@@ -277,22 +291,22 @@ found_row id values parser = record { id = id; values = values; count = None; so
 abbrev number_parser : ValueParser
 number_parser = parsers.Unsigned 0 18446744073709551615
 
-module _ (rows : List Row) where
-  met : (vs : List Text) (c : Text) → walked query_shape.rules [] (at (words_held rows (codes "CONDITION") vs) true 3 true) c
+module _ (dates : ValueParser) (rows : List Row) where
+  met : (vs : List Text) (c : Text) → walked (query_shape dates).rules [] (at (words_held rows (codes "CONDITION") vs) true 3 true) c
       ≡ at (words_held rows (codes "CONDITION") (vs ++ c ∷ [])) true 3 true
   unfolding walked clap_on_literals
   met vs c = refl
 
-  without_fault : (vs : List Text) (c : Text) → turn_fault query_shape [] (at (words_held rows (codes "CONDITION") vs) true 3 true) c ≡ []
+  without_fault : (vs : List Text) (c : Text) → turn_fault (query_shape dates) [] (at (words_held rows (codes "CONDITION") vs) true 3 true) c ≡ []
   unfolding walked clap_on_literals
   without_fault vs c = refl
 
   conditions_held : (c : Text) (rest : List Text)
-      → (fold (walked query_shape.rules []) (at (words_held rows (codes "CONDITION") (c ∷ [])) true 3 true) rest).held ≡ words_held rows (codes "CONDITION") (c ∷ rest)
-  conditions_held c rest = words_read query_shape (codes "CONDITION") rows met (c ∷ []) rest
+      → (fold (walked (query_shape dates).rules []) (at (words_held rows (codes "CONDITION") (c ∷ [])) true 3 true) rest).held ≡ words_held rows (codes "CONDITION") (c ∷ rest)
+  conditions_held c rest = words_read (query_shape dates) (codes "CONDITION") rows met (c ∷ []) rest
 
-  conditions_free : (c : Text) (rest : List Text) → walk_fault query_shape [] (at (words_held rows (codes "CONDITION") (c ∷ [])) true 3 true) rest ≡ []
-  conditions_free c rest = words_faultless query_shape (codes "CONDITION") rows met without_fault (c ∷ []) rest
+  conditions_free : (c : Text) (rest : List Text) → walk_fault (query_shape dates) [] (at (words_held rows (codes "CONDITION") (c ∷ [])) true 3 true) rest ≡ []
+  conditions_free c rest = words_faultless (query_shape dates) (codes "CONDITION") rows met without_fault (c ∷ []) rest
 
 module _ (columns limit file name : Text) where
   abbrev objects_before : List Row
@@ -309,29 +323,26 @@ module _ (columns limit file name : Text) where
   abbrev Is_objects : List Text → List Row → Type 0
   Is_objects conditions rows = AreRowsTakable (codes "query") rows × AreFound rows (objects_found conditions)
 
-  objects_faultless : (conditions : List Text) → is_number limit ≡ true → length conditions ≤ usize_max
-      → fault_of (query_app (codes "query")) (objects_words conditions) ≡ []
+  objects_faultless : (dates : ValueParser) (conditions : List Text) → is_number limit ≡ true → length conditions ≤ usize_max
+      → fault_of (query_app dates (codes "query")) (objects_words conditions) ≡ []
   unfolding walked clap_on_literals
-  objects_faultless [] is few = ap (λ (ok : Bool). past (past (past (past (number_kinds ok))))) (number_accepted limit is)
-  objects_faultless (c ∷ rest) is few =
+  objects_faultless dates [] is few = ap (λ (ok : Bool). past (past (past (past (number_kinds ok))))) (number_accepted limit is)
+  objects_faultless dates (c ∷ rest) is few =
       let rows = objects_before in
-      clap.leaf_fault (built (query_app (codes "query"))) nothing_held (drop 1 (objects_words (c ∷ rest))) refl
-      ∙ (λ i. level_with query_shape (or_else (past (past (number_kinds (number_accepted limit is i)))) (conditions_free rows c rest i)) (conditions_held rows c rest i))
+      clap.leaf_fault (built (query_app dates (codes "query"))) nothing_held (drop 1 (objects_words (c ∷ rest))) refl
+      ∙ (λ i. level_with (query_shape dates) (or_else (past (past (number_kinds (number_accepted limit is i)))) (conditions_free dates rows c rest i)) (conditions_held dates rows c rest i))
       ∙ words_free c rest few
 
-  objects_rows : (conditions : List Text) → is_number limit ≡ true → Is_objects conditions (matches_of (query_app (codes "query")) (objects_words conditions))
+  objects_rows : (dates : ValueParser) (conditions : List Text) → is_number limit ≡ true → Is_objects conditions (matches_of (query_app dates (codes "query")) (objects_words conditions))
   unfolding walked clap_on_literals
-  objects_rows [] is = (query_takable _ _ is (inl refl), (refl, (refl, (refl, (refl, (refl, (refl, tt)))))))
-  objects_rows (c ∷ rest) is =
-      subst (λ (h : Held). Is_objects (c ∷ rest) (finished query_shape.rules h)) (sym (conditions_held objects_before c rest))
+  objects_rows dates [] is = (query_takable _ _ is (inl refl), (refl, (refl, (refl, (refl, (refl, (refl, tt)))))))
+  objects_rows dates (c ∷ rest) is =
+      subst (λ (h : Held). Is_objects (c ∷ rest) (finished (query_shape dates).rules h)) (sym (conditions_held dates objects_before c rest))
       (query_takable _ _ is (inl refl), (refl, (refl, (refl, (refl, (refl, (refl, tt)))))))
 
   objects_values : (conditions : List Text) → is_number limit ≡ true → length conditions ≤ usize_max
       → AreReadAs (called (objects_words conditions)) (objects_found conditions)
-  unfolding names_file names_table other_parameters parameters_of first_word
-  objects_values conditions is few =
-      let rows = objects_rows conditions is in
-      read_as _ _ (query_app (codes "query")) (λ command own. sym own) (objects_faultless conditions is few) rows.0 rows.1
+  objects_values conditions is few = read_query _ _ (λ dates. (objects_faultless dates conditions is few, objects_rows dates conditions is))
 
 module _ (columns limit new file name : Text) where
   abbrev saved_before : List Row
@@ -348,29 +359,26 @@ module _ (columns limit new file name : Text) where
   abbrev Is_saved : List Text → List Row → Type 0
   Is_saved conditions rows = AreRowsTakable (codes "query") rows × AreFound rows (saved_found conditions)
 
-  saved_faultless : (conditions : List Text) → is_number limit ≡ true → length conditions ≤ usize_max
-      → fault_of (query_app (codes "query")) (saved_words conditions) ≡ []
+  saved_faultless : (dates : ValueParser) (conditions : List Text) → is_number limit ≡ true → length conditions ≤ usize_max
+      → fault_of (query_app dates (codes "query")) (saved_words conditions) ≡ []
   unfolding walked clap_on_literals
-  saved_faultless [] is few = ap (λ (ok : Bool). past (past (past (past (number_kinds ok))))) (number_accepted limit is)
-  saved_faultless (c ∷ rest) is few =
+  saved_faultless dates [] is few = ap (λ (ok : Bool). past (past (past (past (number_kinds ok))))) (number_accepted limit is)
+  saved_faultless dates (c ∷ rest) is few =
       let rows = saved_before in
-      clap.leaf_fault (built (query_app (codes "query"))) nothing_held (drop 1 (saved_words (c ∷ rest))) refl
-      ∙ (λ i. level_with query_shape (or_else (past (past (number_kinds (number_accepted limit is i)))) (conditions_free rows c rest i)) (conditions_held rows c rest i))
+      clap.leaf_fault (built (query_app dates (codes "query"))) nothing_held (drop 1 (saved_words (c ∷ rest))) refl
+      ∙ (λ i. level_with (query_shape dates) (or_else (past (past (number_kinds (number_accepted limit is i)))) (conditions_free dates rows c rest i)) (conditions_held dates rows c rest i))
       ∙ words_free c rest few
 
-  saved_rows : (conditions : List Text) → is_number limit ≡ true → Is_saved conditions (matches_of (query_app (codes "query")) (saved_words conditions))
+  saved_rows : (dates : ValueParser) (conditions : List Text) → is_number limit ≡ true → Is_saved conditions (matches_of (query_app dates (codes "query")) (saved_words conditions))
   unfolding walked clap_on_literals
-  saved_rows [] is = (query_takable _ _ is (inr refl), (refl, (refl, (refl, (refl, (refl, (refl, tt)))))))
-  saved_rows (c ∷ rest) is =
-      subst (λ (h : Held). Is_saved (c ∷ rest) (finished query_shape.rules h)) (sym (conditions_held saved_before c rest))
+  saved_rows dates [] is = (query_takable _ _ is (inr refl), (refl, (refl, (refl, (refl, (refl, (refl, tt)))))))
+  saved_rows dates (c ∷ rest) is =
+      subst (λ (h : Held). Is_saved (c ∷ rest) (finished (query_shape dates).rules h)) (sym (conditions_held dates saved_before c rest))
       (query_takable _ _ is (inr refl), (refl, (refl, (refl, (refl, (refl, (refl, tt)))))))
 
   saved_values : (conditions : List Text) → is_number limit ≡ true → length conditions ≤ usize_max
       → AreReadAs (called (saved_words conditions)) (saved_found conditions)
-  unfolding names_file names_table other_parameters parameters_of first_word
-  saved_values conditions is few =
-      let rows = saved_rows conditions is in
-      read_as _ _ (query_app (codes "query")) (λ command own. sym own) (saved_faultless conditions is few) rows.0 rows.1
+  saved_values conditions is few = read_query _ _ (λ dates. (saved_faultless dates conditions is few, saved_rows dates conditions is))
 
 -- ---- a script
 

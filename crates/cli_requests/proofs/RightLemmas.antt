@@ -28,7 +28,7 @@ use Rattle.clap.specs.declared.parser.matches.ArgMatches.{ArgMatches}
 use Rattle.clap.specs.declared.parser.matches.Found.{Found}
 use Rattle.clap.proofs.OnLiterals.{clap_on_literals}
 use Rattle.clap.specs.Walk.{walked}
-use Rattle.cli_requests.specs.Apps.{info_app, format_app, copy_app, table_app, import_app, rename_app, create_app, append_app, query_app, other_parameters, parameters_of, AreForms, IsAppWith, IsOwnApp}
+use Rattle.cli_requests.specs.Apps.{info_app, format_app, copy_app, table_app, import_app, rename_app, create_app, append_app, query_app, other_parameters, parameters_of, AreForms, AreDateForms, IsAppWith, IsOwnApp}
 use Rattle.cli_requests.specs.Apps.{HasFound, IsOfMemory, value_of}
 use Rattle.cli_requests.specs.Numbers.{is_number, is_number_if_any}
 use Rattle.cli_requests.specs.Operands.{is_option, operands, names_file, names_table}
@@ -125,13 +125,13 @@ full_copy name (a ∷ b ∷ []) e = absurd (true≢false (sym e))
 full_copy name (a ∷ b ∷ c ∷ []) e = ap number_fault (number_accepted c e)
 full_copy name (a ∷ b ∷ c ∷ d ∷ rest) e = absurd (true≢false (sym e))
 
-full_append : (forms : ValueParser) (name : Text) (ops : List Text) → AreForms forms → length ops ≡ 2
-    → operands_fault (append_top forms name) ops ≡ []
+full_append : (forms dates : ValueParser) (name : Text) (ops : List Text) → AreForms forms → AreDateForms dates → length ops ≡ 2
+    → operands_fault (append_top forms dates name) ops ≡ []
 unfolding clap_on_literals
-full_append forms name [] known e = absurd (omega (arith, e))
-full_append forms name (a ∷ []) known e = absurd (omega (arith, e))
-full_append forms name (a ∷ b ∷ []) known e = rw (known (codes "stream")) refl
-full_append forms name (a ∷ b ∷ c ∷ rest) known e = absurd (omega (arith, e))
+full_append forms dates name [] known dated e = absurd (omega (arith, e))
+full_append forms dates name (a ∷ []) known dated e = absurd (omega (arith, e))
+full_append forms dates name (a ∷ b ∷ []) known dated e = rw (known (codes "stream"), dated (codes "number")) refl
+full_append forms dates name (a ∷ b ∷ c ∷ rest) known dated e = absurd (omega (arith, e))
 
 texts_accepted : (vs : List Text) → values_kinds false parsers.String vs ≡ []
 texts_accepted [] = refl
@@ -160,16 +160,16 @@ full_create name (a ∷ b ∷ c ∷ rest) e few =
     let free = words_faultless s (codes "FIELD") rows (field_met name a b) (λ vs v. refl) (c ∷ []) rest in
     ap₂ (level_with s) free held ∙ words_free c rest (omega (arith, few))
 
-full_query : (name : Text) (ops : List Text) → nat_le 2 (length ops) ≡ true → length ops ≤ usize_max → operands_fault (query_top name) ops ≡ []
+full_query : (dates : ValueParser) (name : Text) (ops : List Text) → nat_le 2 (length ops) ≡ true → length ops ≤ usize_max → operands_fault (query_top dates name) ops ≡ []
 unfolding walked clap_on_literals
-full_query name [] e few = absurd (true≢false (sym e))
-full_query name (a ∷ []) e few = absurd (true≢false (sym e))
-full_query name (a ∷ b ∷ []) e few = refl
-full_query name (a ∷ b ∷ c ∷ rest) e few =
-    let s = query_top name in
+full_query dates name [] e few = absurd (true≢false (sym e))
+full_query dates name (a ∷ []) e few = absurd (true≢false (sym e))
+full_query dates name (a ∷ b ∷ []) e few = refl
+full_query dates name (a ∷ b ∷ c ∷ rest) e few =
+    let s = query_top dates name in
     let rows = file_and_table s.rules a b in
-    let held = words_read s (codes "CONDITION") rows (condition_met name a b) (c ∷ []) rest in
-    let free = words_faultless s (codes "CONDITION") rows (condition_met name a b) (λ vs v. refl) (c ∷ []) rest in
+    let held = words_read s (codes "CONDITION") rows (condition_met dates name a b) (c ∷ []) rest in
+    let free = words_faultless s (codes "CONDITION") rows (condition_met dates name a b) (λ vs v. refl) (c ∷ []) rest in
     ap₂ (level_with s) free held ∙ words_free c rest (omega (arith, few))
 
 abbrev IsFaultless : App → List Text → Type 0
@@ -203,14 +203,14 @@ module _ (word : Text) (words ops : List Text) (is : operands words ≡ Some ops
       subst (λ (x : App). IsFaultless x (word ∷ words)) (sym own)
       (refl, (reads_operands (create_app word) word words ops is refl refl (create_plain word)).fault ∙ full_create word ops right few)
   right_faultless parameters.TableAndRows a own right =
-      subst (λ (x : App). IsFaultless x (word ∷ words)) (sym own.2) (
+      subst (λ (x : App). IsFaultless x (word ∷ words)) (sym own.4) (
         refl,
-        (reads_operands (append_app own.0 word) word words ops is refl refl (append_plain own.0 word)).fault
-            ∙ full_append own.0 word ops own.1 (eqb-true (length ops) 2 right),
+        (reads_operands (append_app own.0 own.2 word) word words ops is refl refl (append_plain own.0 own.2 word)).fault
+            ∙ full_append own.0 own.2 word ops own.1 own.3 (eqb-true (length ops) 2 right),
       )
   right_faultless parameters.TableAndQuery a own right =
-      subst (λ (x : App). IsFaultless x (word ∷ words)) (sym own)
-      (refl, (reads_operands (query_app word) word words ops is refl refl (query_plain word)).fault ∙ full_query word ops right few)
+      subst (λ (x : App). IsFaultless x (word ∷ words)) (sym own.2)
+      (refl, (reads_operands (query_app own.0 word) word words ops is refl refl (query_plain own.0 word)).fault ∙ full_query own.0 word ops right few)
   right_faultless parameters.ScriptAndFaults a own right = absurd (true≢false (sym right))
 
 -- ---- what is found of them
@@ -360,8 +360,8 @@ own_free word parameters.TableAndNewName a own = rw own refl
 own_free word parameters.Sectors a own = rw own refl
 own_free word parameters.NewStore a own = rw own refl
 own_free word parameters.TableAndFields a own = rw own refl
-own_free word parameters.TableAndRows a own = rw own.2 refl
-own_free word parameters.TableAndQuery a own = rw own refl
+own_free word parameters.TableAndRows a own = rw own.4 refl
+own_free word parameters.TableAndQuery a own = rw own.2 refl
 own_free word parameters.ScriptAndFaults a own = rw own refl
 
 -- what is so of the rows is so of what was found

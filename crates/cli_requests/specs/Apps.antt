@@ -11,8 +11,8 @@ use Rattle.clap.specs.declared.builder.value_parser.ValueParser.{ValueParser}
 use Rattle.clap.specs.declared.builder.value_parser.ValueParser.TheVariants as parsers
 use Rattle.clap.specs.declared.parser.matches.Found.{Found}
 use Rattle.commit.specs.declared.sector.FormatVersion.{FormatVersion}
-use Rattle.query.specs.declared.row_form.RowForm.{RowForm}
-use Rattle.query.specs.declared.row_form.RowForm.TheVariants.{Array, Object}
+use Rattle.query.specs.declared.row_form.RowShape.{RowShape}
+use Rattle.query.specs.declared.row_form.RowShape.TheVariants.{Array, Object}
 use Rattle.clap.specs.declared.error.kind.ErrorKind.TheVariants.{OutOfMemory}
 use Rattle.cli_requests.specs.declared.command_parameters.Parameters.{Parameters}
 use Rattle.cli_requests.specs.declared.command_parameters.Parameters.TheVariants as parameters
@@ -27,24 +27,27 @@ use Rattle.cli_requests.specs.declared.store_words.StoreCommand.{StoreCommand}
 use Rattle.cli_requests.specs.declared.store_words.StoreCommand.TheVariants as commands
 use Rattle.cli_requests.specs.declared.store_words.StoreRequest.{StoreRequest}
 use Rattle.cli_requests.specs.declared.store_words.StoreRequest.TheVariants as requests
+use Rattle.civil_days.specs.declared.date_form.DateForm.{DateForm}
+use Rattle.civil_days.specs.declared.date_form.DateForm.TheVariants.{Numbers, Iso}
 use Rattle.text_import.specs.declared.form.TextForm.{TextForm}
 use Rattle.text_import.specs.declared.form.TextForm.TheVariants as text_forms
 
 abbrev pub required_rule : Text → Rule
 required_rule id = record (new_rule id) { required = true }
 
--- a command that names the file of its store
+-- an option without a value
+abbrev pub flag_rule : Text → Rule
+flag_rule id = record (new_rule id) { long = Some id; action = Some SetTrue }
+
+-- a command that names the file of its store, and may wait for its lock
 abbrev pub store_app : Text → App
-store_app name = with_rule (new_app name) (required_rule (codes "STORE"))
+store_app name = with_rule (with_rule (new_app name) (required_rule (codes "STORE"))) (flag_rule (codes "wait"))
 
 -- an unsigned number of 64 bits
 abbrev pub sectors_rule : Rule
 sectors_rule = record (required_rule (codes "SECTORS")) { parser = Some (parsers.Unsigned 0 18446744073709551615) }
 
--- an option without a value, and a command that takes one
-abbrev pub flag_rule : Text → Rule
-flag_rule id = record (new_rule id) { long = Some id; action = Some SetTrue }
-
+-- a command that takes an option without a value
 abbrev pub info_app : Text → App
 info_app name = with_rule (store_app name) (flag_rule (codes "json"))
 
@@ -95,8 +98,12 @@ form_rule forms = record (option_rule (codes "as")) { parser = Some forms; defau
 abbrev pub null_rule : Rule
 null_rule = record (option_rule (codes "null")) { defaults = [] ∷ [] }
 
-abbrev pub append_app : ValueParser → Text → App
-append_app forms name = with_rule (with_rule (table_app name) (form_rule forms)) null_rule
+-- how dates and times stand in texts, by default as numbers
+abbrev pub dates_rule : ValueParser → Rule
+dates_rule dates = record (option_rule (codes "dates")) { parser = Some dates; defaults = codes "number" ∷ [] }
+
+abbrev pub append_app : (forms dates : ValueParser) → Text → App
+append_app forms dates name = with_rule (with_rule (with_rule (table_app name) (form_rule forms)) null_rule) (dates_rule dates)
 
 -- a command that takes a query, and a name to save it under
 abbrev pub limit_rule : Rule
@@ -105,9 +112,13 @@ limit_rule = record (option_rule (codes "limit")) { parser = Some (parsers.Unsig
 abbrev pub conditions_app : Text → App
 conditions_app name = with_rule (table_app name) (repeated_rule (codes "CONDITION"))
 
-abbrev pub query_app : Text → App
-query_app name = with_rule (with_rule (with_rule (with_rule (conditions_app name) (option_rule (codes "columns"))) limit_rule) (option_rule (codes "save")))
-    (flag_rule (codes "objects"))
+-- how dates and times stand in conditions and lines, if it is said
+abbrev pub query_dates_rule : ValueParser → Rule
+query_dates_rule dates = record (option_rule (codes "dates")) { parser = Some dates }
+
+abbrev pub query_app : (dates : ValueParser) → Text → App
+query_app dates name = with_rule (with_rule (with_rule (with_rule (with_rule (conditions_app name) (option_rule (codes "columns"))) limit_rule) (option_rule (codes "save")))
+    (flag_rule (codes "objects"))) (query_dates_rule dates)
 
 -- a script, and what goes wrong while it is played
 abbrev pub number_rule : Text → Rule
@@ -133,6 +144,13 @@ is_form word = bytes_eq (codes "stream") word || (bytes_eq (codes "csv") word ||
 abbrev pub AreForms : ValueParser → Type 0
 AreForms forms = (word : Text) → accepts false forms word ≡ is_form word
 
+-- how dates may stand, and in no other way
+abbrev pub is_date_form : Text → Bool
+is_date_form word = bytes_eq (codes "number") word || bytes_eq (codes "iso") word
+
+abbrev pub AreDateForms : ValueParser → Type 0
+AreDateForms dates = (word : Text) → accepts false dates word ≡ is_date_form word
+
 -- the command of this name with these parameters
 abbrev pub IsAppWith : Text → Parameters → App → Type 0
 IsAppWith name parameters.Nothing command = command ≡ store_app name
@@ -143,8 +161,9 @@ IsAppWith name parameters.TableAndNewName command = command ≡ rename_app name
 IsAppWith name parameters.Sectors command = command ≡ format_app name
 IsAppWith name parameters.NewStore command = command ≡ copy_app name
 IsAppWith name parameters.TableAndFields command = command ≡ create_app name
-IsAppWith name parameters.TableAndRows command = (forms : ValueParser) × AreForms forms × (command ≡ append_app forms name)
-IsAppWith name parameters.TableAndQuery command = command ≡ query_app name
+IsAppWith name parameters.TableAndRows command =
+    (forms : ValueParser) × AreForms forms × (dates : ValueParser) × AreDateForms dates × (command ≡ append_app forms dates name)
+IsAppWith name parameters.TableAndQuery command = (dates : ValueParser) × AreDateForms dates × (command ≡ query_app dates name)
 IsAppWith name parameters.ScriptAndFaults command = command ≡ replay_app name
 
 -- the parameters of a command
@@ -172,17 +191,23 @@ value_of found id = unwrap_or (first_value found id) []
 abbrev pub values_of : Found → Text → List Text
 values_of found id = unwrap_or (option_map raw_values (matched_of found id)) []
 
--- a query has the conditions, the columns and the limit that were found
+-- dates stand as people write them if this was found
+abbrev pub HasDates : Found → DateForm → Type 0
+HasDates found Iso = value_of found (codes "dates") ≡ codes "iso"
+HasDates found Numbers = value_of found (codes "dates") ≢ codes "iso"
+
+-- a query has the conditions, the columns and the limit that were found, and its dates stand as it was found
 pub record HasQuery (found : Found) (query : QueryWords) : Type 0 where
   pub conditions : texts query.conditions.items ≡ values_of found (codes "CONDITION")
   pub columns : option_map (λ s. s.now) query.columns ≡ first_value found (codes "columns")
   pub is_limit : is_number_if_any (first_value found (codes "limit")) ≡ true
   pub limit : query.limit ≡ option_map (digits_value 10) (first_value found (codes "limit"))
+  pub dates : HasDates found query.dates
 
 -- rows are objects if the option is given
-pub record HasForm (found : Found) (form : RowForm) : Type 0 where
-  pub arrays : one_text found (codes "objects") ≡ Some (codes "false") → form ≡ Array
-  pub objects : one_text found (codes "objects") ≡ Some (codes "true") → form ≡ Object
+pub record HasShape (found : Found) (shape : RowShape) : Type 0 where
+  pub arrays : one_text found (codes "objects") ≡ Some (codes "false") → shape ≡ Array
+  pub objects : one_text found (codes "objects") ≡ Some (codes "true") → shape ≡ Object
 
 -- the flag says whether this option without a value is given
 pub record HasFlag (found : Found) (id : Text) (flag : Bool) : Type 0 where
@@ -191,8 +216,9 @@ pub record HasFlag (found : Found) (id : Text) (flag : Bool) : Type 0 where
 
 -- the form of a text is the one that was found, and in CSV the text that was found stands for null
 abbrev pub HasTextForm : Found → TextForm → Type 0
-HasTextForm found (text_forms.Csv null_text) = (value_of found (codes "as") ≡ codes "csv") × (null_text.now ≡ value_of found (codes "null"))
-HasTextForm found text_forms.JsonLines = value_of found (codes "as") ≢ codes "csv"
+HasTextForm found (text_forms.Csv form) =
+    (value_of found (codes "as") ≡ codes "csv") × (form.null_text.now ≡ value_of found (codes "null")) × HasDates found form.dates
+HasTextForm found (text_forms.JsonLines date_form) = (value_of found (codes "as") ≢ codes "csv") × HasDates found date_form
 
 -- a command has the names that were found
 abbrev pub HasNames : Found → StoreCommand → Type 0
@@ -205,9 +231,9 @@ HasNames found (commands.CreateLike name like) =
 HasNames found (commands.Append name) = (name.now ≡ value_of found (codes "NAME")) × (bytes_eq (value_of found (codes "as")) (codes "stream") ≡ true)
 HasNames found (commands.AppendText name form) =
     (name.now ≡ value_of found (codes "NAME")) × (bytes_eq (value_of found (codes "as")) (codes "stream") ≡ false) × HasTextForm found form
-HasNames found (commands.Query name query form) = (name.now ≡ value_of found (codes "NAME")) × HasQuery found query × HasForm found form
+HasNames found (commands.Query name query shape) = (name.now ≡ value_of found (codes "NAME")) × HasQuery found query × HasShape found shape
 HasNames found (commands.SaveAs from to query) =
-    (from.now ≡ value_of found (codes "NAME")) × (Some to.now ≡ first_value found (codes "save")) × HasQuery found query × HasForm found Array
+    (from.now ≡ value_of found (codes "NAME")) × (Some to.now ≡ first_value found (codes "save")) × HasQuery found query × HasShape found Array
 HasNames found (commands.Drop name) = name.now ≡ value_of found (codes "NAME")
 HasNames found (commands.Schema name) = name.now ≡ value_of found (codes "NAME")
 HasNames found (commands.Export name) = name.now ≡ value_of found (codes "NAME")

@@ -6,7 +6,8 @@ use Rattle.clap.specs.Walk.{texts}
 use Rattle.clap.specs.Words.{Text}
 use Rattle.commit.specs.declared.sector.FormatVersion.{FormatVersion}
 use Rattle.commit.specs.declared.sector.FormatVersion.TheVariants.{One, Two}
-use Rattle.query.specs.declared.row_form.RowForm.TheVariants.{Array}
+use Rattle.civil_days.specs.declared.date_form.DateForm.TheVariants.{Numbers}
+use Rattle.query.specs.declared.row_form.RowShape.TheVariants.{Array}
 use Rattle.cli_requests.specs.Numbers.{IsNumber}
 use Rattle.cli_requests.specs.declared.store_words.StoreCommand.{StoreCommand}
 use Rattle.cli_requests.specs.declared.store_words.StoreCommand.TheVariants as commands
@@ -64,12 +65,12 @@ names_in commands.Compact = []
 names_in commands.Upgrade = []
 
 -- a command without options: the fields of a table are given, an import may replace a table, rows are appended from a stream, all columns of all rows
--- are printed as arrays, and the summary as lines
+-- are printed as arrays with dates as numbers, and the summary as lines
 abbrev pub IsWithoutOptions : StoreCommand → Type 0
 IsWithoutOptions (commands.CreateLike name like) = ⊥
 IsWithoutOptions (commands.ImportNew name) = ⊥
 IsWithoutOptions (commands.AppendText name form) = ⊥
-IsWithoutOptions (commands.Query name query form) = (query.columns ≡ None) × (query.limit ≡ None) × (form ≡ Array)
+IsWithoutOptions (commands.Query name query shape) = (query.columns ≡ None) × (query.limit ≡ None) × (query.dates ≡ Numbers) × (shape ≡ Array)
 IsWithoutOptions (commands.SaveAs from to query) = ⊥
 IsWithoutOptions (commands.Info as_json) = as_json ≡ false
 IsWithoutOptions _ = Unit {0}

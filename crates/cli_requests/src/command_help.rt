@@ -17,7 +17,8 @@ pub(crate) const COMMANDS: [CommandHelp; 17] = [
 
 The size is fixed, and every sector is written now, so that no later change lacks space
 on the disk: 4096 sectors are 2 MiB, and the maximum, 4194304, is 2 GiB. `copy` makes a
-larger store of one that is full.",
+larger store of one that is full. A block device with nothing on it gets a store, too,
+if it has exactly that number of sectors, as `blockdev --getsz DEVICE` prints it.",
     },
     CommandHelp {
         name: "create",
@@ -47,6 +48,9 @@ nothing is read. For CSV and JSON Lines use create, and then append with --as.",
         example: "Example: arrowstore append store measurements --as csv --null NA < readings.csv
 where readings.csv begins with the line id,value
 
+With --dates iso, dates are written as in 2026-11-30, and timestamps as in
+2026-11-30T12:34:56.789Z, with an offset only if the column has a timezone.
+
 The whole table is read first, also for a single row, so append many rows at once.",
     },
     CommandHelp {
@@ -57,7 +61,8 @@ The whole table is read first, also for a single row, so append many rows at onc
 A LITERAL has no quotation marks, as in 'city = New York': it is all that follows the
 operator and one space. Bytes are pairs of hexadecimal digits, and bools are true or
 false. Dates and timestamps are the stored integers: the number of days, seconds, ..
-since 1970-01-01.",
+since 1970-01-01; with --dates iso they are as in 2026-11-30 or
+2026-11-30T12:34:56.789Z, in the conditions and in the lines.",
     },
     CommandHelp {
         name: "export",
@@ -139,8 +144,10 @@ copy again.",
         example: "Example: arrowstore replay script --sectors 16 --stop 8 --choice new
 where each line of script is one of these, with single spaces between the words:
 create NAME FIELD .., import NAME FILE, append NAME FILE, rename NAME NEW, drop NAME,
-compact (one step), upgrade or reopen. It prints ok or a refusal for each line. Writes
-and syncs of the device are counted from 1, after the formatting. No line may be empty.",
+save NAME NEW [--columns A,B] [--] CONDITION .., compact (one step), upgrade or reopen.
+A word with spaces stands in quotation marks, and a mark in it is written twice. It
+prints ok or a refusal for each line. Writes and syncs of the device are counted from 1,
+after the formatting. No line may be empty.",
     },
 ];
 

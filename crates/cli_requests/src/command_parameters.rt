@@ -2,9 +2,9 @@
 ghost use Rattle.std.specs.Prelude.{◌≡◌, false, codes, IfOk};
 ghost use Rattle.clap.specs.Words.{app_of, new_app, rule_of, with_rule};
 ghost use Rattle.clap.specs.declared.builder.value_parser.ValueParser.{ValueParser};
-ghost use Rattle.cli_requests.specs.Apps.{required_rule, flag_rule, sectors_rule, version_rule, repeated_rule, option_rule, form_rule, null_rule, limit_rule};
+ghost use Rattle.cli_requests.specs.Apps.{required_rule, flag_rule, sectors_rule, version_rule, repeated_rule, option_rule, form_rule, null_rule, dates_rule, query_dates_rule, limit_rule};
 ghost use Rattle.cli_requests.specs.Apps.{store_app, info_app, format_app, new_file_app, copy_app, table_app, import_app, rename_app, fields_app, create_app, append_app, conditions_app, query_app};
-ghost use Rattle.cli_requests.specs.Apps.{AreForms, other_parameters, parameters_of, IsOwnApp};
+ghost use Rattle.cli_requests.specs.Apps.{AreForms, AreDateForms, other_parameters, parameters_of, IsOwnApp};
 ghost use Rattle.cli_requests.specs.Operands.{names_file, names_table};
 
 use crate::command_help::{COMMANDS, CommandHelp, texts_of};
@@ -15,6 +15,9 @@ use std::alloc::{AllocError, Global};
 
 // The input forms of `append`.
 const FORMS: [&str; 3] = ["stream", "csv", "jsonl"];
+
+// How dates and times may stand in texts.
+const DATES: [&str; 2] = ["number", "iso"];
 
 // What a command takes after the file of the store.
 #[derive(Clone, Copy)]
@@ -110,6 +113,32 @@ fn null_text<'a>(alloc: Global) -> Arg<'a>
     .hide_default_value(true)
 }
 
+fn dates<'a>(alloc: Global) -> Arg<'a>
+    ensures { ((dates : ValueParser) × AreDateForms dates × (rule_of result ≡ dates_rule dates)) × (result.global ≡ false) }
+{
+    option(
+        alloc,
+        "dates",
+        "HOW",
+        "How dates and timestamps stand in CSV and JSON Lines: number is the number of days, seconds, .. since 1970-01-01; iso is as in 2026-11-30 or 2026-11-30T12:34:56Z",
+    )
+    .value_parser(ValueParser::Names(&DATES))
+    .default_value("number")
+}
+
+// How dates stand in what a query is given and prints.
+fn query_dates<'a>(alloc: Global) -> Arg<'a>
+    ensures { ((dates : ValueParser) × AreDateForms dates × (rule_of result ≡ query_dates_rule dates)) × (result.global ≡ false) }
+{
+    option(
+        alloc,
+        "dates",
+        "HOW",
+        "How dates and timestamps stand in the conditions and in the lines: number, the default, is the number of days, seconds, .. since 1970-01-01; iso is as in 2026-11-30 or 2026-11-30T12:34:56Z",
+    )
+    .value_parser(ValueParser::Names(&DATES))
+}
+
 fn limit<'a>(alloc: Global) -> Arg<'a>
     ensures { (rule_of result ≡ limit_rule) × (result.global ≡ false) }
 {
@@ -183,7 +212,11 @@ pub(crate) fn with_operand<'a>(
 fn with_file<'a>(alloc: Global, name: &'a str) -> Result<Command<'a>, AllocError>
     ensures { IfOk result (λ c. app_of c ≡ store_app name.now) }
 {
-    with_operand(alloc, name, "STORE", "The file of the store")
+    with_operand(alloc, name, "STORE", "The file of the store")?.arg(flag(
+        alloc,
+        "wait",
+        "Waits for other commands on the store, instead of being refused",
+    ))
 }
 
 // Makes a command that takes `--json`.
@@ -261,11 +294,13 @@ pub(crate) fn with_new_table<'a>(alloc: Global, name: &'a str) -> Result<Command
 
 // Makes a command that takes the form of its input.
 fn with_rows<'a>(alloc: Global, name: &'a str) -> Result<Command<'a>, AllocError>
-    ensures { IfOk result (λ c. (forms : ValueParser) × AreForms forms × (app_of c ≡ append_app forms name.now)) }
+    ensures { IfOk result (λ c. (forms : ValueParser) × AreForms forms × (dates : ValueParser) × AreDateForms dates
+        × (app_of c ≡ append_app forms dates name.now)) }
 {
     with_table(alloc, name)?
         .arg(form(alloc))?
-        .arg(null_text(alloc))
+        .arg(null_text(alloc))?
+        .arg(dates(alloc))
 }
 
 fn with_conditions<'a>(alloc: Global, name: &'a str) -> Result<Command<'a>, AllocError>
@@ -280,7 +315,7 @@ fn with_conditions<'a>(alloc: Global, name: &'a str) -> Result<Command<'a>, Allo
 
 /// Makes a command that takes a query, and how to print the rows or a name to save them under.
 pub(crate) fn with_query<'a>(alloc: Global, name: &'a str) -> Result<Command<'a>, AllocError>
-    ensures { IfOk result (λ c. app_of c ≡ query_app name.now) }
+    ensures { IfOk result (λ c. (dates : ValueParser) × AreDateForms dates × (app_of c ≡ query_app dates name.now)) }
 {
     let columns = option(
         alloc,
@@ -303,7 +338,8 @@ pub(crate) fn with_query<'a>(alloc: Global, name: &'a str) -> Result<Command<'a>
         .arg(columns)?
         .arg(limit(alloc))?
         .arg(save)?
-        .arg(objects)
+        .arg(objects)?
+        .arg(query_dates(alloc))
 }
 
 fn command<'a>(alloc: Global, name: &'a str) -> Result<Command<'a>, AllocError>

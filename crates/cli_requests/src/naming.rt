@@ -2,7 +2,7 @@
 use crate::{QueryWords, StoreCommand, StoreRequest};
 use cli_refusals::{MOST_SHOWN, Refusal, Role, Word, has_unshown};
 use field_texts::ParseError;
-use query::{Condition, Query, QueryError, bind_query};
+use query::{Condition, DateForm, Query, QueryError, bind_query};
 use std::alloc::{AllocError, Global};
 use tables::QueryRefusal;
 use values::Table;
@@ -77,6 +77,7 @@ fn refuses_column(alloc: Global, table: &Table, name: &str) -> Result<bool, Allo
         columns: vec![in alloc; String::from_str(alloc, name)?]?,
         conditions: Vec::new(alloc),
         limit: None,
+        dates: DateForm::Numbers,
     };
     refuses(alloc, table, &query, QueryRefusal::UnknownColumn)
 }
@@ -85,6 +86,7 @@ fn refuses_condition(
     alloc: Global,
     table: &Table,
     text: &str,
+    dates: DateForm,
     reason: QueryRefusal,
 ) -> Result<bool, AllocError> {
     // The texts were parsed before, unless memory was refused then.
@@ -95,6 +97,7 @@ fn refuses_condition(
         columns: Vec::new(alloc),
         conditions: vec![in alloc; condition]?,
         limit: None,
+        dates,
     };
     refuses(alloc, table, &query, reason)
 }
@@ -118,11 +121,11 @@ fn refused_column<'a>(
 fn refused_condition<'a>(
     alloc: Global,
     table: &Table,
-    texts: &[&'a str],
+    words: &QueryWords<'a>,
     reason: QueryRefusal,
 ) -> Result<Option<&'a str>, AllocError> {
-    for text in texts {
-        if refuses_condition(alloc, table, text, reason)? {
+    for text in &words.conditions {
+        if refuses_condition(alloc, table, text, words.dates, reason)? {
             return Ok(Some(text));
         }
     }
@@ -159,7 +162,7 @@ fn word_on_table<'a>(
     if column.is_some() {
         return Ok(named(Role::Column, column));
     }
-    let condition = refused_condition(alloc, table, &query.conditions, reason)?;
+    let condition = refused_condition(alloc, table, query, reason)?;
     if condition.is_some() || !is_unknown {
         return Ok(named(Role::Condition, condition));
     }

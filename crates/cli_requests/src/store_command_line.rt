@@ -2,7 +2,7 @@
 ghost use Rattle.std.specs.Prelude.{◌≡◌, true, false, codes, map, drop, IfOk, IfErr, IsOk};
 ghost use Rattle.clap.specs.Words.{first_value, found_of};
 ghost use Rattle.cli_requests.specs.declared.store_command_line.Mistake.TheVariants as mistakes;
-ghost use Rattle.cli_requests.specs.Apps.{value_of, HasQuery, HasForm, HasFlag, HasTextForm, HasNames, HasFound, IsOfMemory};
+ghost use Rattle.cli_requests.specs.Apps.{value_of, HasQuery, HasShape, HasFlag, HasDates, HasTextForm, HasNames, HasFound, IsOfMemory};
 ghost use Rattle.cli_requests.specs.Asked.{command_word, request_word};
 ghost use Rattle.cli_requests.specs.Numbers.{is_number, is_number_if_any};
 ghost use Rattle.cli_requests.specs.Operands.{Names};
@@ -14,12 +14,13 @@ use crate::found_values::{limit_of, sectors_of, version_in, word, words_of};
 use crate::replaying::replay_request;
 use crate::store_words::is_help_word;
 use crate::{QueryWords, StoreCommand, StoreRequest};
+use civil_days::DateForm;
 use clap::error::ErrorKind;
 use clap::{ArgMatches, Error};
-use query::RowForm;
+use query::RowShape;
 use std::alloc::{AllocError, Global};
 use std::convert::AsStr;
-use text_import::TextForm;
+use text_import::{FieldForm, TextForm};
 
 /// Why a command line has no request.
 #[derive(Drop)]
@@ -197,15 +198,25 @@ fn salvage_request<'a>(path: &'a str, words: &ArgMatches<'a>) -> StoreRequest<'a
     }
 }
 
+fn date_form(words: &ArgMatches<'_>) -> DateForm
+    ensures { HasDates (found_of words.now) result }
+{
+    match word(words, "dates") {
+        "iso" => DateForm::Iso,
+        _ => DateForm::Numbers,
+    }
+}
+
 fn text_form<'a>(form: &str, words: &ArgMatches<'a>) -> TextForm<'a>
     requires { form.now ≡ value_of (found_of words.now) (codes "as") }
     ensures { HasTextForm (found_of words.now) result }
 {
     match form {
-        "csv" => TextForm::Csv {
-            null_text: word(words, "null"),
-        },
-        _ => TextForm::JsonLines,
+        "csv" => TextForm::Csv(FieldForm {
+            null_text: word(words, "null").as_bytes(),
+            dates: date_form(words),
+        }),
+        _ => TextForm::JsonLines(date_form(words)),
     }
 }
 
@@ -252,16 +263,17 @@ fn query_words<'a>(alloc: Global, words: &ArgMatches<'a>) -> Result<QueryWords<'
         conditions: words_of(alloc, words, "CONDITION")?,
         columns: words.get_str("columns"),
         limit: limit_of(words)?,
+        dates: date_form(words),
     })
 }
 
-fn row_form(words: &ArgMatches<'_>) -> RowForm
-    ensures { HasForm (found_of words.now) result }
+fn row_shape(words: &ArgMatches<'_>) -> RowShape
+    ensures { HasShape (found_of words.now) result }
 {
     if words.get_flag("objects") {
-        RowForm::Object
+        RowShape::Object
     } else {
-        RowForm::Array
+        RowShape::Array
     }
 }
 
@@ -286,16 +298,16 @@ fn query_command<'a>(
     ensures taken { IsFoundTakable (codes "query") (found_of words.now) → IfErr result IsOfMemory }
 {
     let query = query_words(alloc, words)?;
-    let form = row_form(words);
-    match (words.get_str("save"), form) {
-        (None, _) => Ok(StoreCommand::Query { name, query, form }),
-        (Some(to), RowForm::Array) => Ok(StoreCommand::SaveAs {
+    let shape = row_shape(words);
+    match (words.get_str("save"), shape) {
+        (None, _) => Ok(StoreCommand::Query { name, query, shape }),
+        (Some(to), RowShape::Array) => Ok(StoreCommand::SaveAs {
             from: name,
             to,
             query,
         }),
         // A saved table is not printed.
-        (Some(_), RowForm::Object) => Err(saved_objects(alloc)?),
+        (Some(_), RowShape::Object) => Err(saved_objects(alloc)?),
     }
 }
 

@@ -5,7 +5,7 @@ ghost use Rattle.cli_requests.specs.StoreWords.{takes_input_word, changes_word, 
 
 use crate::ReplayWords;
 use commit::FormatVersion;
-use query::RowForm;
+use query::{DateForm, RowShape};
 use std::convert::AsStr;
 use text_import::TextForm;
 
@@ -15,6 +15,8 @@ pub struct QueryWords<'a> {
     pub conditions: Vec<&'a str>,
     pub columns: Option<&'a str>,
     pub limit: Option<u64>,
+    /// How dates stand in the conditions, and in the lines that are printed.
+    pub dates: DateForm,
 }
 
 /// What is asked of the store in the file at a path.
@@ -76,11 +78,11 @@ pub enum StoreCommand<'a> {
         name: &'a str,
         form: TextForm<'a>,
     },
-    /// Prints the rows that a query selects, a line each, in this form.
+    /// Prints the rows that a query selects, a line each, of this shape.
     Query {
         name: &'a str,
         query: QueryWords<'a>,
-        form: RowForm,
+        shape: RowShape,
     },
     /// Saves the rows that a query selects as a new table.
     SaveAs {

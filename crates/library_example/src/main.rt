@@ -6,7 +6,7 @@ use anyhow::{Result, bail};
 use arrow_schema::Schema;
 use cells::{Row, Value};
 use field_texts::parse_fields;
-use query::{Condition, Query, RowForm};
+use query::{Condition, DateForm, Query, RowForm, RowShape};
 use sector_dev::{FileDevice, ModelDevice, SectorDevice};
 use std::alloc::Global;
 use std::env;
@@ -37,8 +37,13 @@ fn below_zero<D: SectorDevice + Drop>(alloc: Global, store: &mut Store<D>) -> Re
         columns: Vec::new(alloc),
         conditions: vec![in alloc; Condition::parse(alloc, "value < 0")?]?,
         limit: Some(10),
+        dates: DateForm::Iso,
     };
-    Ok(store.selected_lines(alloc, "notes", &query, RowForm::Object)??)
+    let form = RowForm {
+        shape: RowShape::Object,
+        dates: DateForm::Iso,
+    };
+    Ok(store.selected_lines(alloc, "notes", &query, form)??)
 }
 
 // Each change is safe once its call has returned Ok.

@@ -9,7 +9,7 @@
 mod progress;
 
 use arrowstore::{
-    Audience, Failures, KeptStart, WatchedOutput, report_stream_to_terminal,
+    Audience, Failures, KeptStart, WatchedOutput, asks_to_wait, report_stream_to_terminal,
     report_unreadable_arguments, run_with_files, writes_stream,
 };
 use progress::{ProgressFiles, ProgressLine, ProgressReader, ProgressWriter, Target};
@@ -28,7 +28,13 @@ fn main(rt: HostRuntime) -> ExitCode {
     let ended = match arguments_of(&rt) {
         Ok(arguments) if is_stream_shown(&rt, &arguments) => report_stream_to_terminal(&mut errors),
         Ok(arguments) => run_with_files(
-            &ProgressFiles::new(&rt, line.as_ref(), noted_at(audience, &failures), target),
+            &ProgressFiles::new(
+                &rt,
+                line.as_ref(),
+                noted_at(audience, &failures),
+                target,
+                asks_to_wait(arguments.as_slice()),
+            ),
             arguments.as_slice(),
             &mut KeptStart::new(
                 rt.alloc(),

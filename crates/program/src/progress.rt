@@ -22,6 +22,10 @@ const LONG_WORK: u64 = 32_000_000;
 const TYPED_INPUT: &str =
     "The input is read from the terminal: Ctrl-D ends it, Ctrl-C stops the command. `< FILE` reads a file.\n";
 
+// Said once, if a command waits for the lock of its store: it would seem to do nothing.
+const WAITING: &str =
+    "Waiting until another program is done with the store. Ctrl-C stops this command.\n";
+
 /// What the line reports.
 #[derive(Clone, Copy, Debug, PartialEq, Eq)]
 pub enum Stage {
@@ -81,6 +85,13 @@ impl<'a, C: Clock, T: Write + Copy> ProgressLine<'a, C, T> {
         self.clear();
         let mut terminal = self.terminal;
         let _ = terminal.write_all(TYPED_INPUT.as_bytes());
+    }
+
+    /// Says, in a line that stays, that another command has the store.
+    pub fn say_waiting(&self) {
+        self.clear();
+        let mut terminal = self.terminal;
+        let _ = terminal.write_all(WAITING.as_bytes());
     }
 
     /// Counts the time of the work from now on.

@@ -20,9 +20,11 @@ pub mod Masked
 pub mod BlockFlags
 pub mod IntegerTests
 pub mod ContentsTests
+pub mod Shown
 pub mod AnswerWords
 pub mod NullTests
 pub mod SlotTexts
 pub mod ColumnSlots
 pub mod SlotLines
+pub mod ShownRows
 pub mod SetLines

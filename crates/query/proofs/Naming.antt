@@ -14,6 +14,7 @@ use Rattle.std.specs.Option.{option_copied}
 use Rattle.query.specs.declared.errors.QueryError.{QueryError}
 use Rattle.query.specs.View.{Reports}
 use Rattle.query.proofs.Binding.{reports_first}
+use Rattle.civil_days.specs.declared.date_form.DateForm.{DateForm}
 use Rattle.query.specs.Query.{PlainCondition}
 use Rattle.query.specs.Bound.{has_name, place_of, predicate_of, bound_at, bound}
 
@@ -45,16 +46,16 @@ column_there None fields place e = sym (slice_get-map column_of fields place ∙
 column_there (Some f) fields place e = sym (slice_get-map column_of fields place ∙ ap (option_map column_of) (sym e))
 
 -- a condition whose column stands among fields
-pub bound_is : (cs : List Column) (c : PlainCondition) (place : ℕ) (field : Field) → place_of cs c.column ≡ Some place → slice_get cs place ≡ Some (column_of field)
-    → bound cs c ≡ bound_at place (predicate_of (kind_of (out-Field field).data_type) c.test)
+pub bound_is : (form : DateForm) (cs : List Column) (c : PlainCondition) (place : ℕ) (field : Field) → place_of cs c.column ≡ Some place → slice_get cs place ≡ Some (column_of field)
+    → bound form cs c ≡ bound_at place (predicate_of form (kind_of (out-Field field).data_type) c.test)
 unfolding bound
-bound_is cs c place field e h = rw (e, h) (ap (λ (k : Kind). bound_at place (predicate_of k c.test)) (kind_of_field field))
+bound_is form cs c place field e h = rw (e, h) (ap (λ (k : Kind). bound_at place (predicate_of form k c.test)) (kind_of_field field))
 
 -- what it reports, where it is refused
-pub bound_reports : (cs : List Column) (c : PlainCondition) (place : ℕ) (field : Field) → place_of cs c.column ≡ Some place → slice_get cs place ≡ Some (column_of field)
-    → (e : QueryError) → Reports e (predicate_of (kind_of (out-Field field).data_type) c.test) → Reports e (bound cs c)
-bound_reports cs c place field e h error r =
-    reports_first error (predicate_of (kind_of (out-Field field).data_type) c.test) (bound cs c) (λ x k. bound_is cs c place field e h ∙ ap (bound_at place) k) r
+pub bound_reports : (form : DateForm) (cs : List Column) (c : PlainCondition) (place : ℕ) (field : Field) → place_of cs c.column ≡ Some place → slice_get cs place ≡ Some (column_of field)
+    → (e : QueryError) → Reports e (predicate_of form (kind_of (out-Field field).data_type) c.test) → Reports e (bound form cs c)
+bound_reports form cs c place field e h error r =
+    reports_first error (predicate_of form (kind_of (out-Field field).data_type) c.test) (bound form cs c) (λ x k. bound_is form cs c place field e h ∙ ap (bound_at place) k) r
 
 -- a search passes over an element
 pub skip_one : {X : Type 0} (p : X → Bool) (xs : List X) (i : ℕ) (d : X) → i < length xs → p (get_or xs i d) ≡ false → find p (drop (i + 1) xs) ≡ find p (drop i xs)

@@ -93,5 +93,5 @@ selection_from (Some ps) (Ok bs) most t s d h e =
 pub selection_is_table : (t : PlainTable) (q : PlainQuery) (s : PlainTable) → IsTable t → selection t q ≡ Ok s → IsTable s
 unfolding selection
 selection_is_table t q s h e =
-    selection_from (chosen t.schema.columns q.columns) (all_ok (map (bound t.schema.columns) q.conditions)) q.limit t s
+    selection_from (chosen t.schema.columns q.columns) (all_ok (map (bound q.dates t.schema.columns) q.conditions)) q.limit t s
     (λ ps. chosen_distinct t.schema.columns q.columns ps) h e

@@ -9,6 +9,7 @@ use Rattle.arrow_schema.specs.View.{schema_of, column_of}
 use Rattle.cells.specs.Cell.{PlainTable}
 use Rattle.query.specs.declared.errors.QueryError.{QueryError}
 use Rattle.query.specs.declared.errors.QueryError.TheVariants.{UnknownColumn, BadCondition, NotComparable, OutOfMemory}
+use Rattle.civil_days.specs.declared.date_form.DateForm.{DateForm}
 use Rattle.query.specs.Query.{PlainQuery}
 use Rattle.query.specs.Bound.{Bound, bound}
 use Rattle.query.specs.Selection.{chosen, all_ok, selected, selection}
@@ -24,12 +25,12 @@ columns_report BadCondition t q h = absurd h
 columns_report NotComparable t q h = absurd h
 columns_report OutOfMemory t q h = tt
 
-pub conditions_report : (e : QueryError) (t : PlainTable) (q : PlainQuery) (ps : List ℕ) → chosen t.schema.columns q.columns ≡ Some ps → Reports e (all_ok (map (bound t.schema.columns) q.conditions))
+pub conditions_report : (e : QueryError) (t : PlainTable) (q : PlainQuery) (ps : List ℕ) → chosen t.schema.columns q.columns ≡ Some ps → Reports e (all_ok (map (bound q.dates t.schema.columns) q.conditions))
     → Reports e (selection t q)
 unfolding selection
-conditions_report e t q ps some h = reports_first e (all_ok (map (bound t.schema.columns) q.conditions)) (selection t q) (λ x k. rw (some, k) refl) h
+conditions_report e t q ps some h = reports_first e (all_ok (map (bound q.dates t.schema.columns) q.conditions)) (selection t q) (λ x k. rw (some, k) refl) h
 
-pub selection_is : (t : PlainTable) (q : PlainQuery) (ps : List ℕ) (bs : List Bound) → chosen t.schema.columns q.columns ≡ Some ps → all_ok (map (bound t.schema.columns) q.conditions) ≡ Ok bs
+pub selection_is : (t : PlainTable) (q : PlainQuery) (ps : List ℕ) (bs : List Bound) → chosen t.schema.columns q.columns ≡ Some ps → all_ok (map (bound q.dates t.schema.columns) q.conditions) ≡ Ok bs
     → selection t q ≡ Ok (selected ps bs q.limit t)
 unfolding selection
 selection_is t q ps bs some all = rw (some, all) refl
@@ -41,8 +42,8 @@ same_choice schema t fields names columns e f n =
     let cols : map column_of fields ≡ t.schema.columns = ap (map column_of) f ∙ ap (λ (s : PlainSchema). s.columns) e in
     (λ k. chosen (cols k) (map string_bytes (n k)))
 
-pub same_bounds : (schema : Schema) (t : PlainTable) (fields : List Field) (some conditions : List Condition) → schema_of schema ≡ t.schema → fields ≡ schema.fields.items → some ≡ conditions
-    → all_ok (map (bound (map column_of fields)) (map condition_in some)) ≡ all_ok (map (bound t.schema.columns) (map condition_in conditions))
-same_bounds schema t fields some conditions e f n =
+pub same_bounds : (form : DateForm) (schema : Schema) (t : PlainTable) (fields : List Field) (some conditions : List Condition) → schema_of schema ≡ t.schema → fields ≡ schema.fields.items → some ≡ conditions
+    → all_ok (map (bound form (map column_of fields)) (map condition_in some)) ≡ all_ok (map (bound form t.schema.columns) (map condition_in conditions))
+same_bounds form schema t fields some conditions e f n =
     let cols : map column_of fields ≡ t.schema.columns = ap (map column_of) f ∙ ap (λ (s : PlainSchema). s.columns) e in
-    (λ k. all_ok (map (bound (cols k)) (map condition_in (n k))))
+    (λ k. all_ok (map (bound form (cols k)) (map condition_in (n k))))

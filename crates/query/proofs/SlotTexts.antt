@@ -1,10 +1,11 @@
 -- Columns of strings, and what is printed of their slots.
-use Rattle.std.specs.Prelude.{not, nat_lt, ◌==◌, Option, Some, None, string_bytes, codes, IfSome, if◌then◌else◌}
+use Rattle.std.specs.Prelude.{not, nat_lt, ◌==◌, ℤ, Option, Some, None, string_bytes, codes, IfSome, if◌then◌else◌}
 use Rattle.std.proofs.Common.{◌≡◌, ℕ, ◌+◌, ◌*◌, ◌/◌, ◌<◌, ◌≤◌, Bool, true, false, List, [], ◌∷◌, ◌++◌, length, map, refl, sym, ap, subst, ◌∙◌, arith}
 use Rattle.std.proofs.lemmas.Bool.{and_from, le-leb, ltb-false, ne_eqb}
 use Rattle.std.proofs.Math.Nat.{mul-le-mul_right}
 use Rattle.json.specs.Print.{escape}
 use Rattle.arrow_schema.specs.Column.{Kind, Column, column, texts, large_texts}
+use Rattle.arrow_schema.specs.Parts.{kind_of_column}
 use Rattle.arrow_schema.specs.View.{bits_of, column_of, kind_of, pair_of}
 use Rattle.arrow_schema.specs.declared.types.Field.{Field}
 use Rattle.arrow_schema.specs.laws.Parts.{field_parts}
@@ -17,13 +18,17 @@ use Rattle.columns.specs.Tests.{has_short_validity}
 use Rattle.arrow_schema.specs.declared.types.BitWidth.{BitWidth}
 use Rattle.columns.specs.laws.SoundParts.{sound_validity, sound_buffer}
 use Rattle.query.specs.Line.{json_of}
-use Rattle.query.specs.declared.column_slots.Buffers.TheVariants.{Integers, Texts}
+use Rattle.civil_days.specs.declared.date_form.DateForm.{DateForm}
+use Rattle.civil_days.specs.declared.date_column.DateColumn.{DateColumn}
+use Rattle.query.specs.Shown.{dated, shown_number, shown_cell}
+use Rattle.query.specs.declared.column_slots.Buffers.TheVariants.{Texts}
 use Rattle.query.specs.declared.column_slots.IntegerBuffers.{IntegerBuffers}
 use Rattle.query.specs.declared.column_slots.TextBuffers.{TextBuffers}
-use Rattle.query.specs.inner.ColumnSlots.{IsTextKind, IsTextColumn, AreBuffers, IsPlainText}
+use Rattle.query.specs.inner.ColumnSlots.{IsTextKind, IsTextColumn, AreIntegers, AreBuffers, IsPlainText}
 use Rattle.query.specs.inner.Contents.{has_contents, span_in}
-use Rattle.query.specs.inner.Slots.{is_valid_in, width_of as integer_width}
+use Rattle.query.specs.inner.Slots.{is_valid_in, number_or_null, date_or_null, width_of as integer_width}
 use Rattle.query.proofs.AnswerWords.{offsets_there}
+use Rattle.query.proofs.Shown.{shown_null, shown_text, shown_of_number}
 
 -- ---- the types
 
@@ -55,24 +60,24 @@ some_texts f (Some w) e h = field_texts f (bits_of w / 8) e h
 -- ---- their slots
 
 -- the text of a slot that is valid, where its bytes stand in a string as they are
-pub text_printed : (c : Column) (width : ℕ) (a : Array) (i : ℕ) (t : List ℕ) → IsTextColumn c width → is_valid a i ≡ true → t ≡ contents_at width a i → escape t ≡ t
-    → codes "\"" ++ t ++ codes "\"" ≡ json_of (cell_at c a i)
+pub text_printed : (form : DateForm) (c : Column) (width : ℕ) (a : Array) (i : ℕ) (t : List ℕ) → IsTextColumn c width → is_valid a i ≡ true → t ≡ contents_at width a i → escape t ≡ t
+    → codes "\"" ++ t ++ codes "\"" ≡ json_of (shown_cell form c (cell_at c a i))
 unfolding json_of
-text_printed c width a i t is valid own plain =
+text_printed form c width a i t is valid own plain =
     let cell : cell_at c a i ≡ text t = is.cells a i ∙ ap (λ (b : Bool). if b then text (contents_at width a i) else null) valid ∙ ap text (sym own) in
-    rw cell (ap (λ (s : List ℕ). 34 ∷ (s ++ 34 ∷ [])) (sym plain))
+    rw (cell, shown_text form c t) (ap (λ (s : List ℕ). 34 ∷ (s ++ 34 ∷ [])) (sym plain))
 
 -- the same of the buffers of an array
-pub plain_printed : (c : Column) (a : Array) (b : TextBuffers) (i : ℕ) (t : List ℕ) → AreBuffers c a (Texts b) → IsPlainText b i t → codes "\"" ++ t ++ codes "\"" ≡ json_of (cell_at c a i)
-plain_printed c a b i t are is =
+pub plain_printed : (form : DateForm) (c : Column) (a : Array) (b : TextBuffers) (i : ℕ) (t : List ℕ) → AreBuffers form c a (Texts b) → IsPlainText b i t → codes "\"" ++ t ++ codes "\"" ≡ json_of (shown_cell form c (cell_at c a i))
+plain_printed form c a b i t are is =
     let width = bits_of b.width / 8 in
     let own : t ≡ contents_at width a i =
     is.contents ∙ ap (λ (offsets : List ℕ). span_in width offsets b.contents.now i) are.2 ∙ ap (λ (contents : List ℕ). span_in width (offsets_in a) contents i) are.3 in
     let valid : is_valid a i ≡ true = sym (ap (λ (validity : List ℕ). is_valid_in validity i) are.1) ∙ is.valid in
-    text_printed c width a i t are.0 valid own is.plain
+    text_printed form c width a i t are.0 valid own is.plain
 
 -- the number or the null of a slot
-pub number_is : (c : Column) (a : Array) (b : IntegerBuffers) (i : ℕ) (x : Cell) → AreBuffers c a (Integers b)
+number_is : (c : Column) (a : Array) (b : IntegerBuffers) (i : ℕ) (x : Cell) → AreIntegers c a b
     → x ≡ (if is_valid_in b.validity.now i then number (integer_at (integer_width b.integer) b.integer.signed b.values.now i) else null) → x ≡ cell_at c a i
 number_is c a b i x are is =
     let width = integer_width b.integer in
@@ -81,6 +86,26 @@ number_is c a b i x are is =
     ∙ ap (λ (values : List ℕ). if is_valid a i then number (integer_at width b.integer.signed values i) else null) are.2
     ∙ sym (are.0.cells a i)
 
+-- a number or a null as it is printed: as it is, or as a date
+unshown : (form : DateForm) (c : Column) (r : Option ℤ) → dated form (kind_of_column c) ≡ None → shown_cell form c (number_or_null r) ≡ number_or_null r
+unshown form c (Some n) none = shown_of_number form c n ∙ ap (λ (o : Option DateColumn). shown_number o n) none
+unshown form c None none = shown_null form c
+
+shown_date : (form : DateForm) (c : Column) (column : DateColumn) (r : Option ℤ) → dated form (kind_of_column c) ≡ Some column → shown_cell form c (number_or_null r) ≡ date_or_null column r
+shown_date form c column (Some n) some = shown_of_number form c n ∙ ap (λ (o : Option DateColumn). shown_number o n) some
+shown_date form c column None some = shown_null form c
+
+-- what is printed of a slot
+pub integer_printed : (form : DateForm) (c : Column) (a : Array) (b : IntegerBuffers) (i : ℕ) (r : Option ℤ) → AreIntegers c a b → dated form (kind_of_column c) ≡ None
+    → number_or_null r ≡ (if is_valid_in b.validity.now i then number (integer_at (integer_width b.integer) b.integer.signed b.values.now i) else null)
+    → number_or_null r ≡ shown_cell form c (cell_at c a i)
+integer_printed form c a b i r are none is = sym (unshown form c r none) ∙ ap (shown_cell form c) (number_is c a b i (number_or_null r) are is)
+
+pub date_printed : (form : DateForm) (c : Column) (a : Array) (b : IntegerBuffers) (column : DateColumn) (i : ℕ) (r : Option ℤ) → AreIntegers c a b → dated form (kind_of_column c) ≡ Some column
+    → number_or_null r ≡ (if is_valid_in b.validity.now i then number (integer_at (integer_width b.integer) b.integer.signed b.values.now i) else null)
+    → date_or_null column r ≡ shown_cell form c (cell_at c a i)
+date_printed form c a b column i r are some is = sym (shown_date form c column r some) ∙ ap (shown_cell form c) (number_is c a b i (number_or_null r) are is)
+
 -- a bit for a slot, where there is a validity bitmap
 validity_there : (a : Array) (slot : ℕ) → has_short_validity a ≡ false → slot < slots_in a → 0 < length (validity_in a) → slot < 8 * length (validity_in a)
 validity_there a slot h within some =
@@ -88,11 +113,11 @@ validity_there a slot h within some =
     let long : nat_lt (length (validity_in a)) (bytes_of (slots_in a)) ≡ false = rw filled at h in
     omega (arith, ltb-false _ _ long, within)
 
-pub integer_bit : (c : Column) (a : Array) (b : IntegerBuffers) (slot : ℕ) → AreBuffers c a (Integers b) → is_sound c a ≡ true → slot < slots_in a → 0 < length b.validity.now → slot < 8 * length b.validity.now
+pub integer_bit : (c : Column) (a : Array) (b : IntegerBuffers) (slot : ℕ) → AreIntegers c a b → is_sound c a ≡ true → slot < slots_in a → 0 < length b.validity.now → slot < 8 * length b.validity.now
 integer_bit c a b slot are sound within =
     subst (λ (v : List ℕ). 0 < length v → slot < 8 * length v) (sym are.1) (validity_there a slot (are.0.validity a sound) within)
 
-pub integer_bytes : (c : Column) (a : Array) (b : IntegerBuffers) (slot : ℕ) → AreBuffers c a (Integers b) → is_sound c a ≡ true → slot < slots_in a
+pub integer_bytes : (c : Column) (a : Array) (b : IntegerBuffers) (slot : ℕ) → AreIntegers c a b → is_sound c a ≡ true → slot < slots_in a
     → (slot + 1) * integer_width b.integer ≤ length b.values.now
 integer_bytes c a b slot are sound within =
     let width : ℕ = integer_width b.integer in
@@ -101,13 +126,13 @@ integer_bytes c a b slot are sound within =
     subst (λ (v : List ℕ). (slot + 1) * width ≤ length v) (sym are.2) (omega (arith, less, enough))
 
 -- a slot of strings
-pub text_bit : (c : Column) (a : Array) (b : TextBuffers) (slot : ℕ) → AreBuffers c a (Texts b) → is_sound c a ≡ true → slot < slots_in a → 0 < length b.validity.now → slot < 8 * length b.validity.now
-text_bit c a b slot are sound within =
+pub text_bit : (form : DateForm) (c : Column) (a : Array) (b : TextBuffers) (slot : ℕ) → AreBuffers form c a (Texts b) → is_sound c a ≡ true → slot < slots_in a → 0 < length b.validity.now → slot < 8 * length b.validity.now
+text_bit form c a b slot are sound within =
     subst (λ (v : List ℕ). 0 < length v → slot < 8 * length v) (sym are.1) (validity_there a slot (are.0.validity a sound) within)
 
-pub text_bytes : (c : Column) (a : Array) (b : TextBuffers) (slot : ℕ) → AreBuffers c a (Texts b) → is_sound c a ≡ true → slot < slots_in a
+pub text_bytes : (form : DateForm) (c : Column) (a : Array) (b : TextBuffers) (slot : ℕ) → AreBuffers form c a (Texts b) → is_sound c a ≡ true → slot < slots_in a
     → (slot + 2) * (bits_of b.width / 8) ≤ length b.offsets.now
-text_bytes c a b slot are sound within =
+text_bytes form c a b slot are sound within =
     let width = bits_of b.width / 8 in
     let there : has_contents width (slot + 1) a ≡ true =
     and_from _ _ (le-leb _ _ (omega (arith, within))) (and_from _ _ (ap not (are.0.validity a sound)) (ap not (are.0.offsets a sound))) in

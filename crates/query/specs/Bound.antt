@@ -7,6 +7,7 @@ use Rattle.arrow_schema.specs.Column.{Kind, Column}
 use Rattle.arrow_schema.specs.Parts.{name_of_column, kind_of_column}
 use Rattle.cells.specs.Cell.{Cell, boolean, number, text, bytes}
 use Rattle.cells.specs.Nulls.{is_null, is_there}
+use Rattle.civil_days.specs.declared.date_form.DateForm.{DateForm}
 use Rattle.query.specs.declared.operator.Operator.{Operator}
 use Rattle.query.specs.declared.operator.Operator.TheVariants as operators
 use Rattle.query.specs.Query.{PlainTest, null_test, value_test, comparison, PlainCondition}
@@ -40,26 +41,26 @@ abbrev pub against : Operator → Option Cell → Result Predicate SelectionRefu
 against o None = Err bad_condition
 against o (Some literal) = Ok (compares o literal)
 
-abbrev pub predicate_of : Kind → PlainTest → Result Predicate SelectionRefusal
-predicate_of kind null_test = Ok asks_null
-predicate_of kind value_test = Ok asks_value
-predicate_of kind (comparison o literal) = if is_comparable kind then against o (literal_of kind literal) else Err not_comparable
+abbrev pub predicate_of : DateForm → Kind → PlainTest → Result Predicate SelectionRefusal
+predicate_of form kind null_test = Ok asks_null
+predicate_of form kind value_test = Ok asks_value
+predicate_of form kind (comparison o literal) = if is_comparable kind then against o (literal_of form kind literal) else Err not_comparable
 
 abbrev pub bound_at : ℕ → Result Predicate SelectionRefusal → Result Bound SelectionRefusal
 bound_at place (Ok d) = Ok (record { place = place; predicate = d })
 bound_at place (Err e) = Err e
 
-abbrev pub bound_in : ℕ → Option Column → PlainTest → Result Bound SelectionRefusal
-bound_in place None test = Err unknown_column
-bound_in place (Some c) test = bound_at place (predicate_of (kind_of_column c) test)
+abbrev pub bound_in : DateForm → ℕ → Option Column → PlainTest → Result Bound SelectionRefusal
+bound_in form place None test = Err unknown_column
+bound_in form place (Some c) test = bound_at place (predicate_of form (kind_of_column c) test)
 
-abbrev pub bound_to : List Column → Option ℕ → PlainTest → Result Bound SelectionRefusal
-bound_to cs None test = Err unknown_column
-bound_to cs (Some place) test = bound_in place (slice_get cs place) test
+abbrev pub bound_to : DateForm → List Column → Option ℕ → PlainTest → Result Bound SelectionRefusal
+bound_to form cs None test = Err unknown_column
+bound_to form cs (Some place) test = bound_in form place (slice_get cs place) test
 
--- a condition on these columns, or the first reason why there is none: its column, whether it can be compared, its literal
-unfoldable pub bound : List Column → PlainCondition → Result Bound SelectionRefusal
-bound cs c = bound_to cs (place_of cs c.column) c.test
+-- a condition on these columns, whose literal has dates in this form, or the first reason why there is none: its column, whether it can be compared, its literal
+unfoldable pub bound : DateForm → List Column → PlainCondition → Result Bound SelectionRefusal
+bound form cs c = bound_to form cs (place_of cs c.column) c.test
 
 -- false is less than true; texts and bytes are ordered byte by byte; a null, and a value of another form, has no order
 abbrev pub order : Cell → Cell → Option Ordering

@@ -1,5 +1,6 @@
 pub mod Query
 pub mod ConditionText
+pub mod Shown
 pub mod Literal
 pub mod Bound
 pub mod Selection

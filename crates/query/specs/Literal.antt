@@ -6,6 +6,10 @@ use Rattle.hex.specs.Hex.{decode_of}
 use Rattle.arrow_schema.specs.Column.{Kind, nulls, booleans, integers, dates, timestamps, texts, large_texts, binaries, large_binaries, fixed_binaries, lists, large_lists, fixed_lists, structs}
 use Rattle.cells.specs.Cell.{Cell, boolean, number, text, bytes}
 use Rattle.cells.specs.Typed.{typed_integer, typed_boolean}
+use Rattle.civil_days.specs.Typed.{spelled_in}
+use Rattle.civil_days.specs.declared.date_column.DateColumn.{DateColumn}
+use Rattle.civil_days.specs.declared.date_form.DateForm.{DateForm}
+use Rattle.query.specs.Shown.{dated}
 
 unfoldable pub boolean_in : List ℕ → Option Cell
 boolean_in t = option_map boolean (typed_boolean t)
@@ -19,6 +23,15 @@ where_of_64_bits n = if is_of_64_bits n then Some (number n) else None
 
 unfoldable pub number_in : List ℕ → Option Cell
 number_in t = option_and_then where_of_64_bits (typed_integer t)
+
+-- the number of a date or a timestamp, as its text states it
+unfoldable pub date_in : DateColumn → List ℕ → Option Cell
+date_in column t = option_and_then where_of_64_bits (result_ok (spelled_in column t))
+
+-- where dates stand in texts as people write them, or as their numbers
+abbrev pub number_or_date : Option DateColumn → List ℕ → Option Cell
+number_or_date None = number_in
+number_or_date (Some column) = date_in column
 
 -- pairs of hexadecimal digits in either case
 abbrev pub bytes_in : List ℕ → Option Cell
@@ -41,19 +54,20 @@ is_comparable (large_lists item) = false
 is_comparable (fixed_lists size item) = false
 is_comparable (structs parts) = false
 
--- the value of a literal: dates and timestamps are numbers, and a text stands for itself. Whether the column may have the value is not asked
-abbrev pub literal_of : Kind → List ℕ → Option Cell
-literal_of nulls = λ t. None
-literal_of booleans = boolean_in
-literal_of (integers bits signed) = number_in
-literal_of (dates unit) = number_in
-literal_of (timestamps unit timezone) = number_in
-literal_of texts = λ t. Some (text t)
-literal_of large_texts = λ t. Some (text t)
-literal_of binaries = bytes_in
-literal_of large_binaries = bytes_in
-literal_of (fixed_binaries width) = bytes_in
-literal_of (lists item) = λ t. None
-literal_of (large_lists item) = λ t. None
-literal_of (fixed_lists size item) = λ t. None
-literal_of (structs parts) = λ t. None
+-- the value of a literal: dates and timestamps are numbers or stand as people write them, and a text stands for itself. Whether the column may have
+-- the value is not asked
+abbrev pub literal_of : DateForm → Kind → List ℕ → Option Cell
+literal_of form nulls = λ t. None
+literal_of form booleans = boolean_in
+literal_of form (integers bits signed) = number_in
+literal_of form (dates unit) = number_or_date (dated form (dates unit))
+literal_of form (timestamps unit timezone) = number_or_date (dated form (timestamps unit timezone))
+literal_of form texts = λ t. Some (text t)
+literal_of form large_texts = λ t. Some (text t)
+literal_of form binaries = bytes_in
+literal_of form large_binaries = bytes_in
+literal_of form (fixed_binaries width) = bytes_in
+literal_of form (lists item) = λ t. None
+literal_of form (large_lists item) = λ t. None
+literal_of form (fixed_lists size item) = λ t. None
+literal_of form (structs parts) = λ t. None

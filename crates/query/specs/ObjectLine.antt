@@ -7,8 +7,10 @@ use Rattle.arrow_schema.specs.Parts.{name_of_column}
 use Rattle.cells.specs.Cell.{Cell}
 use Rattle.query.specs.Bound.{has_name}
 use Rattle.query.specs.Line.{json_of, line}
+use Rattle.query.specs.Shown.{shown_row}
 use Rattle.query.specs.declared.row_form.RowForm.{RowForm}
-use Rattle.query.specs.declared.row_form.RowForm.TheVariants.{Array, Object}
+use Rattle.query.specs.declared.row_form.RowShape.{RowShape}
+use Rattle.query.specs.declared.row_form.RowShape.TheVariants.{Array, Object}
 
 -- the name as a string, a colon and the value
 abbrev pub member : List ℕ → Cell → List ℕ
@@ -36,10 +38,14 @@ is_of_one cs name = count_by (has_name name) cs == 1
 abbrev pub are_named_apart : List Column → Bool
 are_named_apart cs = list_all (is_of_one cs) (map name_of_column cs)
 
+-- the line of a row of each shape
+abbrev pub line_of_shape : RowShape → List Column → List Cell → List ℕ
+line_of_shape Array cs row = line row
+line_of_shape Object cs row = object_line (map name_of_column cs) row
+
 -- the line of a row in each form
 abbrev pub line_in : RowForm → List Column → List Cell → List ℕ
-line_in Array cs row = line row
-line_in Object cs row = object_line (map name_of_column cs) row
+line_in form cs row = line_of_shape form.shape cs (shown_row form.dates cs row)
 
 -- a line for each of the rows
 abbrev pub lines_text : RowForm → List Column → List (List Cell) → List ℕ

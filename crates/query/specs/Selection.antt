@@ -64,4 +64,4 @@ selected_where (Some places) (Ok bounds) most t = Ok (selected places bounds mos
 
 -- the selection, or the first refusal: the columns asked for are tested first, and then the conditions in order
 unfoldable pub selection : PlainTable → PlainQuery → Result PlainTable SelectionRefusal
-selection t q = selected_where (chosen t.schema.columns q.columns) (all_ok (map (bound t.schema.columns) q.conditions)) q.limit t
+selection t q = selected_where (chosen t.schema.columns q.columns) (all_ok (map (bound q.dates t.schema.columns) q.conditions)) q.limit t

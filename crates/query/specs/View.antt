@@ -18,7 +18,7 @@ abbrev pub condition_in : Condition → PlainCondition
 condition_in c = record { column = string_bytes c.column; test = test_in c.test }
 
 abbrev pub query_in : Query → PlainQuery
-query_in q = record { columns = map string_bytes q.columns.items; conditions = map condition_in q.conditions.items; limit = q.limit }
+query_in q = record { columns = map string_bytes q.columns.items; conditions = map condition_in q.conditions.items; limit = q.limit; dates = q.dates }
 
 -- an error reports the refusal that there is; memory may be refused in any case
 abbrev pub Reports : {X : Type 0} → QueryError → Result X SelectionRefusal → Type 0

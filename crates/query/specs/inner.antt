@@ -7,3 +7,4 @@ pub mod Nulls
 pub mod SlotTests
 pub mod Slots
 pub mod SlotLines
+pub mod ShownParts

@@ -14,6 +14,7 @@ use crate::literal::{is_comparable, literal_of};
 use crate::operator::{Operator, accepts};
 use arrow_schema::{DataType, Field};
 use cells::Value;
+use civil_days::DateForm;
 use std::alloc::Global;
 use std::cmp::Ordering;
 use values::{ValueRef, Values};
@@ -75,9 +76,14 @@ pub(crate) fn field_at(fields: &[Field], place: usize) -> Option<&Field>
     get_field(fields, place)
 }
 
-fn predicate_of(alloc: Global, data_type: &DataType, test: &Test) -> Result<Predicate, QueryError>
-    ensures ok { IfOk result (λ d. predicate_of (kind_of data_type.now) (test_in test.now) ≡ Ok (predicate_in d)) }
-    ensures refused { IfErr result (λ e. Reports e (predicate_of (kind_of data_type.now) (test_in test.now))) }
+fn predicate_of(
+    alloc: Global,
+    dates: DateForm,
+    data_type: &DataType,
+    test: &Test,
+) -> Result<Predicate, QueryError>
+    ensures ok { IfOk result (λ d. predicate_of dates (kind_of data_type.now) (test_in test.now) ≡ Ok (predicate_in d)) }
+    ensures refused { IfErr result (λ e. Reports e (predicate_of dates (kind_of data_type.now) (test_in test.now))) }
 {
     match test {
         Test::IsNull => Ok(Predicate::IsNull),
@@ -86,7 +92,7 @@ fn predicate_of(alloc: Global, data_type: &DataType, test: &Test) -> Result<Pred
             if !is_comparable(data_type) {
                 return Err(QueryError::NotComparable);
             }
-            match literal_of(alloc, data_type, literal.as_str())? {
+            match literal_of(alloc, dates, data_type, literal.as_str())? {
                 None => Err(QueryError::BadCondition),
                 Some(literal) => Ok(Predicate::Compares(*operator, literal)),
             }
@@ -94,15 +100,16 @@ fn predicate_of(alloc: Global, data_type: &DataType, test: &Test) -> Result<Pred
     }
 }
 
-/// Binds a condition to the columns of a table.
+/// Binds a condition to the columns of a table, where dates stand in its literal in this form.
 #[tactic(auto, unfolding(crate::specs::Bound::bound))]
 pub(crate) fn bind(
     alloc: Global,
+    dates: DateForm,
     fields: &[Field],
     condition: &Condition,
 ) -> Result<Bound, QueryError>
-    ensures ok { IfOk result (λ b. bound (map column_of fields.now) (condition_in condition.now) ≡ Ok (bound_in b)) }
-    ensures refused { IfErr result (λ e. Reports e (bound (map column_of fields.now) (condition_in condition.now))) }
+    ensures ok { IfOk result (λ b. bound dates (map column_of fields.now) (condition_in condition.now) ≡ Ok (bound_in b)) }
+    ensures refused { IfErr result (λ e. Reports e (bound dates (map column_of fields.now) (condition_in condition.now))) }
 {
     let Some(place) = place_of(fields, condition.column.as_str()) else {
         return Err(QueryError::UnknownColumn);
@@ -110,7 +117,7 @@ pub(crate) fn bind(
     let Some(field) = field_at(fields, place) else {
         return Err(QueryError::UnknownColumn);
     };
-    let predicate = predicate_of(alloc, &field.data_type, &condition.test)?;
+    let predicate = predicate_of(alloc, dates, &field.data_type, &condition.test)?;
     Ok(Bound { place, predicate })
 }
 

@@ -5,14 +5,16 @@ ghost use Rattle.cells.specs.Cell.{null, number};
 ghost use Rattle.columns.specs.CellAt.{integer_at};
 ghost use Rattle.columns.specs.View.{view_array, IsNoArray};
 ghost use Rattle.query.specs.inner.ColumnSlots.{IsTextKind, IsTextColumn, IsPlainText, AreBuffers, array_at, IsColumn, AreColumns};
-ghost use Rattle.query.specs.inner.Slots.{is_valid_in, number_or_null, width_of};
+ghost use Rattle.query.specs.inner.Slots.{IsIntegerColumn, is_valid_in, number_or_null, width_of};
 
 use crate::batch_arrays::BatchArrays;
 use crate::first_bytes::{FirstBytes, first_bytes};
 use crate::integer_slots::{field_integer, number_at};
 use crate::plain_text::are_plain;
+use crate::shown::dated;
 use crate::validity::is_valid;
 use arrow_schema::{BitWidth, DataType, Field, IntegerType};
+use civil_days::{DateColumn, DateForm};
 use columns::{ArrayView, PlacedArray, array_or};
 use std::alloc::{AllocError, Global};
 
@@ -33,10 +35,11 @@ pub(crate) struct TextBuffers<'a> {
     contents: &'a [u8],
 }
 
-/// The buffers that the values of a column are printed from, if they need not be borrowed.
+/// The buffers that the values of a column are printed from, if they need not be borrowed. Dates are integers that stand in the lines as texts.
 #[derive(Clone, Copy)]
 pub(crate) enum Buffers<'a> {
     Integers(IntegerBuffers<'a>),
+    Dates(DateColumn, IntegerBuffers<'a>),
     Texts(TextBuffers<'a>),
     Others,
 }
@@ -71,8 +74,8 @@ fn field_text_width(field: &Field) -> Option<BitWidth>
     }
 }
 
-fn text_buffers<'a>(field: &Field, view: ArrayView<'a>) -> Buffers<'a>
-    ensures { AreBuffers (column_of field.now) (view_array view.entry) result }
+fn text_buffers<'a>(dates: DateForm, field: &Field, view: ArrayView<'a>) -> Buffers<'a>
+    ensures { AreBuffers dates (column_of field.now) (view_array view.entry) result }
 {
     match field_text_width(field) {
         Some(width) => Buffers::Texts(TextBuffers {
@@ -85,27 +88,45 @@ fn text_buffers<'a>(field: &Field, view: ArrayView<'a>) -> Buffers<'a>
     }
 }
 
-fn buffers_of<'a>(field: &Field, view: ArrayView<'a>) -> Buffers<'a>
-    ensures { AreBuffers (column_of field.now) (view_array view.entry) result }
+// Returns the buffers of a column of these integers.
+fn number_buffers<'a>(
+    dates: DateForm,
+    field: &Field,
+    integer: IntegerType,
+    view: ArrayView<'a>,
+) -> Buffers<'a>
+    requires { IsIntegerColumn (column_of field.now) integer }
+    ensures { AreBuffers dates (column_of field.now) (view_array view.entry) result }
+{
+    let buffers = IntegerBuffers {
+        integer,
+        validity: view.validity(),
+        values: view.values(),
+    };
+    match dated(dates, &field.data_type) {
+        Some(column) => Buffers::Dates(column, buffers),
+        None => Buffers::Integers(buffers),
+    }
+}
+
+fn buffers_of<'a>(dates: DateForm, field: &Field, view: ArrayView<'a>) -> Buffers<'a>
+    ensures { AreBuffers dates (column_of field.now) (view_array view.entry) result }
 {
     match field_integer(field) {
-        Some(integer) => Buffers::Integers(IntegerBuffers {
-            integer,
-            validity: view.validity(),
-            values: view.values(),
-        }),
-        None => text_buffers(field, view),
+        Some(integer) => number_buffers(dates, field, integer, view),
+        None => text_buffers(dates, field, view),
     }
 }
 
 fn column_at<'a>(
+    dates: DateForm,
     field: &'a Field,
     batch: BatchArrays<'a>,
     none: &'a PlacedArray,
     place: usize,
 ) -> ColumnSlots<'a>
     requires { IsNoArray none.now }
-    ensures { IsColumn field.now (array_at place batch.entry) result }
+    ensures { IsColumn dates field.now (array_at place batch.entry) result }
 {
     let view = ArrayView {
         array: array_or(batch.arrays, place, none),
@@ -115,23 +136,24 @@ fn column_at<'a>(
     ColumnSlots {
         field,
         view,
-        buffers: buffers_of(field, view),
+        buffers: buffers_of(dates, field, view),
     }
 }
 
-/// Returns the columns of a batch.
+/// Returns the columns of a batch, for printing dates in this form.
 pub(crate) fn columns_of<'a>(
     alloc: Global,
+    dates: DateForm,
     fields: &'a [Field],
     batch: BatchArrays<'a>,
     none: &'a PlacedArray,
 ) -> Result<Vec<ColumnSlots<'a>>, AllocError>
     requires { IsNoArray none.now }
-    ensures { IfOk result (λ columns. AreColumns batch.entry 0 fields.now columns.items) }
+    ensures { IfOk result (λ columns. AreColumns dates batch.entry 0 fields.now columns.items) }
 {
     let mut columns = Vec::with_capacity(alloc, fields.len())?;
     for place in 0..fields.len() {
-        columns.push_reserved(column_at(&fields[place], batch, none, place));
+        columns.push_reserved(column_at(dates, &fields[place], batch, none, place));
     }
     Ok(columns)
 }

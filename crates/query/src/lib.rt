@@ -6,7 +6,7 @@
 //!
 //! ```
 //! let condition = Condition::parse(alloc, "a >= 1")?;
-//! let query = Query { columns: Vec::new(alloc), conditions: vec![in alloc; condition]?, limit: Some(10) };
+//! let query = Query { columns: Vec::new(alloc), conditions: vec![in alloc; condition]?, limit: Some(10), dates: DateForm::Numbers };
 //! let bound = bind_query(alloc, table.schema(), &query)?;
 //! let mask = choose_rows(alloc, &table, &bound)?;
 //! ```
@@ -40,6 +40,7 @@ mod row_form;
 mod selecting;
 mod set_lines;
 mod set_rows;
+mod shown;
 mod slot_lines;
 mod slot_test;
 mod slot_value;
@@ -47,6 +48,7 @@ mod validity;
 
 pub use batch_arrays::BatchArrays;
 pub use bound_query::BoundQuery;
+pub use civil_days::DateForm;
 pub use condition::{Condition, Test};
 pub use errors::QueryError;
 pub use laws::{rows_refuse_no_query, selection_is_a_table};
@@ -54,7 +56,7 @@ pub use object_line::{are_named_apart, push_line_in};
 pub use operator::Operator;
 pub use query::Query;
 pub use refused_place::{conditions_are_refused_there, refused_condition};
-pub use row_form::RowForm;
+pub use row_form::{RowForm, RowShape};
 pub use selecting::{bind_query, choose_rows};
 pub use set_lines::push_set_lines;
 pub use set_rows::next_set;

@@ -3,10 +3,13 @@ ghost use Rattle.std.specs.Prelude.{◌≡◌, ◌==◌, slice_index, IfOk, opti
 ghost use Rattle.arrow_schema.specs.View.{kind_of};
 ghost use Rattle.cells.specs.Cell.{number};
 ghost use Rattle.cells.specs.View.{cell};
-ghost use Rattle.query.specs.Literal.{boolean_in, number_in, bytes_in, is_of_64_bits, is_comparable, literal_of};
+ghost use Rattle.query.specs.Literal.{boolean_in, number_in, date_in, number_or_date, bytes_in, is_of_64_bits, is_comparable, literal_of};
+ghost use Rattle.query.specs.Shown.{dated};
 
+use crate::shown::dated;
 use arrow_schema::DataType;
 use cells::Value;
+use civil_days::{DateColumn, DateForm, read_value};
 use hex::FromHexError;
 use std::alloc::{AllocError, Global};
 
@@ -61,12 +64,46 @@ fn number_in(text: &str) -> Option<i128>
     }
 }
 
+#[tactic(auto, unfolding(crate::specs::Literal::date_in))]
+fn date_in(column: DateColumn, text: &str) -> Option<i128>
+    ensures { option_map (λ n. number n) result ≡ date_in column text.now }
+{
+    match read_value(column, text.as_bytes()) {
+        Err(_) => None,
+        Ok(number) => {
+            if is_of_64_bits(number) {
+                Some(number)
+            } else {
+                None
+            }
+        }
+    }
+}
+
 fn number_literal(text: &str) -> Option<Value>
     ensures { option_map cell result ≡ number_in text.now }
 {
     match number_in(text) {
         None => None,
         Some(number) => Some(Value::Int(number)),
+    }
+}
+
+fn date_literal(column: DateColumn, text: &str) -> Option<Value>
+    ensures { option_map cell result ≡ date_in column text.now }
+{
+    match date_in(column, text) {
+        None => None,
+        Some(number) => Some(Value::Int(number)),
+    }
+}
+
+fn number_or_date(dates: DateForm, data_type: &DataType, text: &str) -> Option<Value>
+    ensures { option_map cell result ≡ number_or_date (dated dates (kind_of data_type.now)) text.now }
+{
+    match dated(dates, data_type) {
+        None => number_literal(text),
+        Some(column) => date_literal(column, text),
     }
 }
 
@@ -96,17 +133,18 @@ pub(crate) fn is_comparable(data_type: &DataType) -> bool
 // Returns the value of a literal that values of a type are compared with.
 pub(crate) fn literal_of(
     alloc: Global,
+    dates: DateForm,
     data_type: &DataType,
     text: &str,
 ) -> Result<Option<Value>, AllocError>
-    ensures { IfOk result (λ v. option_map cell v ≡ literal_of (kind_of data_type.now) text.now) }
+    ensures { IfOk result (λ v. option_map cell v ≡ literal_of dates (kind_of data_type.now) text.now) }
 {
     match data_type {
         DataType::Null => Ok(None),
         DataType::Bool => Ok(boolean_in(text)),
         DataType::Int(_) => Ok(number_literal(text)),
-        DataType::Date(_) => Ok(number_literal(text)),
-        DataType::Timestamp(_, _) => Ok(number_literal(text)),
+        DataType::Date(_) => Ok(number_or_date(dates, data_type, text)),
+        DataType::Timestamp(_, _) => Ok(number_or_date(dates, data_type, text)),
         DataType::Utf8 => Ok(Some(Value::Text(String::from_str(alloc, text)?))),
         DataType::LargeUtf8 => Ok(Some(Value::Text(String::from_str(alloc, text)?))),
         DataType::Binary => bytes_in(alloc, text),

@@ -3,12 +3,14 @@ ghost use Rattle.std.specs.Prelude.{◌≡◌, ◌++◌, OnOk, codes, map};
 ghost use Rattle.arrow_schema.specs.Parts.{name_of_column};
 ghost use Rattle.arrow_schema.specs.View.{column_of};
 ghost use Rattle.columns.specs.Borrowed.{borrowed_cell, borrowed_cells, values_left};
-ghost use Rattle.query.specs.ObjectLine.{member, members, other_members, object_line, is_of_one, are_named_apart, line_in};
+ghost use Rattle.query.specs.ObjectLine.{member, members, other_members, object_line, is_of_one, are_named_apart, line_of_shape, line_in};
 
-use crate::RowForm;
 use crate::bound::count_named;
 use crate::line::{push_array, push_bytes, push_text, push_value};
+use crate::row_form::{RowForm, RowShape};
+use crate::shown::push_dated_row;
 use arrow_schema::Field;
+use civil_days::DateForm;
 use std::alloc::{AllocError, Global};
 use values::{ValueRef, Values, ValuesIter};
 
@@ -103,8 +105,25 @@ fn push_object(
     push_bytes(out, b"}")
 }
 
+// Appends the line of a row with its dates as numbers.
+fn push_plain_row(
+    alloc: Global,
+    out: &mut Vec<u8>,
+    shape: RowShape,
+    fields: &[Field],
+    row: Values<'_>,
+) -> Result<(), AllocError>
+    ensures { OnOk result (out.new.items ≡ out.old.items ++ line_of_shape shape (map column_of fields.now) (borrowed_cells row.entry)) }
+{
+    match shape {
+        RowShape::Array => push_array(alloc, out, row),
+        RowShape::Object => push_object(alloc, out, fields, row),
+    }
+}
+
 /// Appends the line of a row of these fields in this form, without its line feed: a JSON array of its values, or a JSON object of them with the
-/// names of the fields, in their order, without spaces. Bytes are strings of hexadecimal digits in lower case; lists and structs are arrays.
+/// names of the fields, in their order, without spaces. Bytes are strings of hexadecimal digits in lower case; lists and structs are arrays; dates and
+/// timestamps are numbers, or strings as people write them.
 /// Neither the line nor a value takes memory of its own, except a string with an escape.
 ///
 /// # Errors
@@ -118,8 +137,8 @@ pub fn push_line_in(
 ) -> Result<(), AllocError>
     ensures { OnOk result (text.new.items ≡ text.old.items ++ line_in form (map column_of fields.now) (borrowed_cells row.entry)) }
 {
-    match form {
-        RowForm::Array => push_array(alloc, text, row),
-        RowForm::Object => push_object(alloc, text, fields, row),
+    match form.dates {
+        DateForm::Numbers => push_plain_row(alloc, text, form.shape, fields, row),
+        DateForm::Iso => push_dated_row(alloc, text, form.shape, fields, row),
     }
 }

@@ -21,6 +21,7 @@ use crate::query::Query;
 use crate::slot_test::slot_test_of;
 use arrow_schema::{Field, Schema};
 use bitmap::MaskBuilder;
+use civil_days::DateForm;
 use std::alloc::{AllocError, Global};
 use values::Table;
 
@@ -58,15 +59,16 @@ fn all_places(alloc: Global, count: usize) -> Result<Vec<usize>, AllocError>
 // Binds conditions to the columns of a table, up to the first that is refused.
 fn bind_all(
     alloc: Global,
+    dates: DateForm,
     fields: &[Field],
     conditions: &[Condition],
 ) -> Result<Vec<Bound>, QueryError>
-    ensures ok { IfOk result (λ v. all_ok (map (bound (map column_of fields.now)) (map condition_in conditions.now)) ≡ Ok (map bound_in v.items)) }
-    ensures refused { IfErr result (λ e. Reports e (all_ok (map (bound (map column_of fields.now)) (map condition_in conditions.now)))) }
+    ensures ok { IfOk result (λ v. all_ok (map (bound dates (map column_of fields.now)) (map condition_in conditions.now)) ≡ Ok (map bound_in v.items)) }
+    ensures refused { IfErr result (λ e. Reports e (all_ok (map (bound dates (map column_of fields.now)) (map condition_in conditions.now)))) }
 {
     let mut bounds = Vec::with_capacity(alloc, conditions.len())?;
     for condition in conditions {
-        let bound = bind(alloc, fields, condition)?;
+        let bound = bind(alloc, dates, fields, condition)?;
         bounds.push_reserved(bound);
     }
     Ok(bounds)
@@ -129,7 +131,7 @@ pub fn bind_query(alloc: Global, schema: &Schema, query: &Query) -> Result<Bound
     ensures refused { IfErr result (λ e. (t : PlainTable) → schema_of schema.now ≡ t.schema → Reports e (selection t (query_in query.now))) }
 {
     let places = places_of(alloc, &schema.fields, &query.columns)?;
-    let bounds = bind_all(alloc, &schema.fields, &query.conditions)?;
+    let bounds = bind_all(alloc, query.dates, &schema.fields, &query.conditions)?;
     Ok(BoundQuery {
         places,
         bounds,

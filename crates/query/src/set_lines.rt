@@ -8,9 +8,9 @@ ghost use Rattle.query.specs.Choice.{rows_set};
 ghost use Rattle.query.specs.ObjectLine.{lines_text};
 ghost use Rattle.query.specs.inner.ColumnSlots.{slot_columns, slot_row, AreReadable};
 
-use crate::RowForm;
 use crate::batch_arrays::BatchArrays;
 use crate::column_slots::{ColumnSlots, columns_of};
+use crate::row_form::RowForm;
 use crate::set_rows::next_set;
 use crate::slot_lines::push_slot_lines;
 use arrow_schema::Field;
@@ -28,7 +28,7 @@ fn push_set_slots(
     start: usize,
     most: u64,
 ) -> Result<u64, AllocError>
-    requires readable { AreReadable columns.now slots }
+    requires readable { AreReadable form.dates columns.now slots }
     requires within { start + slots ≤ 8 * length mask.now }
     requires few { start + slots < 2 ^ 64 }
     ensures lines { OnOk result (text.new.items ≡ text.old.items
@@ -71,6 +71,6 @@ pub fn push_set_lines(
     ensures count { IfOk result (λ n. n ≡ length (take most (rows_set mask.now start (rows_of (fields_of fields.now) batch.entry)))) }
 {
     let none = no_array();
-    let columns = columns_of(alloc, fields, batch, &none)?;
+    let columns = columns_of(alloc, form.dates, fields, batch, &none)?;
     push_set_slots(alloc, text, form, &columns, batch.rows, mask, start, most)
 }

@@ -8,28 +8,28 @@ ghost use Rattle.query.specs.ObjectLine.{line_in, lines_text};
 ghost use Rattle.query.specs.inner.ColumnSlots.{slot_columns, slot_cells, slot_row, AreReadable};
 ghost use Rattle.query.specs.inner.SlotLines.{opening, closing, separator, lead, rest_of_line};
 
-use crate::RowForm;
 use crate::column_slots::ColumnSlots;
 use crate::line::{push_bytes, push_text};
+use crate::row_form::{RowForm, RowShape};
 use crate::slot_value::push_slot;
 use arrow_schema::Field;
 use std::alloc::{AllocError, Global};
 
-fn push_opening(out: &mut Vec<u8>, form: RowForm) -> Result<(), AllocError>
-    ensures { OnOk result (out.new.items ≡ out.old.items ++ opening form) }
+pub(crate) fn push_opening(out: &mut Vec<u8>, shape: RowShape) -> Result<(), AllocError>
+    ensures { OnOk result (out.new.items ≡ out.old.items ++ opening shape) }
 {
-    match form {
-        RowForm::Array => push_bytes(out, b"["),
-        RowForm::Object => push_bytes(out, b"{"),
+    match shape {
+        RowShape::Array => push_bytes(out, b"["),
+        RowShape::Object => push_bytes(out, b"{"),
     }
 }
 
-fn push_closing(out: &mut Vec<u8>, form: RowForm) -> Result<(), AllocError>
-    ensures { OnOk result (out.new.items ≡ out.old.items ++ (closing form ++ codes "\n")) }
+fn push_closing(out: &mut Vec<u8>, shape: RowShape) -> Result<(), AllocError>
+    ensures { OnOk result (out.new.items ≡ out.old.items ++ (closing shape ++ codes "\n")) }
 {
-    match form {
-        RowForm::Array => push_bytes(out, b"]\n"),
-        RowForm::Object => push_bytes(out, b"}\n"),
+    match shape {
+        RowShape::Array => push_bytes(out, b"]\n"),
+        RowShape::Object => push_bytes(out, b"}\n"),
     }
 }
 
@@ -49,20 +49,20 @@ fn push_name(alloc: Global, out: &mut Vec<u8>, field: &Field) -> Result<(), Allo
     push_bytes(out, b":")
 }
 
-// Appends what comes before the value of the column at a place.
-fn push_lead(
+/// Appends what comes before the value of the column at a place.
+pub(crate) fn push_lead(
     alloc: Global,
     out: &mut Vec<u8>,
-    form: RowForm,
+    shape: RowShape,
     place: usize,
     field: &Field,
 ) -> Result<(), AllocError>
-    ensures { OnOk result (out.new.items ≡ out.old.items ++ lead form place (column_of field.now)) }
+    ensures { OnOk result (out.new.items ≡ out.old.items ++ lead shape place (column_of field.now)) }
 {
     push_separator(out, place)?;
-    match form {
-        RowForm::Array => Ok(()),
-        RowForm::Object => push_name(alloc, out, field),
+    match shape {
+        RowShape::Array => Ok(()),
+        RowShape::Object => push_name(alloc, out, field),
     }
 }
 
@@ -74,13 +74,13 @@ fn push_slots(
     columns: &[ColumnSlots<'_>],
     slot: usize,
 ) -> Result<(), AllocError>
-    requires { AreReadable columns.now (slot + 1) }
+    requires { AreReadable form.dates columns.now (slot + 1) }
     ensures { OnOk result (out.new.items ≡ out.old.items ++ rest_of_line form 0 (slot_columns columns.now) (slot_cells columns.now slot)) }
 {
     for place in 0..columns.len() {
         let column = &columns[place];
-        push_lead(alloc, out, form, place, column.field)?;
-        push_slot(alloc, out, column, slot)?;
+        push_lead(alloc, out, form.shape, place, column.field)?;
+        push_slot(alloc, out, form.dates, column, slot)?;
     }
     Ok(())
 }
@@ -93,12 +93,12 @@ fn push_slot_line(
     columns: &[ColumnSlots<'_>],
     slot: usize,
 ) -> Result<(), AllocError>
-    requires { AreReadable columns.now (slot + 1) }
+    requires { AreReadable form.dates columns.now (slot + 1) }
     ensures { OnOk result (out.new.items ≡ out.old.items ++ (line_in form (slot_columns columns.now) (slot_row columns.now slot) ++ codes "\n")) }
 {
-    push_opening(out, form)?;
+    push_opening(out, form.shape)?;
     push_slots(alloc, out, form, columns, slot)?;
-    push_closing(out, form)
+    push_closing(out, form.shape)
 }
 
 /// Appends the lines of the rows at some slots, from one on.
@@ -110,7 +110,7 @@ pub(crate) fn push_slot_lines(
     from: usize,
     len: usize,
 ) -> Result<(), AllocError>
-    requires readable { AreReadable columns.now (from + len) }
+    requires readable { AreReadable form.dates columns.now (from + len) }
     requires ends { from + len < 2 ^ 64 }
     ensures { OnOk result (out.new.items ≡ out.old.items ++ lines_text form (slot_columns columns.now) (map (slot_row columns.now) (range_with_len from len))) }
 {

@@ -1,5 +1,5 @@
 -- What a file in memory holds, after a write and after a sync.
-use Rattle.std.proofs.Common.{◌≡◌, ◌<◌, ◌≤◌, ◌+◌, ◌-◌, ℕ, Bool, true, false, if◌then◌else◌, List, [], ◌∷◌, ◌++◌, Option, Some, None, length, get_or, ap, sym, ◌∙◌, arith, ⊎_elim, inl, inr, subst, ◌⊎◌, ◌≢◌, set, get_or-set_same, get_or-set_other, take}
+use Rattle.std.proofs.Common.{◌≡◌, ◌<◌, ◌≤◌, ◌+◌, ◌-◌, ℕ, Bool, true, false, if◌then◌else◌, List, [], ◌∷◌, ◌++◌, Option, Some, None, length, get_or, ap, refl, sym, ◌∙◌, arith, ⊎_elim, inl, inr, subst, ◌⊎◌, ◌≢◌, set, get_or-set_same, get_or-set_other, take}
 use Rattle.std.specs.Prelude.{nat_lt, slice_get, IfSome}
 use Rattle.std.specs.Bool.{OnTrue, OnFalse}
 use Rattle.std.proofs.Math.Seq.{take-append_seam}
@@ -9,11 +9,12 @@ use Rattle.std.proofs.lemmas.Option.{slice_get_past, slice_get-get_or, slice_get
 use Rattle.sector_dev.specs.Disk.{Disk, Sector, Story, now, put, AreContents, IsContent, IsWhole, Each, Flushes}
 use Rattle.sector_dev.specs.Rows.{content_from, row_from, write_done, grown}
 use Rattle.sector_dev.specs.Behind.{ReadsAs}
-use Rattle.sector_dev.specs.FileHistory.{file_step, file_story, file_push, file_first, SetsRow}
+use Rattle.sector_dev.specs.FileHistory.{file_step, file_story, file_push, file_first, flushed_where, marked_at, SetsRow}
 use Rattle.sector_dev.specs.History.{all_synced, content_at}
 use Rattle.sector_dev.specs.inner.Newest.{ReadsNewest}
-use Rattle.sector_dev.specs.inner.Stored.{never_written, stored_at, stored_of, shown_in}
+use Rattle.sector_dev.specs.inner.Stored.{never_written, stored_at, stored_of, settled, shown_in}
 use Rattle.sector_dev.specs.laws.Behind.{row_whole}
+use Rattle.sector_dev.specs.laws.FileHistory.{synced_if, marked_whole}
 use Rattle.sector_dev.specs.laws.Crash.{flushed_whole, put_same, put_other}
 use Rattle.sector_dev.specs.laws.Stories.{now_whole}
 use Rattle.sector_dev.proofs.Agreement.{Agrees}
@@ -120,6 +121,28 @@ whole_logged false start contents old new is same are first each = subst (λ (lo
 pub whole_synced : (r : Bool) (old new : List FileEvent) → OnTrue r ((first : List (Option (List ℕ))) → Flushes (file_story first old) (file_story first new)) → OnFalse r (new ≡ old) → (first : List (Option (List ℕ))) → Each IsWhole (file_story first old) → Each IsWhole (file_story first new)
 whole_synced true old new is same first each = whole_flushed (file_story first old) (file_story first new) (is first) each
 whole_synced false old new is same first each = subst (λ (log : List FileEvent). Each IsWhole (file_story first log)) (sym same) each
+
+whole_where : (marks : List Bool) (old new : Story) → new ≡ flushed_where (marked_at marks) (now old) ∷ now old ∷ old → Each IsWhole old → Each IsWhole new
+whole_where marks old new is each = subst (λ s. Each IsWhole s) (sym is) (marked_whole (marked_at marks) (now old) (now_whole old each), (now_whole old each, each))
+
+pub whole_marked : (r : Bool) (marks : List Bool) (old new : List FileEvent)
+    → OnTrue r ((first : List (Option (List ℕ))) → file_story first new ≡ flushed_where (marked_at marks) (now (file_story first old)) ∷ now (file_story first old) ∷ file_story first old)
+    → OnFalse r (new ≡ old) → (first : List (Option (List ℕ))) → Each IsWhole (file_story first old) → Each IsWhole (file_story first new)
+whole_marked true marks old new is same first each = whole_where marks (file_story first old) (file_story first new) (is first) each
+whole_marked false marks old new is same first each = subst (λ (log : List FileEvent). Each IsWhole (file_story first log)) (sym same) each
+
+-- ---- after a sync of the marked sectors
+
+pub agrees_marked : (marks : List Bool) (old new : List StoredSector) (before after : Story) → Agrees old (now before) → ReadsNewest (now before)
+    → after ≡ flushed_where (marked_at marks) (now before) ∷ now before ∷ before → ((n : ℕ) → stored_at new n ≡ settled (marked_at marks n) (stored_at old n)) → Agrees new (now after)
+unfolding flushed_where
+agrees_marked marks old new before after agrees reads is settles n =
+    settles n ∙ ap (settled (marked_at marks n)) (agrees n)
+    ∙ elim (marked_at marks n) as (λ b. settled b (stored_of ((now before).at n)) ≡ stored_of (synced_if b ((now before).at n))) [
+      | true ↦ λ i. record { synced = sym (reads n) i; newest = None }
+      | false ↦ refl
+    ]
+    ∙ ap (λ (s : Story). stored_of ((now s).at n)) (sym is)
 
 -- ---- the first story
 

@@ -1,18 +1,27 @@
 -- The story of a file in memory that keeps its initial contents, and each write and sync since.
-use Rattle.std.specs.Prelude.{◌≡◌, ◌⊎◌, ◌<◌, ◌≤◌, ◌+◌, ◌-◌, ℕ, List, [], ◌∷◌, ◌++◌, Option, Some, length, get_or}
+use Rattle.std.specs.Prelude.{◌≡◌, ◌⊎◌, ◌<◌, ◌≤◌, ◌+◌, ◌-◌, ℕ, Bool, false, if◌then◌else◌, List, [], ◌∷◌, ◌++◌, Option, Some, length, get_or}
 use Rattle.std.proofs.Common.{refl, ap}
-use Rattle.sector_dev.specs.Disk.{Story, now, flushed}
+use Rattle.sector_dev.specs.Disk.{Disk, Story, now, flushed}
 use Rattle.sector_dev.specs.Rows.{row_from, grown}
 use Rattle.sector_dev.specs.History.{all_synced, content_at}
 use Rattle.sector_dev.specs.inner.Stored.{stored_at}
 use Rattle.sector_dev.specs.declared.stored.StoredSector.{StoredSector}
 use Rattle.sector_dev.specs.declared.file_log.FileEvent.{FileEvent}
-use Rattle.sector_dev.specs.declared.file_log.FileEvent.TheVariants.{Wrote, Synced}
+use Rattle.sector_dev.specs.declared.file_log.FileEvent.TheVariants.{Wrote, Synced, SyncedMarked}
+
+-- the sector is marked
+abbrev pub marked_at : List Bool → ℕ → Bool
+marked_at marks n = get_or marks n false
+
+-- after a sync of these sectors alone: what reads return of them is synced
+unfoldable pub flushed_where : (ℕ → Bool) → Disk → Disk
+flushed_where marked d = record { at = λ k. if marked k then record { synced = (d.at k).shown; pending = []; shown = (d.at k).shown } else d.at k; writes = d.writes }
 
 -- after one call
 abbrev pub file_step : FileEvent → Story → Story
 file_step (Wrote n cs) s = grown (row_from n cs.items) s
 file_step Synced s = flushed (now s) ∷ now s ∷ s
+file_step (SyncedMarked marks) s = flushed_where (marked_at marks.items) (now s) ∷ now s ∷ s
 
 -- after these calls
 abbrev pub file_replay : List FileEvent → Story → Story

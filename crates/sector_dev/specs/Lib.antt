@@ -8,6 +8,7 @@ pub mod Buffer
 pub mod Behind
 pub mod FileHistory
 pub mod Written
+pub mod Confirming
 pub mod View
 pub mod laws
 pub mod inner

@@ -12,6 +12,7 @@
 #![tactic(auto)]
 
 mod buffer;
+mod confirmed_file;
 mod contents;
 mod crash_choice;
 mod device;
@@ -25,10 +26,11 @@ mod sector_file;
 mod stored;
 mod system_file;
 
+pub use confirmed_file::ConfirmedFile;
 pub use crash_choice::CrashChoice;
 pub use device::{DevError, SECTOR_BYTES, SectorDevice};
 pub use file::{FileDevice, FileError, LEAST_SECTORS, MOST_SECTORS};
 pub use model::ModelDevice;
 pub use model_file::ModelFile;
 pub use sector_file::{FileFault, SectorFile};
-pub use system_file::{LockFile, SystemFile};
+pub use system_file::{LockFile, PlainFile, SystemFile};

@@ -15,8 +15,8 @@ mod made;
 
 /// A file in memory for tests, which keeps the laws of `SectorFile` and tells its story. A write or a sync of it can be made to fail, and it can crash.
 ///
-/// Of a write that failed, a crash leaves each sector old, new or unreadable, as the choice says. A sync that follows a failed call answers Ok and makes
-/// nothing safe, as a system may do that has forgotten what it could not write.
+/// Of a write that failed, a crash leaves each sector old, new or unreadable, as the choice says. A sync that follows a failed call makes safe only what was
+/// written since that call and since the last sync, as a system may do that has forgotten what it could not write.
 #[derive(Drop)]
 pub struct ModelFile {
     sectors: u64,
@@ -27,6 +27,8 @@ pub struct ModelFile {
     // the effect of these calls: a sector past the end was never written
     stored: Vec<StoredSector>,
     sound: bool,
+    // which sectors were written since the last sync and since the last failed call: none past the end
+    changed: Vec<bool>,
     // the write or sync that fails, counted from 1 for the next one; 0 if there is none
     fail: u64,
     ghost agrees: { (n : ℕ) → stored_at stored.items n ≡ stored_of ((now (file_story start.items log.items)).at n) },

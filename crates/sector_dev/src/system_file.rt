@@ -6,26 +6,24 @@ ghost use Rattle.sector_dev.specs.laws.Crash.{blank_shows};
 ghost use Rattle.sector_dev.specs.Written.{Writes};
 ghost use Rattle.sector_dev.specs.declared.file.TheConstants.{MOST_SECTORS};
 
-use crate::{FileFault, SECTOR_BYTES, SectorFile};
+use crate::{ConfirmedFile, FileFault, SECTOR_BYTES, SectorFile};
 use std::fs::OpenFile;
 use std::io::{self, Read, Seek, SeekFrom, Write};
-use std::slice;
 
 mod locking;
 mod made;
-mod ruling;
 
 pub use locking::LockFile;
-use ruling::{RULING_SECTORS, RulingSectors};
 
-/// A file of the system, which holds its sectors in order. It tells no story: that it keeps the laws of `SectorFile` is trusted
+/// A file of the system, which another program may have left in doubt.
+pub type SystemFile<F> = ConfirmedFile<PlainFile<F>>;
+
+/// A file of the system as it is, which holds its sectors in order. It tells no story: that it keeps the laws of `SectorFile` is trusted
 /// (docs/definitions/device.md).
 #[derive(Drop)]
-pub struct SystemFile<F: Read + Write + Seek + OpenFile + Drop> {
+pub struct PlainFile<F: Read + Write + Seek + OpenFile + Drop> {
     file: F,
     sectors: u64,
-    // until the first sync of a file that an earlier program may have left in doubt
-    ruling: Option<RulingSectors>,
     ghost within: { sectors ≤ MOST_SECTORS },
 }
 
@@ -53,24 +51,6 @@ fn write_at<F: Write + Seek>(
     file.write_all(contents.as_flattened())
 }
 
-// Syncs the file. A write or a sync that failed earlier, perhaps in another program, may have left what reads show in the system's copies alone, and the
-// system would not write it again: so the first sync has it write the ruling sectors, as they were read.
-fn sync<F: Write + Seek + OpenFile>(
-    file: &mut F,
-    ruling: &mut Option<RulingSectors>,
-) -> io::Result<()> {
-    if let Some(ruling) = ruling {
-        for n in 0..RULING_SECTORS {
-            if let Some(content) = ruling.shown(n) {
-                write_at(file, n, slice::from_ref(content))?;
-            }
-        }
-    }
-    file.sync_data()?;
-    *ruling = None;
-    Ok(())
-}
-
 fn answer(done: io::Result<()>) -> Result<(), FileFault>
     ensures { is_ok result ≡ is_ok done }
 {
@@ -80,7 +60,7 @@ fn answer(done: io::Result<()>) -> Result<(), FileFault>
     }
 }
 
-impl<F: Read + Write + Seek + OpenFile + Drop> SectorFile for SystemFile<F> {
+impl<F: Read + Write + Seek + OpenFile + Drop> SectorFile for PlainFile<F> {
     ghost size = { λ f. f.sectors };
 
     ghost tells = { false };
@@ -88,6 +68,8 @@ impl<F: Read + Write + Seek + OpenFile + Drop> SectorFile for SystemFile<F> {
     ghost story = { λ f. [] };
 
     ghost sound = { λ f. true };
+
+    ghost changed = { λ f n. false };
 
     ghost shows = { λ f told. blank_shows };
 
@@ -100,13 +82,7 @@ impl<F: Read + Write + Seek + OpenFile + Drop> SectorFile for SystemFile<F> {
     }
 
     fn read_at(&mut self, start: u64, to: &mut [[u8; SECTOR_BYTES]]) -> Result<(), FileFault> {
-        let done = answer(read_at(&mut self.file, start, to));
-        if let Some(ruling) = &mut self.ruling
-            && done.is_ok()
-        {
-            ruling.note_read(start, to);
-        }
-        done
+        answer(read_at(&mut self.file, start, to))
     }
 
     // A write that failed may have begun: whether it did is not known.
@@ -115,13 +91,10 @@ impl<F: Read + Write + Seek + OpenFile + Drop> SectorFile for SystemFile<F> {
         ensures size { self.new.sectors ≡ self.old.sectors }
         ensures written { OnOk result (Writes ⟦<F as Write>⟧ ⟦<F as Seek>⟧ (start * 512) contents.now self.old.file self.new.file) }
     {
-        if let Some(ruling) = &mut self.ruling {
-            ruling.note_written(start, contents);
-        }
         answer(write_at(&mut self.file, start, contents))
     }
 
     fn sync_data(&mut self) -> Result<(), FileFault> {
-        answer(sync(&mut self.file, &mut self.ruling))
+        answer(self.file.sync_data())
     }
 }

@@ -31,7 +31,8 @@ impl LinePrinter {
     /// Returns a printer of the selection of tables of a schema.
     ///
     /// ```ignore
-    /// let mut printer = LinePrinter::new(alloc, &schema, &query, RowForm::Array)?;
+    /// let form = RowForm { shape: RowShape::Array, dates: DateForm::Numbers };
+    /// let mut printer = LinePrinter::new(alloc, &schema, &query, form)?;
     /// for part in &parts {
     ///     printer.push_lines(alloc, &mut text, part)?;
     /// }

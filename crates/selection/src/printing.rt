@@ -15,7 +15,7 @@ ghost use Rattle.values.specs.TableView.{table_of};
 use crate::picked::{PickedBatch, arrays_of, pick_batches};
 use crate::table_parts::parts_of;
 use arrow_schema::Field;
-use query::{BoundQuery, RowForm, are_named_apart, choose_rows, push_set_lines};
+use query::{BoundQuery, RowForm, RowShape, are_named_apart, choose_rows, push_set_lines};
 use std::alloc::{AllocError, Global};
 use values::Table;
 
@@ -97,8 +97,8 @@ pub(crate) fn append(text: &mut Vec<u8>, lines: Vec<u8>) -> Result<(), AllocErro
 pub(crate) fn can_be_printed(form: RowForm, fields: &[Field]) -> bool
     ensures { (t : PlainTable) → t.schema.columns ≡ map column_of fields.now → result ≡ is_printable form t }
 {
-    match form {
-        RowForm::Array => true,
-        RowForm::Object => are_named_apart(fields),
+    match form.shape {
+        RowShape::Array => true,
+        RowShape::Object => are_named_apart(fields),
     }
 }

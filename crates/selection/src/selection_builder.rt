@@ -108,7 +108,8 @@ impl SelectionBuilder {
 /// written as a stream first.
 ///
 /// ```
-/// let cold = Query { columns: Vec::new(alloc), conditions: vec![in alloc; Condition::parse(alloc, "millidegrees < 0")?]?, limit: None };
+/// let conditions = vec![in alloc; Condition::parse(alloc, "millidegrees < 0")?]?;
+/// let cold = Query { columns: Vec::new(alloc), conditions, limit: None, dates: DateForm::Numbers };
 /// let found = select(alloc, &table, &cold)?;
 /// ```
 ///

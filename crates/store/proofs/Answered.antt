@@ -8,7 +8,7 @@ use Rattle.sector_dev.specs.declared.device.SectorDevice.{Ghosts}
 use Rattle.tables.specs.declared.refusal.Refusal.TheVariants as refusals
 use Rattle.tables.specs.Tables.{Tables}
 use Rattle.tables.specs.Commands.{import_stream, append_stream}
-use Rattle.tables.specs.View.{command_of}
+use Rattle.tables.specs.View.{command_of, list_of}
 use Rattle.store.specs.declared.call.Call.{Call}
 use Rattle.store.specs.declared.call.Call.TheVariants as calls_in
 use Rattle.store.specs.declared.call.Reply.{Reply}
@@ -166,6 +166,7 @@ lives size story failed base m calls replies old new fits runs =
 -- one that needs an open store
 pub plain_of : {R : Type 0} (remaining : R → Option (List ℕ)) (call : Call R) → asks_store call ≡ true → (plain : PlainCall) × IsCallOf remaining call plain × (needs_store plain ≡ true)
 plain_of remaining (calls_in.Apply command) asks = (apply_call (command_of command), refl, refl)
+plain_of remaining (calls_in.ApplyAll commands) asks = (apply_call (list_of commands.items), refl, refl)
 plain_of remaining (calls_in.ImportFrom name reader) asks = let some = some_bytes (remaining reader) in (stream_call (import_stream (string_bytes name) some.0), (some.0, some.1, refl), refl)
 plain_of remaining (calls_in.AppendFrom name reader) asks = let some = some_bytes (remaining reader) in (stream_call (append_stream (string_bytes name) some.0), (some.0, some.1, refl), refl)
 plain_of remaining calls_in.Format asks = absurd (cc asks)

@@ -1,41 +1,43 @@
 -- A command is decided, and then it is carried out or refused.
-use Rattle.std.specs.Prelude.{◌≢◌, ◌<◌, ◌⊎◌, ◌||◌, ◌↔◌, min, IfErr}
+use Rattle.std.specs.Prelude.{◌≢◌, ◌<◌, ◌≤◌, ◌⊎◌, ◌&&◌, ◌||◌, ◌↔◌, List, [], ◌∷◌, nat_le, min, IfErr}
+use Rattle.std.proofs.lemmas.Bool.{and_parts, leb-true}
 use Rattle.std.proofs.Common.{◌≡◌, ℕ, ◌+◌, ◌-◌, ◌^◌, Bool, true, false, Result, Ok, Err, inl, inr, refl, sym, ap, ◌∙◌, subst, if◌then◌else◌}
 use Rattle.sector_dev.specs.Disk.{Disk, Story, Image, now, MayLeave, shown_image, synced_image}
 use Rattle.sector_dev.specs.Time.{Grows, LeavesOnly}
 use Rattle.sector_dev.specs.laws.Crash.{only_image}
 use Rattle.sector_dev.specs.laws.Time.{goes_on, weaken, now_read}
 use Rattle.sector_dev.specs.declared.device.SectorDevice.{Ghosts}
+use Rattle.segments.specs.declared.run.Run.{Run}
 use Rattle.segments.specs.Usages.{IsUsedIn, SameUsages}
 use Rattle.segments.specs.laws.Usages.{or_false}
 use Rattle.catalogue.specs.View.{catalogue_of}
-use Rattle.commit.specs.Standing.{standing, Stands}
+use Rattle.commit.specs.Standing.{is_on_device, all_on_device, standing, Stands}
 use Rattle.commit.specs.declared.recovery.Opened.{Opened}
 use Rattle.tables.specs.declared.refusal.Refusal.{Refusal}
 use Rattle.tables.specs.declared.refusal.Refusal.TheVariants as refusals
 use Rattle.tables.specs.declared.refusal.Limit.TheVariants as limits
-use Rattle.tables.specs.Refusals.{Origin, by_tables, by_room, by_memory, by_device, by_halt, elsewhere, origin_of}
+use Rattle.tables.specs.Refusals.{Origin, by_tables, by_room, by_memory, by_device, by_halt, by_list, elsewhere, origin_of}
 use Rattle.tables.specs.Tables.{Tables}
 use Rattle.tables.specs.Commands.{PlainCommand}
 use Rattle.tables.specs.Verdict.{verdict}
 use Rattle.tables.specs.laws.Steps.{told_by_tables}
 use Rattle.store.specs.declared.store.Store.{Store}
 use Rattle.pages.specs.declared.stored.StoredCatalogue.{StoredCatalogue}
-use Rattle.store_runs.specs.Calls.{apply_call, PlainReply, refused, is_failure, is_device_reply, counted}
+use Rattle.store_runs.specs.Calls.{apply_call, PlainReply, refused, refused_at, is_failure, is_device_reply, counted}
 use Rattle.store_runs.specs.Changes.{PlainChange}
-use Rattle.store_runs.specs.Deciding.{IsDecided}
+use Rattle.store_runs.specs.Deciding.{AreBefore, IsDecided}
 use Rattle.pages.specs.Stored.{stored_reading}
 use Rattle.store_runs.specs.Machine.{pinned_by, Setting, Machine, running, halted, tables_now, has_written, AllowsEach, SparesKept}
 use Rattle.store.specs.Reading.{OnlyReadsStore}
 use Rattle.store_runs.specs.Reading.{ended}
 use Rattle.store_runs.specs.Runs.{Goes, TellsFound}
 use Rattle.store_runs.specs.Rooms.{TellsRoom}
-use Rattle.store_runs.specs.Steps.{Step, RefusesFrom}
+use Rattle.store_runs.specs.Steps.{IsNoList, Step, RefusesFrom, RefusesLine}
 use Rattle.store.specs.Fits.{setting_of, StoreFits, commit_of, listed_in, IsOnDisk}
 use Rattle.store.specs.Applying.{EndsAs, IsKept, IsCarryingAtEachMoment, IsCarriedOnDisk, IsApplyingAtEachMoment, IsDoneOnDisk, GoesOn}
 use Rattle.store_changes.specs.OnDisk.{HasDone, IsOldOrDone, IsApplying, HasCarried, IsOldOrCarried, IsTaking, IsCarrying}
 use Rattle.store_runs.specs.Carrying.{IsCarried}
-use Rattle.store_changes.specs.Verdicts.{IsSingle, IsVerdict, IsUndecided}
+use Rattle.store_changes.specs.Verdicts.{IsVerdict, IsUndecided}
 use Rattle.tables.specs.declared.command.Command.{Command}
 use Rattle.tables.specs.declared.command.Command.TheVariants.{Create, ImportStream, AppendStream, AppendRows, AppendTable, SaveAs, Rename, Drop}
 use Rattle.tables.specs.View.{command_of}
@@ -68,7 +70,7 @@ reads_nothing size story failed tells reply store quiet = record {
 }
 
 -- a command of the code is no list
-pub single_command : (command : Command) → IsSingle (command_of command)
+pub single_command : (command : Command) → IsNoList (command_of command)
 single_command (Create new) = tt
 single_command (ImportStream name bytes) = tt
 single_command (AppendStream name bytes) = tt
@@ -77,6 +79,14 @@ single_command (AppendTable name new) = tt
 single_command (SaveAs from to query) = tt
 single_command (Rename from to) = tt
 single_command (Drop name) = tt
+
+-- runs on a device lie before its end
+pub on_before : (size : ℕ) (runs : List Run) → all_on_device size runs ≡ true → AreBefore size runs
+on_before size [] is = tt
+on_before size (r ∷ rs) is =
+    let parts = and_parts (is_on_device size r) (all_on_device size rs) is in
+    let own = and_parts (nat_le 2 r.start) (nat_le 1 r.count && nat_le (r.start + r.count) size) parts.0 in
+    (leb-true (r.start + r.count) size (and_parts (nat_le 1 r.count) (nat_le (r.start + r.count) size) own.1).1, on_before size rs parts.1)
 
 -- why a command is refused before anything is written, by where its refusal comes from
 abbrev RefusesFirst : Origin → Tables → PlainCommand → Refusal → Type 0
@@ -103,10 +113,10 @@ module _ {D : Type 0} {g : Ghosts D} (size : D → ℕ) (story : D → Story) (f
   refuses_halted store on fits = still size story failed base m (apply_call c) (refused refusals.Halted) store (not_running m.phase store.halted fits.phase on, (refl, refl)) refl fits tt tt
 
   -- one that is refused before anything is written; the device may have been read
-  pub refuses_first : (tells : Bool) → tells ≡ true → (r : Refusal) (old new : Store D g) → old.halted ≡ false → StoreFits size story base m old → OnlyReadsStore size story failed tells (refused r) old new
+  pub refuses_first : (tells : Bool) → tells ≡ true → IsNoList c → (r : Refusal) (old new : Store D g) → old.halted ≡ false → StoreFits size story base m old → OnlyReadsStore size story failed tells (refused r) old new
       → IsUndecided c (Err r) ⊎ IsVerdict (tables_now (setting_of (size old.device) base) m) c (Err r) → GoesOn size story failed base m (apply_call c) (refused r) old new
   unfolding Step
-  refuses_first tells told r old new on fits reads answered = by_origin (origin_of r) refl
+  refuses_first tells told single r old new on fits reads answered = by_origin (origin_of r) refl
     where
       s : Setting
       s = setting_of (size old.device) base
@@ -124,7 +134,7 @@ module _ {D : Type 0} {g : Ghosts D} (size : D → ℕ) (story : D → Story) (f
           (refused_elsewhere s (pinned_by m) (apply_call c) r (now (story old.device)) (now (story new.device)) (λ room. other (sym is ∙ room))) (subst (λ (x : Origin). RefusesFrom x s m c r false m) (sym is) step) reads
 
       by_origin : (o : Origin) → origin_of r ≡ o → GoesOn size story failed base m (apply_call c) (refused r) old new
-      by_origin by_tables is = stays_by by_tables is refl (λ room. cc room) (running_is, moved by_tables is, (refl, refl))
+      by_origin by_tables is = stays_by by_tables is refl (λ room. cc room) (running_is, single, moved by_tables is, (refl, refl))
       by_origin by_memory is = stays_by by_memory is refl (λ room. cc room) (running_is, (refl, refl))
       by_origin by_device is =
           let device : r ≡ refusals.Device = is_device r (failure_origin r ∙ ap is_by_device is) in
@@ -132,7 +142,31 @@ module _ {D : Type 0} {g : Ghosts D} (size : D → ℕ) (story : D → Story) (f
           (halts_reading size story failed base m tells told old new fits (apply_call c) (running_is, refl)) reads
       by_origin by_room is = absurd (moved by_room is)
       by_origin by_halt is = absurd (moved by_halt is)
+      by_origin by_list is = absurd (moved by_list is)
       by_origin elsewhere is = absurd (moved elsewhere is)
+
+  -- a list that is refused for a line before anything is written
+  pub refuses_line : (tells : Bool) → tells ≡ true → (place : ℕ) (r : Refusal) (old new : Store D g) → old.halted ≡ false → StoreFits size story base m old → OnlyReadsStore size story failed tells (refused_at place r) old new
+      → RefusesLine (origin_of r) (tables_now (setting_of (size old.device) base) m) c place r → GoesOn size story failed base m (apply_call c) (refused_at place r) old new
+  unfolding Step
+  refuses_line tells told place r old new on fits reads line =
+      stays_reading size story failed base m tells told old new fits (apply_call c) (refused_at place r) (refused_at place r) refl refl tt tt
+      (fits.phase ∙ ap (λ (b : Bool). if b then halted else running) on, line, (refl, refl)) reads
+
+  -- a command that is refused since memory was, or since the device failed
+  pub refuses_memory : (tells : Bool) → tells ≡ true → (old new : Store D g) → old.halted ≡ false → StoreFits size story base m old → OnlyReadsStore size story failed tells (refused refusals.OutOfMemory) old new
+      → GoesOn size story failed base m (apply_call c) (refused refusals.OutOfMemory) old new
+  unfolding Step
+  refuses_memory tells told old new on fits reads =
+      stays_reading size story failed base m tells told old new fits (apply_call c) (refused refusals.OutOfMemory) (refused refusals.OutOfMemory) refl refl tt
+      (refused_elsewhere (setting_of (size old.device) base) (pinned_by m) (apply_call c) refusals.OutOfMemory (now (story old.device)) (now (story new.device)) (λ room. cc room))
+      (fits.phase ∙ ap (λ (b : Bool). if b then halted else running) on, (refl, refl)) reads
+
+  pub refuses_device : (tells : Bool) → tells ≡ true → (old new : Store D g) → old.halted ≡ false → StoreFits size story base m old → OnlyReadsStore size story failed tells (refused refusals.Device) old new
+      → GoesOn size story failed base m (apply_call c) (refused refusals.Device) old new
+  unfolding Step
+  refuses_device tells told old new on fits reads =
+      halts_reading size story failed base m tells told old new fits (apply_call c) (fits.phase ∙ ap (λ (b : Bool). if b then halted else running) on, refl) reads
 
   -- a call that goes on from where reads left the store
   pub goes_after : (tells : Bool) → tells ≡ true → (old mid new : Store D g) (ends reply : PlainReply) → is_device_reply ends ≡ false → StoreFits size story base m old → OnlyReadsStore size story failed tells ends old mid

@@ -12,6 +12,8 @@ mod StillFits
 mod StillSound
 mod Roomed
 mod Applied
+mod AllApplied
+mod Listed
 mod Replied
 mod Selected
 mod Spares

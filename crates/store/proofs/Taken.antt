@@ -21,7 +21,7 @@ use Rattle.tables.specs.Verdict.{too_many_bytes, of_table, of_meaning, put, appe
 use Rattle.store.specs.declared.store.Store.{Store}
 use Rattle.store_runs.specs.Calls.{apply_call, stream_call, refused, is_failure}
 use Rattle.store_runs.specs.Machine.{Setting, Machine, tables_now}
-use Rattle.store_runs.specs.Steps.{Step, StepApply, StepStream}
+use Rattle.store_runs.specs.Steps.{IsNoList, Step, StepApply, StepStream}
 use Rattle.store_runs.specs.Held.{tables_held}
 use Rattle.store.specs.Fits.{setting_of, StoreFits, listed_in}
 use Rattle.store_runs.specs.Deciding.{Addition, of_entry, rows_of_table, streamed_rows, decided_table, IsAdded, IsDecided, IsAnswered}
@@ -31,7 +31,7 @@ use Rattle.store.specs.Input.{HasGiven, RefusesInput}
 use Rattle.store.specs.Answering.{Applies, TakesInput}
 use Rattle.store_changes.specs.laws.Named.{entry_has, entry_lacks}
 use Rattle.store.proofs.Asked.{is_running, still}
-use Rattle.store.proofs.Applied.{reads_nothing, read_halts, refuses_first, refuses_halted, stood}
+use Rattle.store.proofs.Applied.{reads_nothing, read_halts, refuses_first, refuses_memory, refuses_halted, stood}
 
 -- ---- bytes that may be taken for those of a reader
 
@@ -56,12 +56,14 @@ module _ {D : Type 0} {g : Ghosts D} (story : D → Story) (tells : Bool) (store
 
   -- a command is refused by its tests, which need no table, or the catalogue alone
   pub record Refuses (c : PlainCommand) (r : Refusal) : Type 0 where
+    pub single : IsNoList c
     pub decided : IsDecided tells shown (listed_in store) c (Err r)
     pub judged : (image : Image) (t : Tables) → tables_held image (listed_in store) ≡ Some t → verdict t c ≡ Err r
 
   pub bad_names : (name bytes : List ℕ) → is_name name ≡ false → Refuses (import_stream name bytes) refusals.BadName
   unfolding verdict
   bad_names name bytes bad = record {
+    single = tt;
     decided = λ i. unless (first_some (when (not (sym bad i)) refusals.BadName ∷ too_many_bytes bytes ∷ [])) (of_meaning (meaning supported_codes bytes) (decided_table (listed_in store) name));
     judged = λ image t held i. unless (first_some (when (not (bad i)) refusals.BadName ∷ too_many_bytes bytes ∷ [])) (of_meaning (meaning supported_codes bytes) (put t name));
   }
@@ -71,6 +73,7 @@ module _ {D : Type 0} {g : Ghosts D} (story : D → Story) (tells : Bool) (store
   heavy_imports name good bytes many =
       let heavy = lt-ltb MAX_IMPORT_BYTES (length bytes) many in
       record {
+        single = tt;
         decided = λ i. unless (first_some (when (not (sym good i)) refusals.BadName ∷ when (sym heavy i) (refusals.TooMany limits.Bytes) ∷ [])) (of_meaning (meaning supported_codes bytes) (decided_table (listed_in store) name));
         judged = λ image t held i. unless (first_some (when (not (good i)) refusals.BadName ∷ when (heavy i) (refusals.TooMany limits.Bytes) ∷ [])) (of_meaning (meaning supported_codes bytes) (put t name));
       }
@@ -78,6 +81,7 @@ module _ {D : Type 0} {g : Ghosts D} (story : D → Story) (tells : Bool) (store
   pub no_tables_there : (name bytes : List ℕ) → entry_of (listed_in store) name ≡ None → Refuses (append_stream name bytes) refusals.NoTable
   unfolding verdict
   no_tables_there name bytes none = record {
+    single = tt;
     decided = subst (λ (o : Option PlainEntry). IsAdded tells shown name (of_entry o (streamed_rows bytes)) (Err refusals.NoTable)) (sym none) refl;
     judged = λ image t held. ap (λ (o : Option PlainTable). of_table o (appended_stream t name bytes)) (entry_lacks image (listed_in store) t held name none);
   }
@@ -88,6 +92,7 @@ module _ {D : Type 0} {g : Ghosts D} (story : D → Story) (tells : Bool) (store
       let heavy = lt-ltb MAX_IMPORT_BYTES (length bytes) many in
       let own : of_entry (Some e) (streamed_rows bytes) ≡ Err (refusals.TooMany limits.Bytes) = ap (λ (b : Bool). unless (when b (refusals.TooMany limits.Bytes)) (of_meaning (meaning supported_codes bytes) (rows_of_table e))) heavy in
       record {
+        single = tt;
         decided = subst (λ (o : Option PlainEntry). IsAdded tells shown name (of_entry o (streamed_rows bytes)) (Err (refusals.TooMany limits.Bytes))) (sym found)
             (subst (λ (a : Result Addition Refusal). IsAdded tells shown name a (Err (refusals.TooMany limits.Bytes))) (sym own) refl);
         judged = λ image t held.
@@ -174,7 +179,7 @@ module _ {D : Type 0} {g : Ghosts D} (size : D → ℕ) (story : D → Story) (f
         goes = λ told base m fits.
             let sound = fits.sound (is_running m.phase store.halted fits.phase on) in
             as_stream size story failed tells c base m store store (Err r)
-            (refuses_first size story failed base m c tells told r store store on fits (reads_nothing size story failed tells (refused r) store quiet)
+            (refuses_first size story failed base m c tells told refuses.single r store store on fits (reads_nothing size story failed tells (refused r) store quiet)
             (inr (refuses.judged (synced_image (now (story store.device))) (tables_now (setting_of (size store.device) base) m) sound.tables)));
         takes = inl (told_first size story failed tells c store r on quiet other (inr (inr refuses.decided)));
       }
@@ -206,7 +211,7 @@ module _ {D : Type 0} {g : Ghosts D} (size : D → ℕ) (story : D → Story) (f
         all = some.1;
         goes = λ told' base m fits.
             as_stream size story failed tells c base m store store (Err refusals.OutOfMemory)
-            (refuses_first size story failed base m c tells told' refusals.OutOfMemory store store on fits (reads_nothing size story failed tells (refused refusals.OutOfMemory) store refl) (inl (inl refl)));
+            (refuses_memory size story failed base m c tells told' store store on fits (reads_nothing size story failed tells (refused refusals.OutOfMemory) store refl));
         takes = inl (told_first size story failed tells c store refusals.OutOfMemory on refl (λ is. cc is) (inl refl));
       }
   takes_refused left _ on told heavy = absurd told

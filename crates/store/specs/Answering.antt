@@ -5,7 +5,7 @@ use Rattle.sector_dev.specs.Time.{Grows, OnlyReads}
 use Rattle.sector_dev.specs.declared.device.SectorDevice.{Ghosts}
 use Rattle.cells.specs.Cell.{PlainTable}
 use Rattle.ipc_canonical.specs.Canonical.{canonical}
-use Rattle.catalogue.specs.Entries.{PlainEntry}
+use Rattle.catalogue.specs.Entries.{PlainEntry, PlainCatalogue}
 use Rattle.catalogue.specs.Edits.{entry_of, tables_of}
 use Rattle.commit.specs.Standing.{is_size}
 use Rattle.commit.specs.Opening.{IsOpening, standing_shown}
@@ -17,20 +17,21 @@ use Rattle.commit.specs.declared.cause.Cause.TheVariants.{DeviceSize}
 use Rattle.tables.specs.declared.refusal.Refusal.{Refusal}
 use Rattle.tables.specs.declared.refusal.Refusal.TheVariants as refusals
 use Rattle.tables.specs.Tables.{Tables}
-use Rattle.tables.specs.Commands.{PlainCommand}
+use Rattle.tables.specs.Commands.{PlainCommand, all_of, commands_of}
 use Rattle.store.specs.declared.store.Store.{Store}
 use Rattle.store.specs.declared.call.Call.{Call}
 use Rattle.store.specs.declared.call.StoreOrDevice.{StoreOrDevice}
 use Rattle.store.specs.declared.call.StoreOrDevice.TheVariants as places
 use Rattle.commit.specs.declared.opening_refusal.OpeningRefusal.{OpeningRefusal}
 use Rattle.commit.specs.declared.opening_refusal.OpeningRefusal.TheVariants as openings
-use Rattle.store_runs.specs.Calls.{PlainCall, apply_call, format_call, open_call, close_call, tables_call, schema_call, read_call, export_call, stream_call, open_export_call, export_next_call, close_export_call, compact_call, upgrade_call, PlainReply, done, counts, schema_is, table_is, bytes_are, export_is, piece_is, nothing, refused, shut_by, counted}
+use Rattle.store_runs.specs.Calls.{PlainCall, apply_call, format_call, open_call, close_call, tables_call, schema_call, read_call, export_call, stream_call, open_export_call, export_next_call, close_export_call, compact_call, upgrade_call, PlainReply, done, counts, schema_is, table_is, bytes_are, export_is, piece_is, nothing, refused, refused_at, shut_by, counted}
 use Rattle.store.specs.Opening.{TellsOpening, TellsFormatting, IsOfFormatting}
 use Rattle.pages.specs.Stored.{stored_reading}
 use Rattle.store_runs.specs.Machine.{Machine}
 use Rattle.store.specs.Fits.{StoreFits, book_of, device_of, commit_of, listed_in, is_halted, IsOnDisk, FindsStore, FormatsStore, IsNewStore}
 use Rattle.store_runs.specs.Deciding.{reads_device}
 use Rattle.store_runs.specs.Held.{each_listed}
+use Rattle.store_changes.specs.Verdicts.{IsRefusedAt}
 use Rattle.store.specs.Applying.{GoesOn, IsApplied, IsKept, IsApplyingAtEachMoment, IsDoneOnDisk, KeepsEachTable}
 use Rattle.store.specs.Listing.{RefusesTables, RefusesSchema}
 use Rattle.store_runs.specs.Reading.{RefusesRead, ReadsTable, ended}
@@ -108,9 +109,14 @@ pub record Applies {D : Type 0} {g : Ghosts D} (size : D → ℕ) (story : D →
   pub written : OnOk result (tells ≡ true → IsOnDisk size story old → IsDoneOnDisk size story old command new)
   pub book : book_of new ≡ book_of old
 
+-- a list of commands is refused for the one at this place
+abbrev pub IsLineRefused : (tells : Bool) → Image → PlainCatalogue → PlainCommand → (place : ℕ) → Refusal → Type 0
+IsLineRefused tells image c command place r = (commands : List PlainCommand) × (command ≡ all_of (commands_of commands)) × IsRefusedAt tells image c commands place r
+
 abbrev pub AnswersCommand : {D : Type 0} {g : Ghosts D} → (size : D → ℕ) → (story : D → Story) → (tells : Bool) → Store D g → PlainCommand → PlainReply → Store D g → Type 0
 AnswersCommand size story tells old command done new = Applies size story tells old command (Ok tt) new
 AnswersCommand size story tells old command (refused r) new = Applies size story tells old command (Err r) new
+AnswersCommand size story tells old command (refused_at place r) new = Applies size story tells old command (Err r) new × IsLineRefused tells (shown_image (now (story (device_of old)))) (listed_in old) command place r
 AnswersCommand size story tells old command _ new = ⊥
 
 -- a command whose bytes come from a reader: it is answered as that command, or a read failed, and nothing is changed

@@ -6,6 +6,7 @@ pub mod Applying
 pub mod Compacting
 pub mod Upgrading
 pub mod Listing
+pub mod Lists
 pub mod Summary
 pub mod Agreeing
 pub mod Reading

@@ -7,14 +7,14 @@ use Rattle.arrow_schema.specs.View.{schema_of}
 use Rattle.values.specs.TableView.{table_of}
 use Rattle.tables.specs.Tables.{Tables}
 use Rattle.tables.specs.Commands.{PlainCommand, import_stream, append_stream}
-use Rattle.tables.specs.View.{command_of}
+use Rattle.tables.specs.View.{command_of, list_of}
 use Rattle.store.specs.declared.call.Call.{Call}
 use Rattle.store.specs.declared.call.Call.TheVariants as calls
 use Rattle.store.specs.declared.call.Reply.{Reply}
 use Rattle.store.specs.declared.call.Reply.TheVariants as replies
 use Rattle.store.specs.declared.call.StoreOrDevice.{StoreOrDevice}
 use Rattle.store.specs.declared.call.StoreOrDevice.TheVariants as places
-use Rattle.store_runs.specs.Calls.{PlainCall, apply_call, format_call, open_call, close_call, tables_call, schema_call, read_call, export_call, stream_call, open_export_call, export_next_call, close_export_call, compact_call, upgrade_call, PlainReply, done, counts, schema_is, table_is, bytes_are, export_is, piece_is, merged, moved, nothing, already, refused, shut_by, is_device_reply}
+use Rattle.store_runs.specs.Calls.{PlainCall, apply_call, format_call, open_call, close_call, tables_call, schema_call, read_call, export_call, stream_call, open_export_call, export_next_call, close_export_call, compact_call, upgrade_call, PlainReply, done, counts, schema_is, table_is, bytes_are, export_is, piece_is, merged, moved, nothing, already, refused, refused_at, shut_by, is_device_reply}
 use Rattle.store_runs.specs.Machine.{Machine, shut, halted}
 use Rattle.store_runs.specs.Runs.{Goes, Run}
 use Rattle.store_runs.specs.Since.{story_at, IsLeftFrom}
@@ -31,6 +31,7 @@ IsStreamOf input command plain = (bytes : List ℕ) × IfSome input (λ all. byt
 -- a call as plain data, by what is known of its reader
 abbrev pub IsCallOf : {R : Type 0} → (remaining : R → Option (List ℕ)) → Call R → PlainCall → Type 0
 IsCallOf remaining (calls.Apply command) plain = plain ≡ apply_call (command_of command)
+IsCallOf remaining (calls.ApplyAll commands) plain = plain ≡ apply_call (list_of commands.items)
 IsCallOf remaining (calls.ImportFrom name reader) plain = IsStreamOf (remaining reader) (import_stream (string_bytes name)) plain
 IsCallOf remaining (calls.AppendFrom name reader) plain = IsStreamOf (remaining reader) (append_stream (string_bytes name)) plain
 IsCallOf remaining calls.Format plain = plain ≡ format_call
@@ -71,6 +72,7 @@ reply_in replies.Moved = moved
 reply_in replies.Nothing = nothing
 reply_in replies.Already = already
 reply_in (replies.Refused refusal) = refused refusal
+reply_in (replies.RefusedAt place refusal) = refused_at place refusal
 reply_in (replies.NotOpened refusal) = shut_by refusal
 
 -- the device of a place

@@ -2,3 +2,4 @@ pub mod Saving
 pub mod Selecting
 pub mod Salvaging
 pub mod Taking
+pub mod Drafting

@@ -11,6 +11,8 @@ use values::Table;
 pub enum Call<R = Empty> {
     /// Applies a command to the tables.
     Apply(Command),
+    /// Applies several commands as one.
+    ApplyAll(Vec<Command>),
     /// Imports the table of a stream, which is all that the reader has left, under this name.
     ImportFrom { name: String, reader: R },
     /// Appends the rows of a stream, which is all that the reader has left, to this table.
@@ -65,6 +67,8 @@ pub enum Reply {
     /// The store already had digests.
     Already,
     Refused(Refusal),
+    /// The command of several at this place, counted from 0, was refused, and so are all of them.
+    RefusedAt { place: usize, refusal: Refusal },
     /// The device was not opened or formatted.
     NotOpened(OpeningRefusal),
 }

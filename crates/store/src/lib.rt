@@ -14,10 +14,12 @@
 mod agreeing;
 mod appending;
 mod applying;
+mod applying_all;
 mod beginning;
 mod call;
 mod carrying;
 mod compacting;
+mod drafting;
 mod exporting;
 mod exports;
 mod formatting;
@@ -37,6 +39,7 @@ mod summary;
 mod taking;
 mod upgrading;
 
+pub use applying_all::ListRefusal;
 pub use beginning::{crashed_devices_are_left, devices_fit, left_devices_fit, new_devices_fit};
 pub use call::{Call, Reply, StoreOrDevice};
 pub use commit::{Cause, FormatVersion, OpeningRefusal};

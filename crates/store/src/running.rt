@@ -1,7 +1,7 @@
 // Answers the calls of a place in order.
 ghost use Rattle.std.specs.Prelude.{◌≡◌, true, List, length, IfOk, IfErr};
 ghost use Rattle.tables.specs.Tables.{Tables};
-ghost use Rattle.tables.specs.View.{command_of};
+ghost use Rattle.tables.specs.View.{command_of, list_of};
 ghost use Rattle.tables.specs.Commands.{import_stream, append_stream};
 ghost use Rattle.store_runs.specs.Calls.{PlainCall, apply_call, format_call, open_call, tables_call, schema_call, read_call, export_call, open_export_call, export_next_call, close_export_call, compact_call, upgrade_call, counted};
 ghost use Rattle.store_runs.specs.Machine.{Machine};
@@ -11,7 +11,7 @@ ghost use Rattle.store.specs.Answering.{AnswersOpening, AnswersFormatting, Answe
 ghost use Rattle.store.specs.Fits.{DeviceFits, StoreFits, device_of};
 ghost use Rattle.store.specs.Places.{IsStreamOf, AreCallsOf, asks_store, reply_in, replies_of, device_in, PlaceFits, PlaceGoes, PlaceLives};
 
-use crate::{Call, Compaction, Reply, Store, StoreOrDevice, Upgraded};
+use crate::{Call, Compaction, ListRefusal, Reply, Store, StoreOrDevice, Upgraded};
 use sector_dev::SectorDevice;
 use std::alloc::Global;
 use std::io::Read;
@@ -84,6 +84,29 @@ fn apply_in<D: SectorDevice>(
     match store.apply(alloc, command) {
         Ok(()) => (StoreOrDevice::Open(store), Reply::Done),
         Err(refusal) => (StoreOrDevice::Open(store), Reply::Refused(refusal)),
+    }
+}
+
+// Applies several commands as one.
+fn apply_all_in<D: SectorDevice>(
+    alloc: Global,
+    store: Store<D>,
+    commands: Vec<Command>,
+) -> (StoreOrDevice<D>, Reply)
+    ensures goes { D.tells ≡ true → (base : Tables) (m : Machine) → StoreFits D.size D.story base m store
+        → PlaceGoes D.size D.story D.failed base m (apply_call (list_of commands.items)) (reply_in result.1) (device_of store) result.0 }
+    ensures answers { Answers D.size D.story D.failed D.tells (StoreOrDevice.Open store) (apply_call (list_of commands.items)) (reply_in result.1) result.0 }
+{
+    let mut store = store;
+    match store.apply_all(alloc, commands) {
+        Ok(()) => (StoreOrDevice::Open(store), Reply::Done),
+        Err(ListRefusal::At { place, refusal }) => {
+            (
+                StoreOrDevice::Open(store),
+                Reply::RefusedAt { place, refusal },
+            )
+        }
+        Err(ListRefusal::Whole(refusal)) => (StoreOrDevice::Open(store), Reply::Refused(refusal)),
     }
 }
 
@@ -284,6 +307,7 @@ fn answer_open<D: SectorDevice, R: Read + Drop>(
 {
     match call {
         Call::Apply(command) => apply_in(alloc, store, command),
+        Call::ApplyAll(commands) => apply_all_in(alloc, store, commands),
         Call::ImportFrom { name, reader } => import_in(alloc, store, &name, reader),
         Call::AppendFrom { name, reader } => append_in(alloc, store, &name, reader),
         Call::Format => format_place(alloc, store.close()),

@@ -1,5 +1,5 @@
 // Saves the selection of a query as a table of its own. One segment of the table that it selects from is kept at a time.
-ghost use Rattle.std.specs.Prelude.{◌≡◌, ◌≢◌, ◌⊎◌, ◌∷◌, [], true, false, None, Some, IfOk, IfErr, OnOk, string_bytes};
+ghost use Rattle.std.specs.Prelude.{◌≡◌, ◌≢◌, ◌⊎◌, ◌∷◌, [], true, false, None, Some, Ok, Err, IfOk, IfErr, OnOk, string_bytes};
 ghost use Rattle.facts.specs.Checks.{first_some};
 ghost use Rattle.sector_dev.specs.Disk.{now, shown_image};
 ghost use Rattle.arrow_schema.specs.View.{schema_of};
@@ -102,7 +102,7 @@ fn put_selection(
 }
 
 // Makes all tests of a saved query in order, and then reads the table of the entry.
-fn save_from_entry<D: SectorDevice>(
+pub(crate) fn save_from_entry<D: SectorDevice>(
     alloc: Global,
     device: &mut D,
     catalogue: &Catalogue,
@@ -131,6 +131,28 @@ fn save_from_entry<D: SectorDevice>(
             Err(refusal) => Err(refusal),
         },
         Err(refusal) => Err(refusal),
+    }
+}
+
+// Returns why a query on the table of an entry whose segments are not all written is not saved: the first test that fails, or that the table would have to be
+// read.
+pub(crate) fn save_from_unwritten(
+    alloc: Global,
+    catalogue: &Catalogue,
+    entry: &TableEntry,
+    to: &str,
+    query: &Query,
+) -> Refusal
+    ensures answers { (result ≡ Refusal.OutOfMemory)
+        ⊎ ((selected_entry (catalogue_of catalogue.now) to.now (query_in query.now) (plain_entry entry.now) ≡ Ok (plain_entry entry.now))
+        × (result ≡ Refusal.RowsUnwritten))
+        ⊎ (selected_entry (catalogue_of catalogue.now) to.now (query_in query.now) (plain_entry entry.now) ≡ Err result) }
+    ensures no_device { is_failure result ≡ false }
+    ensures not_halted { result ≢ Refusal.Halted }
+{
+    match test_save(alloc, catalogue, entry.schema(), to, query) {
+        Ok(_) => Refusal::RowsUnwritten,
+        Err(refusal) => refusal,
     }
 }
 

@@ -122,8 +122,10 @@ impl<D: SectorDevice> Store<D> {
     /// table is read in either case, and one segment of it is in memory at a time.
     ///
     /// ```
-    /// let cold = Query { columns: Vec::new(alloc), conditions: vec![in alloc; Condition::parse(alloc, "millidegrees < 0")?]?, limit: None };
-    /// let lines = store.selected_lines(alloc, "readings", &cold, RowForm::Array)??;
+    /// let conditions = vec![in alloc; Condition::parse(alloc, "millidegrees < 0")?]?;
+    /// let cold = Query { columns: Vec::new(alloc), conditions, limit: None, dates: DateForm::Numbers };
+    /// let form = RowForm { shape: RowShape::Array, dates: DateForm::Numbers };
+    /// let lines = store.selected_lines(alloc, "readings", &cold, form)??;
     /// ```
     ///
     /// # Errors

@@ -9,6 +9,10 @@ use Rattle.catalogue.specs.declared.limits.TheConstants.{MAX_SEGMENTS}
 use Rattle.catalogue.specs.declared.entry.Segment.{Segment}
 use Rattle.catalogue.specs.Entries.{PlainEntry, PlainCatalogue, is_segment, is_entry, segment_count, IsCatalogue}
 use Rattle.catalogue.specs.Edits.{entry_of}
+use Rattle.catalogue.specs.View.{catalogue_of}
+use Rattle.catalogue.specs.declared.catalogue.Catalogue.{Catalogue}
+use Rattle.segments.specs.declared.run.Run.{Run}
+use Rattle.store_changes.specs.laws.Filled.{filled_count}
 use Rattle.catalogue.specs.laws.Digests.{digested_count}
 use Rattle.catalogue.specs.laws.Kept.{entry_stands}
 use Rattle.store_changes.specs.declared.change.Edit.{Edit}
@@ -64,6 +68,16 @@ after_exchange c edit name place count new is can segments len =
 
 pub after_digest : (c : PlainCatalogue) (edit : Edit) (digests : Vec (List ℕ)) → edit ≡ edits.Digest digests → (segments : List Segment) → segment_count c ≡ count_after c edit segments
 after_digest c edit digests is segments = let after = ap (λ (x : Edit). count_after c x segments) is in omega (arith, after, digested_count c digests.items)
+
+pub after_rebuild : (c : PlainCatalogue) (edit : Edit) (old made : Catalogue) (from new : ℕ) (gone : Vec Run) → edit ≡ edits.Rebuild old from made gone
+    → ((streams : List (List ℕ)) × IsEdit c (edit_of edit) streams × (length streams ≡ new)) → (segments : List Segment) → length segments ≡ new
+    → segment_count (catalogue_of made) ≡ count_after c edit segments
+after_rebuild c edit old made from new gone is can segments len =
+    let after = ap (λ (x : Edit). count_after c x segments) is in
+    let own = subst (λ (x : Edit). (streams : List (List ℕ)) × IsEdit c (edit_of x) streams × (length streams ≡ new)) is can in
+    let many = own.1.new in
+    let given = own.2 in
+    omega (arith, after, filled_count from (catalogue_of made) segments (omega (arith, len, many, given)))
 
 -- ---- what the catalogue's own calls ask for
 

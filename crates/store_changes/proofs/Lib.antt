@@ -10,4 +10,7 @@ mod Undamaged
 mod Streamed
 mod StepFound
 mod Digesting
+mod Refilled
+mod Drafts
+mod AtLine
 mod NewDigests

@@ -23,7 +23,7 @@ use Rattle.commit.specs.Standing.{rules, standing, used_runs, Stands, InSome}
 use Rattle.commit.specs.laws.Frame.{rules_found}
 use Rattle.tables.specs.declared.refusal.Refusal.{Refusal}
 use Rattle.tables.specs.declared.refusal.Refusal.TheVariants as refusals
-use Rattle.tables.specs.Commands.{PlainCommand, create, import_stream, append_stream, append_rows, save_as, rename, drop_table, all_of, PlainCommands, no_command, and_command, BringsTables, EachBringsTables}
+use Rattle.tables.specs.Commands.{PlainCommand, create, import_stream, append_stream, append_rows, save_as, rename, drop_table, all_of, PlainCommands, no_command, and_command, name_read, BringsTables, EachBringsTables}
 use Rattle.tables.specs.Tables.{Tables, table_at, with_table, without_table}
 use Rattle.tables.specs.Verdict.{import_tests, of_meaning, empty_table, verdict, verdict_in_turn}
 use Rattle.store_runs.specs.Machine.{holds}
@@ -35,7 +35,8 @@ use Rattle.store_runs.specs.Deciding.{missing_in, full_in, create_tests, rename_
 use Rattle.store_runs.specs.Carrying.{placed, commit_placed}
 use Rattle.store_changes.specs.OnDisk.{HasDone}
 use Rattle.store_changes.specs.LawsBelow.{LawsBelow, TableLaws}
-use Rattle.store_changes.specs.Verdicts.{Lists, AreListed, IsVerdict, IsSingle, IsUndecided, HoldsVerdict}
+use Rattle.store_runs.specs.Steps.{IsNoList}
+use Rattle.store_changes.specs.Verdicts.{Lists, AreListed, IsVerdict, IsUndecided, HoldsVerdict}
 use Rattle.store_changes.specs.laws.InTurn.{over, over_below, sector_before, filled_held, Rebased, stepped, rebased}
 use Rattle.store_changes.specs.laws.Quiet.{single_stops}
 use Rattle.store_changes.specs.laws.Decided.{of_decided}
@@ -86,7 +87,7 @@ module _ (c : PlainCatalogue) (t : Tables) (lists : Lists c t) where
 
 -- ---- what is decided
 
-pub decided : LawsBelow → (image : Image) (c : PlainCatalogue) (t : Tables) (command : PlainCommand) (d : Result PlainChange Refusal) → IsSingle command → AreListed image c t → BringsTables command
+pub decided : LawsBelow → (image : Image) (c : PlainCatalogue) (t : Tables) (command : PlainCommand) (d : Result PlainChange Refusal) → IsNoList command → AreListed image c t → BringsTables command
     → IsDecided true image c command d → IsVerdict t command d
 decided laws image c t (create name schema) d single listed brings is = subst (IsVerdict t (create name schema)) (sym is) (created c t listed.lists name schema)
 decided laws image c t (import_stream name bytes) d single listed brings is =
@@ -221,13 +222,14 @@ pub record ReadsAt (c : PlainCatalogue) (command : PlainCommand) (e : PlainEntry
   pub name : List ℕ
   pub there : entry_of c name ≡ Some e
   pub reads : reads_device command ≡ true
+  pub named : name_read command ≡ Some name
 
-reads_at : (c : PlainCatalogue) (command : PlainCommand) (e : PlainEntry) → entry_read c command ≡ Some e → ReadsAt c command e
+pub reads_at : (c : PlainCatalogue) (command : PlainCommand) (e : PlainEntry) → entry_read c command ≡ Some e → ReadsAt c command e
 reads_at c (append_stream name bytes) e is =
-    record { name = name; there = added_at e (streamed_rows bytes) (λ own a test. (streamed_is own bytes a test).entry) (entry_of c name) is; reads = refl }
+    record { name = name; there = added_at e (streamed_rows bytes) (λ own a test. (streamed_is own bytes a test).entry) (entry_of c name) is; reads = refl; named = refl }
 reads_at c (append_rows name rows) e is =
-    record { name = name; there = added_at e (given_rows rows) (λ own a test. (given_is own rows a test).entry) (entry_of c name) is; reads = refl }
-reads_at c (save_as from to query) e is = record { name = from; there = selected_at e (λ own. first_some (unselected own.schema query ∷ create_tests c to ∷ [])) (entry_of c from) is; reads = refl }
+    record { name = name; there = added_at e (given_rows rows) (λ own a test. (given_is own rows a test).entry) (entry_of c name) is; reads = refl; named = refl }
+reads_at c (save_as from to query) e is = record { name = from; there = selected_at e (λ own. first_some (unselected own.schema query ∷ create_tests c to ∷ [])) (entry_of c from) is; reads = refl; named = refl }
 reads_at c _ e is = absurd (cc is)
 
 -- a table that is held is not read only where the device fails, or memory is refused
@@ -253,7 +255,7 @@ not_read laws image c t command d catalogue held unread =
     by_refusal reads (inl memory) = inl (unread.told ∙ ap Err memory)
     by_refusal reads (inr device) = inr (unread.told ∙ ap Err device, reads)
 
-pub answered : LawsBelow → (image : Image) (c : PlainCatalogue) (t : Tables) (command : PlainCommand) (d : Result PlainChange Refusal) → IsSingle command → IsCatalogue c → tables_held image c ≡ Some t → BringsTables command
+pub answered : LawsBelow → (image : Image) (c : PlainCatalogue) (t : Tables) (command : PlainCommand) (d : Result PlainChange Refusal) → IsNoList command → IsCatalogue c → tables_held image c ≡ Some t → BringsTables command
     → IsAnswered true image c command d → IsUndecided command d ⊎ IsVerdict t command d
 answered laws image c t command d single catalogue held brings (inl memory) = inl (inl memory)
 answered laws image c t command d single catalogue held brings (inr (inl stops)) = inl (not_read laws image c t command d catalogue held (single_stops true image c command d single stops))

@@ -1,4 +1,6 @@
 pub mod Change
+pub mod Picked
+pub mod Draft
 pub mod Finding
 pub mod OnDisk
 pub mod ReadSegment

@@ -1,19 +1,20 @@
 -- How the decision by a catalogue relates to the verdict on the tables that it lists, and what is done to the tables of the verdict.
-use Rattle.std.specs.Prelude.{◌≡◌, ◌⊎◌, ℕ, true, List, length, Option, Some, None, Result, Ok, Err}
+use Rattle.std.specs.Prelude.{◌≡◌, ◌⊎◌, ℕ, Bool, true, List, [], ◌∷◌, length, take, slice_get, Option, Some, None, Result, Ok, Err}
 use Rattle.sector_dev.specs.Disk.{Image}
 use Rattle.cells.specs.Cell.{PlainTable}
 use Rattle.values.specs.Table.{IsTable}
-use Rattle.catalogue.specs.Entries.{PlainEntry, PlainCatalogue, row_count}
+use Rattle.catalogue.specs.Entries.{PlainEntry, PlainCatalogue, row_count, runs_of}
 use Rattle.catalogue.specs.Edits.{entry_of}
 use Rattle.tables.specs.declared.refusal.Refusal.{Refusal}
-use Rattle.tables.specs.declared.refusal.Refusal.TheVariants.{Device, OutOfMemory}
+use Rattle.tables.specs.declared.refusal.Refusal.TheVariants.{TooMany, Device, OutOfMemory}
+use Rattle.tables.specs.declared.refusal.Limit.TheVariants as limits
 use Rattle.tables.specs.Tables.{Tables, table_at, table_count}
 use Rattle.tables.specs.Commands.{PlainCommand, all_of}
 use Rattle.tables.specs.Verdict.{verdict}
 use Rattle.store_runs.specs.Machine.{holds}
 use Rattle.store_runs.specs.Held.{table_held, held_by}
 use Rattle.store_runs.specs.Changes.{PlainChange, MakesOf}
-use Rattle.store_runs.specs.Deciding.{reads_device, IsDecided}
+use Rattle.store_runs.specs.Deciding.{AreBefore, Leaves, ExceedsSegments, IsUnwritten, reads_device, IsDecided, IsAnswered}
 
 -- what a catalogue says about a table, by its entry
 abbrev pub TellsTable : Option PlainEntry → Option PlainTable → Type 0
@@ -37,10 +38,34 @@ abbrev pub IsVerdict : Tables → PlainCommand → Result PlainChange Refusal �
 IsVerdict t c (Ok change) = (new : Tables) × (verdict t c ≡ Ok new) × MakesOf t change new
 IsVerdict t c (Err r) = verdict t c ≡ Err r
 
--- a command that is no list
-abbrev pub IsSingle : PlainCommand → Type 0
-IsSingle (all_of cs) = ⊥
-IsSingle _ = Unit {0}
+-- commands one after another are accepted, and lead from one state of a list to another
+abbrev pub LeadsThrough : (tells : Bool) → (next : ℕ) → Image → PlainCatalogue → List PlainCommand → (next' : ℕ) → Image → PlainCatalogue → Type 0
+LeadsThrough tells next image c [] next' image' c' = (next' ≡ next) × (image' ≡ image) × (c' ≡ c)
+LeadsThrough tells next image c (x ∷ xs) next' image' c' =
+    (change : PlainChange) × (mid : ℕ) × (between : Image) × (d : PlainCatalogue) × IsDecided tells image c x (Ok change)
+    × Leaves next image c change mid between d × LeadsThrough tells mid between d xs next' image' c'
+
+-- an answer to a command of a list: it would have to read rows that are not written yet, or it is answered as a command alone
+abbrev pub IsLineAnswered : (tells : Bool) → (from : ℕ) → Image → PlainCatalogue → PlainCommand → Result PlainChange Refusal → Type 0
+IsLineAnswered tells from image c command answer = IsUnwritten from c command answer ⊎ IsAnswered tells image c command answer
+
+-- why a list ends at a command: its answer is a refusal, or there are too many segments after it
+abbrev pub EndsAtLine : (tells : Bool) → (from next : ℕ) → Image → PlainCatalogue → PlainCommand → Refusal → Type 0
+EndsAtLine tells from next image c command r =
+    IsLineAnswered tells from image c command (Err r)
+    ⊎ ((r ≡ TooMany limits.Segments) × ((change : PlainChange) × IsDecided tells image c command (Ok change) × ExceedsSegments next c change))
+
+-- a list ends at the command at this place, counted from 0: those before it are accepted one after another
+pub record IsRefusedAt (tells : Bool) (image : Image) (c : PlainCatalogue) (commands : List PlainCommand) (place : ℕ) (r : Refusal) : Type 0 where
+  pub from : ℕ
+  pub before : AreBefore from (runs_of c)
+  pub next : ℕ
+  pub over : Image
+  pub made : PlainCatalogue
+  pub leads : LeadsThrough tells from image c (take place commands) next over made
+  pub command : PlainCommand
+  pub at : slice_get commands place ≡ Some command
+  pub ends : EndsAtLine tells from next over made command r
 
 -- nothing was decided: memory was refused, or the device failed in a command that reads it
 abbrev pub IsUndecided : PlainCommand → Result PlainChange Refusal → Type 0

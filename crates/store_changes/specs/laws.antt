@@ -6,6 +6,9 @@ pub mod Listed
 pub mod Mapped
 pub mod Changed
 pub mod InTurn
+pub mod Laid
+pub mod LineEdits
+pub mod Drafting
 pub mod Filled
 pub mod Edited
 pub mod EditedEach
@@ -24,5 +27,8 @@ pub mod Prepared
 pub mod ReadTables
 pub mod ReadRows
 pub mod Quiet
+pub mod SameReads
+pub mod Lines
+pub mod Leading
 pub mod StepParts
 pub mod StepChanges

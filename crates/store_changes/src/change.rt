@@ -1,13 +1,16 @@
 // The change that a command makes, before its new segments have places.
-ghost use Rattle.std.specs.Prelude.{◌≡◌, ◌∷◌, [], IfOk};
-ghost use Rattle.ipc_encode.specs.View.{streams_in};
+ghost use Rattle.std.specs.Prelude.{◌≡◌, ◌<◌, ◌^◌, ◌∷◌, [], length, map, get_or, IfOk, OnOk};
+ghost use Rattle.ipc_encode.specs.View.{joined_parts, streams_in};
 ghost use Rattle.commit.specs.Placing.{AreShort};
+ghost use Rattle.store_changes.specs.Picked.{streams_at};
 ghost use Rattle.store_changes.specs.Under.{table_under};
 ghost use Rattle.values.specs.Table.{IsTable};
 
 use arrow_schema::Schema;
 use batch_build::Buffer;
+use catalogue::Catalogue;
 use ipc_encode::{EncodedPieces, encode_own_pieces, encode_pieces};
+use segments::Run;
 use std::alloc::{AllocError, Global};
 use values::Table;
 
@@ -42,6 +45,14 @@ pub enum Edit {
     Digest {
         digests: Vec<[u8; 32]>,
     },
+    /// The tables of `made` in place of those of `old`: its segments that start at the sector `from` or later are the new ones, in order. The runs in `gone` are
+    /// no longer named.
+    Rebuild {
+        old: Catalogue,
+        from: u64,
+        made: Catalogue,
+        gone: Vec<Run>,
+    },
 }
 
 /// The rows of new segments: those of a table, under another schema instead of its own if one is given.
@@ -58,7 +69,16 @@ pub enum NewSegments {
     /// The pieces of these rows.
     Rows(SegmentRows),
     /// These bytes, which are a stream of this number of rows.
-    Copied { bytes: Vec<u8>, rows: u64 },
+    Copied {
+        bytes: Vec<u8>,
+        rows: u64,
+    },
+    /// Those of these streams that stand at these places, with the number of rows of each.
+    Streams {
+        streams: Vec<Vec<u8>>,
+        places: Vec<usize>,
+        rows: Vec<u64>,
+    },
 }
 
 /// An edit, and the contents of its new segments.
@@ -104,6 +124,53 @@ fn copied_piece(alloc: Global, bytes: &[u8], rows: u64) -> Result<EncodedPieces<
     })
 }
 
+// Borrows these bytes as the only part of a stream.
+fn borrowed_part(alloc: Global, bytes: &[u8]) -> Result<Vec<Buffer<'_>>, AllocError>
+    ensures bytes { IfOk result (λ parts. joined_parts parts.items ≡ bytes.now) }
+    ensures short { OnOk result (length bytes.now < 2 ^ 64) }
+{
+    let mut parts = Vec::with_capacity(alloc, 1)?;
+    parts.push_reserved(Buffer::Borrowed(bytes));
+    Ok(parts)
+}
+
+// Borrows the stream at a place; if there is none, it is empty.
+fn stream_at(
+    alloc: Global,
+    streams: &[Vec<u8>],
+    place: usize,
+) -> Result<Vec<Buffer<'_>>, AllocError>
+    ensures bytes { IfOk result (λ parts. joined_parts parts.items ≡ get_or (map (λ s. s.items) streams.now) place []) }
+    ensures short { OnOk result (length (get_or (map (λ s. s.items) streams.now) place []) < 2 ^ 64) }
+{
+    match streams.get(place) {
+        Some(stream) => borrowed_part(alloc, stream),
+        None => borrowed_part(alloc, &[]),
+    }
+}
+
+// Borrows the streams at these places.
+fn stream_pieces<'a>(
+    alloc: Global,
+    streams: &'a [Vec<u8>],
+    places: &[usize],
+    rows: &[u64],
+) -> Result<EncodedPieces<'a>, AllocError>
+    ensures streams { IfOk result (λ pieces. streams_in pieces ≡ streams_at (map (λ s. s.items) streams.now) places.now) }
+    ensures counts { IfOk result (λ pieces. pieces.rows.items ≡ rows.now) }
+    ensures short { IfOk result (λ pieces. AreShort (streams_in pieces)) }
+{
+    let mut parts = Vec::with_capacity(alloc, places.len())?;
+    for place in places {
+        parts.push(stream_at(alloc, streams, *place)?)?;
+    }
+    Ok(EncodedPieces {
+        schema_message: Vec::new(alloc),
+        parts,
+        rows: Vec::from_slice(alloc, rows)?,
+    })
+}
+
 impl Change {
     ghost use Rattle.store_changes.specs.Change.{change_of};
 
@@ -119,6 +186,13 @@ impl Change {
         match &self.new {
             Some(NewSegments::Rows(rows)) => rows.pieces(alloc),
             Some(NewSegments::Copied { bytes, rows }) => copied_piece(alloc, bytes, *rows),
+            Some(
+                NewSegments::Streams {
+                    streams,
+                    places,
+                    rows,
+                },
+            ) => stream_pieces(alloc, streams, places, rows),
             None => Ok(EncodedPieces {
                 schema_message: Vec::new(alloc),
                 parts: Vec::new(alloc),

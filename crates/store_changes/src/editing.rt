@@ -20,6 +20,7 @@ ghost use Rattle.store_changes.specs.laws.Edited.{segments_at};
 
 use crate::change::Edit;
 use crate::new_digests::digests_for;
+use crate::rebuilding::filled;
 use arrow_schema::Schema;
 use catalogue::{Catalogue, MAX_SEGMENT_ROWS, Segment, TableEntry, put_runs};
 use cells::MAX_PIECE_ROWS;
@@ -128,6 +129,12 @@ pub(crate) fn edited(
             changed.exchange_segments(name, *place, *count, segments)?;
         }
         Edit::Digest { digests } => changed.set_digests(digests)?,
+        Edit::Rebuild {
+            old: _old,
+            from,
+            made,
+            gone: _gone,
+        } => changed = filled(alloc, *from, made, segments)?,
     }
     Ok(changed)
 }
@@ -165,6 +172,12 @@ fn name_edited(edit: &Edit) -> Option<&str>
             count: _,
         } => Some(name),
         Edit::Digest { digests: _ } => None,
+        Edit::Rebuild {
+            old: _,
+            from: _,
+            made: _,
+            gone: _,
+        } => None,
     }
 }
 
@@ -209,6 +222,12 @@ fn given_by(
                 page_behind(entry.segments(), entry.page),
             )?;
         }
+        Edit::Rebuild {
+            old: _,
+            from: _,
+            made: _,
+            gone: _,
+        } => {}
     }
     Ok(runs)
 }
@@ -234,6 +253,12 @@ fn given_by_all(alloc: Global, catalogue: &Catalogue, edit: &Edit) -> Result<Vec
 {
     match edit {
         Edit::Digest { digests: _ } => lost_pages(alloc, catalogue.entries()),
+        Edit::Rebuild {
+            old: _,
+            from: _,
+            made: _,
+            gone,
+        } => Vec::from_slice(alloc, gone),
         _ => Ok(Vec::new(alloc)),
     }
 }
@@ -270,7 +295,7 @@ fn segments_at(catalogue: &Catalogue, name: &str) -> u64
 
 // Returns the number of segments after an edit with this number of new ones.
 pub(crate) fn segments_after(catalogue: &Catalogue, edit: &Edit, new: u64) -> u64
-    requires edit { (streams : List (List ℕ)) × IsEdit (catalogue_of catalogue.now) (edit_of edit.now) streams }
+    requires edit { (streams : List (List ℕ)) × IsEdit (catalogue_of catalogue.now) (edit_of edit.now) streams × (length streams ≡ new) }
     requires few { new < 2 ^ 63 }
     ensures { (segments : List Segment) → length segments ≡ new
         → result ≡ segment_count (edited (catalogue_of catalogue.now) (edit_of edit.now) segments) }
@@ -287,6 +312,12 @@ pub(crate) fn segments_after(catalogue: &Catalogue, edit: &Edit, new: u64) -> u6
             count: exchanged,
         } => count - *exchanged as u64 + new,
         Edit::Digest { digests: _ } => count,
+        Edit::Rebuild {
+            old: _old,
+            from: _from,
+            made,
+            gone: _gone,
+        } => made.segment_count(),
     }
 }
 

@@ -1,5 +1,6 @@
 // Laws of decisions and changes. The functions do nothing: their contracts are the laws.
 ghost use Rattle.std.specs.Prelude.{slice_get, Option, ◌≡◌, ◌⊎◌, ◌≤◌, ◌+◌, ◌*◌, ℕ, Bool, true, Some, List, ◌∷◌, length, Result};
+ghost use Rattle.std.specs.List.{AllByRecursion};
 ghost use Rattle.sector_dev.specs.Disk.{Disk, Image, synced_image};
 ghost use Rattle.segments.specs.declared.entries.UsageEntry.{UsageEntry};
 ghost use Rattle.segments.specs.Usages.{IsUsedIn};
@@ -12,8 +13,10 @@ ghost use Rattle.store_changes.specs.Exchanging.{HoldsSame, AreOnDevice, ShrinkI
 ghost use Rattle.commit.specs.declared.sector.Commit.{Commit};
 ghost use Rattle.commit.specs.Standing.{used_runs, rules, standing, Stands, InSome};
 ghost use Rattle.tables.specs.Tables.{Tables};
+ghost use Rattle.tables.specs.Refusals.{origin_of};
+ghost use Rattle.store_runs.specs.Steps.{IsNoList, RefusesLine};
 ghost use Rattle.tables.specs.declared.refusal.Refusal.{Refusal};
-ghost use Rattle.tables.specs.Commands.{PlainCommand, BringsTables};
+ghost use Rattle.tables.specs.Commands.{PlainCommand, all_of, commands_of, BringsTables, EachBringsTables};
 ghost use Rattle.store_runs.specs.Machine.{holds};
 ghost use Rattle.store_runs.specs.Held.{bytes_of, segment_rows, table_held, tables_held, held_by};
 ghost use Rattle.store_changes.specs.Digests.{HaveDigest, MeanRows};
@@ -22,7 +25,7 @@ ghost use Rattle.pages.specs.Stored.{stored_reading};
 ghost use Rattle.store_runs.specs.Changes.{PlainChange};
 ghost use Rattle.store_runs.specs.Deciding.{IsDecided, IsAnswered};
 ghost use Rattle.store_changes.specs.OnDisk.{HasDone, IsOldOrDone};
-ghost use Rattle.store_changes.specs.Verdicts.{AreListed, IsVerdict, IsSingle, IsUndecided, HoldsVerdict};
+ghost use Rattle.store_changes.specs.Verdicts.{AreListed, IsRefusedAt, IsVerdict, IsUndecided, HoldsVerdict};
 ghost use Rattle.store_changes.specs.LawsBelow.{LawsBelow, TableLaws};
 
 use ipc_encode::pieces_are_tables;
@@ -77,15 +80,20 @@ pub fn laws_below()
 
 /// The decision on a command, by a catalogue and by what reads show, is the verdict on the tables that the catalogue lists: a change with the same effect on
 /// them as the command, or the same refusal. `decided` also holds for a store with a segment that can't be read. If each can be read (`listed`), the only
-/// other answers are that memory was refused or that the device failed (`answered`). `catalogues`: what a commit names is a catalogue.
+/// other answers are that memory was refused or that the device failed (`answered`). A list that ends at a command is refused for that line, or for one of
+/// these two reasons (`at_line`). `catalogues`: what a commit names is a catalogue.
 pub fn decisions_are_verdicts()
     ensures decided { (image : Image) (c : PlainCatalogue) (t : Tables) (command : PlainCommand) (d : Result PlainChange Refusal)
-        → IsSingle command → AreListed image c t → BringsTables command → IsDecided true image c command d → IsVerdict t command d }
+        → IsNoList command → AreListed image c t → BringsTables command → IsDecided true image c command d → IsVerdict t command d }
     ensures each { (image : Image) (c : PlainCatalogue) (t : Tables) (command : PlainCommand) (d : Result PlainChange Refusal)
         → IsCatalogue c → tables_held image c ≡ Some t → BringsTables command → IsDecided true image c command d → IsVerdict t command d }
+    ensures at_line { (image : Image) (c : PlainCatalogue) (t : Tables) (commands : List PlainCommand) (place : ℕ) (r : Refusal)
+        → IsCatalogue c → tables_held image c ≡ Some t → EachBringsTables (commands_of commands) → AllByRecursion IsNoList commands
+        → IsRefusedAt true image c commands place r
+        → (r ≡ Refusal.OutOfMemory) ⊎ (r ≡ Refusal.Device) ⊎ RefusesLine (origin_of r) t (all_of (commands_of commands)) place r }
     ensures listed { (image : Image) (c : PlainCatalogue) (t : Tables) → IsCatalogue c → tables_held image c ≡ Some t → AreListed image c t }
     ensures answered { (image : Image) (c : PlainCatalogue) (t : Tables) (command : PlainCommand) (d : Result PlainChange Refusal)
-        → IsSingle command → IsCatalogue c → tables_held image c ≡ Some t → BringsTables command → IsAnswered true image c command d
+        → IsNoList command → IsCatalogue c → tables_held image c ≡ Some t → BringsTables command → IsAnswered true image c command d
         → IsUndecided command d ⊎ IsVerdict t command d }
     ensures catalogues { (size : ℕ) (image : Image) (k : Commit) (c : PlainCatalogue) → standing stored_reading size image ≡ rules k c → IsCatalogue c }
 {

@@ -9,6 +9,7 @@ mod change;
 mod compacting;
 mod deciding;
 mod digests;
+mod drafting;
 mod editing;
 mod laws;
 mod lightness;
@@ -18,16 +19,18 @@ mod new_rows;
 mod pairs;
 mod preparing;
 mod reading;
+mod rebuilding;
 mod table_builder;
 mod weighing;
 
-pub use appending::append_to_entry;
+pub use appending::{append_to_entry, append_to_unwritten};
 pub use change::{Change, Edit, NewSegments, SegmentRows};
 pub use compacting::{Step, decide_step};
 pub use deciding::{
     decide_create, decide_drop, decide_import, decide_rename, has_table, put_table, test_create,
 };
 pub use digests::all_digests;
+pub use drafting::Draft;
 pub use laws::{
     compactions_end, decisions_are_verdicts, laws_below, rows_have_their_digest, table_laws,
     what_is_done_is_the_verdict,
@@ -35,4 +38,5 @@ pub use laws::{
 pub use new_rows::NewRows;
 pub use preparing::{Prepared, prepare, settle};
 pub use reading::{read_entry, read_next_segment, read_segment};
+pub use rebuilding::has_new;
 pub use weighing::weigh_entry;

@@ -29,7 +29,7 @@ fn sizes_of(segments: &[Segment]) -> Option<(u64, u64)>
 }
 
 /// Returns whether the table of an entry is surely light enough together with new rows of this weight. Reads nothing.
-pub(crate) fn stays_light(entry: &TableEntry, new: u64) -> bool
+pub(crate) fn is_surely_light(entry: &TableEntry, new: u64) -> bool
     requires sound { is_entry (plain_entry entry.now) ≡ true }
     ensures { result ≡ true → (rows : List (List Cell)) → new ≡ table_weight (plain_entry entry.now).schema rows
         → IsSurelyLight (record { entry = plain_entry entry.now; rows = rows }) }
@@ -37,9 +37,19 @@ pub(crate) fn stays_light(entry: &TableEntry, new: u64) -> bool
     streams_weigh_at_most();
     schema_message_is_read_again();
     match sizes_of(entry.segments()) {
-        Some((rows, bytes)) => {
-            bytes > FEW_BYTES && weight_bounds::stays_light(entry.schema(), rows, bytes, new)
-        }
+        Some((rows, bytes)) => weight_bounds::stays_light(entry.schema(), rows, bytes, new),
+        None => false,
+    }
+}
+
+/// Returns the same for a table that is not read anyway.
+pub(crate) fn stays_light(entry: &TableEntry, new: u64) -> bool
+    requires sound { is_entry (plain_entry entry.now) ≡ true }
+    ensures { result ≡ true → (rows : List (List Cell)) → new ≡ table_weight (plain_entry entry.now).schema rows
+        → IsSurelyLight (record { entry = plain_entry entry.now; rows = rows }) }
+{
+    match sizes_of(entry.segments()) {
+        Some((_, bytes)) => bytes > FEW_BYTES && is_surely_light(entry, new),
         None => false,
     }
 }

@@ -7,10 +7,10 @@ use Rattle.table_cut.specs.CutRows.{joined}
 use Rattle.tables.specs.declared.refusal.Limit.TheVariants as limits
 use Rattle.tables.specs.declared.refusal.Refusal.{Refusal}
 use Rattle.tables.specs.declared.refusal.Refusal.TheVariants as refusals
-use Rattle.tables.specs.Refusals.{Origin, by_tables, by_room, by_memory, by_device, by_halt, elsewhere, origin_of}
+use Rattle.tables.specs.Refusals.{Origin, by_tables, by_room, by_memory, by_device, by_halt, by_list, elsewhere, origin_of}
 use Rattle.tables.specs.Tables.{Tables, table_at, row_counts}
-use Rattle.tables.specs.Commands.{PlainCommand}
-use Rattle.tables.specs.Verdict.{verdict, refused_line, AcceptsThrough}
+use Rattle.tables.specs.Commands.{PlainCommand, all_of}
+use Rattle.tables.specs.Verdict.{verdict, refused_line, AcceptsThrough, ReadsChanged}
 use Rattle.commit.specs.declared.opening_refusal.OpeningRefusal.TheVariants as openings
 use Rattle.store_runs.specs.Calls.{PlainCall, apply_call, format_call, open_call, close_call, tables_call, schema_call, read_call, export_call, stream_call, open_export_call, export_next_call, close_export_call, compact_call, upgrade_call, PlainReply, done, counts, schema_is, table_is, bytes_are, export_is, piece_is, merged, moved, nothing, already, refused, refused_at, shut_by}
 use Rattle.store_runs.specs.Machine.{Setting, shut, running, Export, Machine, with_doubt, tables_now, settle, opened, shut_down, halt, export_at, with_export, after_piece, without_export}
@@ -19,20 +19,27 @@ use Rattle.store_runs.specs.Machine.{Setting, shut, running, Export, Machine, wi
 abbrev pub Stays : Machine → Bool → Machine → Type 0
 Stays m wrote new = (wrote ≡ false) × (new ≡ m)
 
+-- a command that is no list
+abbrev pub IsNoList : PlainCommand → Type 0
+IsNoList (all_of cs) = ⊥
+IsNoList _ = Unit {0}
+
 -- a command, by the origin of its refusal
 abbrev pub RefusesFrom : Origin → Setting → Machine → PlainCommand → Refusal → Bool → Machine → Type 0
-RefusesFrom by_tables s m c r wrote new = (m.phase ≡ running) × (verdict (tables_now s m) c ≡ Err r) × Stays m wrote new
+RefusesFrom by_tables s m c r wrote new = (m.phase ≡ running) × IsNoList c × (verdict (tables_now s m) c ≡ Err r) × Stays m wrote new
 RefusesFrom by_room s m c r wrote new = (m.phase ≡ running) × IsOk (verdict (tables_now s m) c) × Stays m wrote new
 RefusesFrom by_memory s m c r wrote new = (m.phase ≡ running) × Stays m wrote new
 RefusesFrom by_device s m c r wrote new = (m.phase ≡ running) × (new ≡ halt (apply_call c) wrote m)
 RefusesFrom by_halt s m c r wrote new = (m.phase ≢ running) × Stays m wrote new
+RefusesFrom by_list s m c r wrote new = ⊥
 RefusesFrom elsewhere s m c r wrote new = ⊥
 
 -- a list of commands that is refused for the one at this place, by the origin of its refusal: it is the first that the tables refuse; or the tables accept all
--- up to it, and there are too many segments after it
+-- up to it, and there are too many segments after it; or it reads rows of a table that those before it may have changed, which the tables accept
 abbrev pub RefusesLine : Origin → Tables → PlainCommand → (place : ℕ) → Refusal → Type 0
 RefusesLine by_tables t c place r = refused_line t c ≡ Some (place, r)
 RefusesLine by_room t c place r = (r ≡ refusals.TooMany limits.Segments) × AcceptsThrough t c place
+RefusesLine by_list t c place r = (r ≡ refusals.RowsUnwritten) × ReadsChanged t c place
 RefusesLine _ t c place r = ⊥
 
 abbrev pub StepApply : Setting → Machine → PlainCommand → PlainReply → Bool → Machine → Type 0

@@ -1,5 +1,5 @@
 -- Commands on tables as plain data.
-use Rattle.std.specs.Prelude.{ℕ, List, [], ◌∷◌, ◌++◌}
+use Rattle.std.specs.Prelude.{ℕ, List, [], ◌∷◌, ◌++◌, Option, Some, None}
 use Rattle.facts.specs.Bytes.{AreBytes}
 use Rattle.arrow_schema.specs.Column.{PlainSchema}
 use Rattle.arrow_schema.specs.Limits.{IsWithinLimits}
@@ -47,6 +47,13 @@ abbrev mutual
   pub changed_by_each : PlainCommands → List (List ℕ)
   changed_by_each no_command = []
   changed_by_each (and_command c cs) = changed_names c ++ changed_by_each cs
+
+-- the name of the table whose rows a command reads
+abbrev pub name_read : PlainCommand → Option (List ℕ)
+name_read (append_stream name bytes) = Some name
+name_read (append_rows name rows) = Some name
+name_read (save_as from to query) = Some from
+name_read _ = None
 
 abbrev mutual
   -- a command brings a schema within the limits, or a stream of bytes

@@ -1,10 +1,16 @@
 // Tests of the weight of the rows of texts (text_import): that of a table's limit, and that of one row more.
 use crate::made::{NotMade, assert_no_row, schema_of_columns};
+use civil_days::DateForm;
 use std::alloc::{AllocError, Global};
-use text_import::{TextForm, are_too_heavy};
+use text_import::{FieldForm, TextForm, are_too_heavy};
 
 // A row of it weighs as much as a row may, 16,777,216, also if it is a null. Sixteen rows weigh as much as a table may.
 const COLUMNS: &[&str] = &["a:fixed_binary(16777214)?"];
+
+const CSV: TextForm<'static> = TextForm::Csv(FieldForm {
+    null_text: b"-",
+    dates: DateForm::Numbers,
+});
 
 struct Case {
     form: TextForm<'static>,
@@ -16,28 +22,28 @@ struct Case {
 
 const CASES: &[Case] = &[
     Case {
-        form: TextForm::Csv { null_text: "-" },
+        form: CSV,
         header: "a\n",
         line: "-\n",
         rows: 16,
         heavy: false,
     },
     Case {
-        form: TextForm::Csv { null_text: "-" },
+        form: CSV,
         header: "a\n",
         line: "-\n",
         rows: 17,
         heavy: true,
     },
     Case {
-        form: TextForm::JsonLines,
+        form: TextForm::JsonLines(DateForm::Numbers),
         header: "",
         line: "[null]\n",
         rows: 16,
         heavy: false,
     },
     Case {
-        form: TextForm::JsonLines,
+        form: TextForm::JsonLines(DateForm::Numbers),
         header: "",
         line: "[null]\n",
         rows: 17,

@@ -9,6 +9,8 @@ mod batches;
 #[cfg(test)]
 mod bitmaps;
 #[cfg(test)]
+mod dates;
+#[cfg(test)]
 mod dictionaries;
 #[cfg(test)]
 mod dictionary_batches;
@@ -20,6 +22,8 @@ mod made;
 mod messages;
 #[cfg(test)]
 mod queries;
+#[cfg(test)]
+mod query_dates;
 #[cfg(test)]
 mod read_streams;
 #[cfg(test)]

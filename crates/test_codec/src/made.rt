@@ -1,5 +1,6 @@
 // What the tests share: making schemas and tables, and comparing values with texts.
 use arrow_schema::Schema;
+use civil_days::DateForm;
 use field_texts::{ParseError, parse_fields};
 use std::alloc::{AllocError, AllocFailed, Global};
 use std::process::Abort;
@@ -67,7 +68,7 @@ pub fn table_of_rows(alloc: Global, columns: &[&str], rows: Vec<Row>) -> Result<
 /// Makes the table of the rows of a text of JSON Lines.
 pub fn table_of_lines(alloc: Global, columns: &[&str], text: &str) -> Result<Table, NotMade> {
     let schema = schema_of_columns(alloc, columns)?;
-    match jsonl_rows(alloc, &schema, text.as_bytes()) {
+    match jsonl_rows(alloc, DateForm::Numbers, &schema, text.as_bytes()) {
         Ok(rows) => table_of_rows(alloc, columns, rows),
         Err(_) => Err(NotMade),
     }

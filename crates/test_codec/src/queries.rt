@@ -9,8 +9,8 @@ use crate::made::{NotMade, assert_no_row, schema_of_columns, table_of_lines};
 use ipc_encode::encode;
 use ipc_stream::decode;
 use query::{
-    BatchArrays, Condition, Query, QueryError, RowForm, are_named_apart, bind_query, choose_rows,
-    next_set, push_line_in, push_set_lines,
+    BatchArrays, Condition, DateForm, Query, QueryError, RowForm, RowShape, are_named_apart,
+    bind_query, choose_rows, next_set, push_line_in, push_set_lines,
 };
 use std::alloc::{AllocError, Global};
 use values::Table;
@@ -129,6 +129,7 @@ fn query_of(alloc: Global, case: &Case) -> Result<Query, QueryError> {
         columns: names_of(alloc, case.0)?,
         conditions,
         limit: case.2,
+        dates: DateForm::Numbers,
     })
 }
 
@@ -237,7 +238,14 @@ const OBJECTS: &[(&[&str], &str, &str)] = &[
     ),
 ];
 
-fn is_line(alloc: Global, table: &Table, form: RowForm, want: &str) -> Result<bool, NotMade> {
+fn is_line(
+    alloc: Global,
+    table: &Table,
+    shape: RowShape,
+    dates: DateForm,
+    want: &str,
+) -> Result<bool, NotMade> {
+    let form = RowForm { shape, dates };
     let mut text = Vec::from_slice(alloc, b">")?;
     match table.row(0) {
         None => return Err(NotMade),
@@ -246,17 +254,24 @@ fn is_line(alloc: Global, table: &Table, form: RowForm, want: &str) -> Result<bo
     Ok(text.starts_with(b">") && text.get(1..) == Some(want.as_bytes()))
 }
 
-fn are_lines(alloc: Global, table: &Table, line: &str, object: &str) -> Result<bool, NotMade> {
+/// Returns whether the first row is printed as this array and this object.
+pub fn are_lines(
+    alloc: Global,
+    table: &Table,
+    dates: DateForm,
+    line: &str,
+    object: &str,
+) -> Result<bool, NotMade> {
     Ok(
-        is_line(alloc, table, RowForm::Array, line)?
-            && is_line(alloc, table, RowForm::Object, object)?,
+        is_line(alloc, table, RowShape::Array, dates, line)?
+            && is_line(alloc, table, RowShape::Object, dates, object)?,
     )
 }
 
 fn wrongly_printed(alloc: Global) -> Result<Option<usize>, NotMade> {
     for (place, (columns, line, object)) in OBJECTS.iter().enumerate() {
         let table = table_of_lines(alloc, columns, line)?;
-        if !are_lines(alloc, &table, line, object)? {
+        if !are_lines(alloc, &table, DateForm::Numbers, line, object)? {
             return Ok(Some(place));
         }
     }
@@ -313,7 +328,10 @@ fn push_lines(
     if batch.rows > 8 || start > 8 || mask.len() < 2 {
         return Err(NotMade);
     }
-    let form = RowForm::Array;
+    let form = RowForm {
+        shape: RowShape::Array,
+        dates: DateForm::Numbers,
+    };
     let count = push_set_lines(alloc, text, form, fields, batch, mask, start, most)?;
     Ok(count)
 }

@@ -1,12 +1,18 @@
 // Tests of a table of several parts (values): that of a text whose column has more values than its indices can name (text_columns).
 use crate::made::{NotMade, schema_of_columns, table_of_rows};
+use civil_days::DateForm;
 use ipc_encode::encode;
 use std::alloc::{AllocError, Global};
 use text_columns::csv_table;
-use text_import::csv_rows;
+use text_import::{FieldForm, csv_rows};
 use values::{Table, ValueRef, Values};
 
 const COLUMNS: &[&str] = &["a:dict<int8,utf8>", "b:int16"];
+
+const FORM: FieldForm<'static> = FieldForm {
+    null_text: b"",
+    dates: DateForm::Numbers,
+};
 
 // More rows than the indices of two parts can name values, of which each has 128.
 const ROWS: usize = 300;
@@ -67,7 +73,7 @@ fn table_in_parts(alloc: Global, text: &str) -> Result<Table, NotMade> {
     if schema.check().is_err() {
         return Err(NotMade);
     }
-    match csv_table(alloc, &schema, text.as_bytes(), "") {
+    match csv_table(alloc, &schema, text.as_bytes(), &FORM) {
         Ok(Some(weighed)) => Ok(weighed.table),
         _ => Err(NotMade),
     }
@@ -76,7 +82,7 @@ fn table_in_parts(alloc: Global, text: &str) -> Result<Table, NotMade> {
 // Makes the table of the same rows, which is kept as rows.
 fn table_as_rows(alloc: Global, text: &str) -> Result<Table, NotMade> {
     let schema = schema_of_columns(alloc, COLUMNS)?;
-    match csv_rows(alloc, &schema, text.as_bytes(), "") {
+    match csv_rows(alloc, &schema, text.as_bytes(), &FORM) {
         Ok(rows) => table_of_rows(alloc, COLUMNS, rows),
         Err(_) => Err(NotMade),
     }

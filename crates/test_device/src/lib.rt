@@ -10,6 +10,8 @@ mod commits;
 #[cfg(test)]
 mod damaged_stores;
 #[cfg(test)]
+mod doubted_file;
+#[cfg(test)]
 mod failing_file;
 #[cfg(test)]
 mod failing_row;

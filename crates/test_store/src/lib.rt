@@ -4,6 +4,8 @@
 #![tactic(auto)]
 
 #[cfg(test)]
+mod chance;
+#[cfg(test)]
 mod commands;
 #[cfg(test)]
 mod compactions;
@@ -21,6 +23,8 @@ mod inputs;
 mod interleavings;
 #[cfg(test)]
 mod limits;
+#[cfg(test)]
+mod lists;
 #[cfg(test)]
 mod lowest_runs;
 #[cfg(test)]

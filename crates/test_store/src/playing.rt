@@ -5,7 +5,8 @@ use crate::steps::{Call, Step, Steps, call_of, says};
 use sector_dev::ModelDevice;
 use std::alloc::Global;
 use store::{
-    Compaction, FormatVersion, OpeningRefusal, Reply, Store, StoreOrDevice, Upgraded, run,
+    Compaction, FormatVersion, ListRefusal, OpeningRefusal, Reply, Store, StoreOrDevice, Upgraded,
+    run,
 };
 use tables::{Command, Refusal};
 
@@ -66,6 +67,14 @@ fn applied(alloc: Global, store: &mut Store<ModelDevice>, command: Command) -> R
     match store.apply(alloc, command) {
         Ok(()) => Reply::Done,
         Err(refusal) => Reply::Refused(refusal),
+    }
+}
+
+fn all_applied(alloc: Global, store: &mut Store<ModelDevice>, commands: Vec<Command>) -> Reply {
+    match store.apply_all(alloc, commands) {
+        Ok(()) => Reply::Done,
+        Err(ListRefusal::At { place, refusal }) => Reply::RefusedAt { place, refusal },
+        Err(ListRefusal::Whole(refusal)) => Reply::Refused(refusal),
     }
 }
 
@@ -169,6 +178,7 @@ fn compacted(alloc: Global, store: &mut Store<ModelDevice>) -> Reply {
 fn reply_of(alloc: Global, store: &mut Store<ModelDevice>, call: Call) -> Reply {
     match call {
         Call::Apply(command) => applied(alloc, store, command),
+        Call::ApplyAll(commands) => all_applied(alloc, store, commands),
         Call::ImportFrom { name, reader } => imported(alloc, store, &name, reader),
         Call::AppendFrom { name, reader } => appended(alloc, store, &name, reader),
         Call::Tables => listed(alloc, store),

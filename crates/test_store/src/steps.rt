@@ -1,4 +1,5 @@
 // Calls of a place as data, and replies as texts.
+use crate::chance::drawn_commands;
 use crate::inputs::{Given, Input, bytes_of, new_schema, rows_of};
 use crate::made::NotMade;
 use crate::pieces::{PieceReader, Pieces};
@@ -6,7 +7,7 @@ use arrow_schema::Schema;
 use field_texts::field_text;
 use ipc_encode::encode;
 use ipc_stream::{decode, decode_weighed};
-use query::{Condition, Query};
+use query::{Condition, DateForm, Query};
 use std::alloc::Global;
 use store::Reply;
 use tables::{Command, NewTable};
@@ -31,6 +32,10 @@ pub enum Step {
     Save(&'static str, &'static str, Asked),
     Rename(&'static str, &'static str),
     Remove(&'static str),
+    /// Several commands as one, drawn by this number.
+    Together(u64),
+    /// Several commands as one, after which the table has only the rows that a query selects.
+    Keep(&'static str, Asked),
     Tables,
     Schema(&'static str),
     Read(&'static str),
@@ -108,6 +113,7 @@ pub fn query(alloc: Global, asked: Asked) -> Result<Query, NotMade> {
         columns: texts(alloc, asked.0)?,
         conditions: conditions(alloc, asked.1)?,
         limit: asked.2,
+        dates: DateForm::Numbers,
     })
 }
 
@@ -144,6 +150,27 @@ fn command_of(alloc: Global, step: Step) -> Result<Command, NotMade> {
     }
 }
 
+/// Returns the commands of steps.
+pub fn commands_of(alloc: Global, steps: &[Step]) -> Result<Vec<Command>, NotMade> {
+    let mut commands = Vec::new(alloc);
+    for step in steps {
+        commands.push(command_of(alloc, *step)?)?;
+    }
+    Ok(commands)
+}
+
+// Returns the commands that keep only these rows of a table.
+fn keeping(alloc: Global, name: &'static str, asked: Asked) -> Result<Vec<Command>, NotMade> {
+    commands_of(
+        alloc,
+        &[
+            Step::Save(name, "kept", asked),
+            Step::Remove(name),
+            Step::Rename("kept", name),
+        ],
+    )
+}
+
 fn reader(alloc: Global, input: Input, pieces: Pieces) -> Result<PieceReader, NotMade> {
     Ok(PieceReader::new(bytes_of(alloc, input)?, pieces))
 }
@@ -171,6 +198,10 @@ pub fn call_of(alloc: Global, step: Step) -> Result<Call, NotMade> {
             name: String::from_str(alloc, name)?,
             reader: reader(alloc, input, pieces)?,
         },
+        Step::Together(seed) => {
+            Call::ApplyAll(commands_of(alloc, &drawn_commands(alloc, seed)?)?)
+        }
+        Step::Keep(name, asked) => Call::ApplyAll(keeping(alloc, name, asked)?),
         command => Call::Apply(command_of(alloc, command)?),
     })
 }
@@ -276,6 +307,7 @@ fn add_reply(alloc: Global, text: &mut String, reply: &Reply) -> Result<(), NotM
         Reply::Nothing => Ok(text.push_str("nothing")?),
         Reply::Already => Ok(text.push_str("already")?),
         Reply::Refused(refusal) => Ok(write!(text, "{refusal}")?),
+        Reply::RefusedAt { place, refusal } => Ok(write!(text, "{refusal} of {place}")?),
         Reply::NotOpened(refusal) => Ok(write!(text, "{refusal}")?),
     }
 }

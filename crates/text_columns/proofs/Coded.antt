@@ -41,6 +41,7 @@ use Rattle.text_columns.specs.declared.column_values.ColumnValues.{ColumnValues}
 use Rattle.text_columns.specs.declared.column_values.ColumnValues.TheVariants.{Nulls, Booleans, Integers, Texts, Binaries, FixedBinaries}
 use Rattle.text_columns.specs.inner.Kept.{Clears, Codes, ComesLast, Holds, HoldsCells, IsCoded, IsOf, PushesPlace, Takes, TakesCodedText, TakesField, TakesNull, TakesNullCell, TakesText, bit_key, first_key, has_texts, index_type, key_list, key_of, value_bytes}
 use Rattle.text_columns.proofs.Taken.{one_joined}
+use Rattle.civil_days.specs.declared.date_form.DateForm.TheVariants.{Numbers}
 
 -- ---- types without parts
 
@@ -436,7 +437,7 @@ value_coded old new values values2 p same one index kind cells c h t fits =
 
 -- a string of a type of strings
 record IsString (kind : Kind) (t : List ℕ) : Type 0 where
-  read : cell_of_text kind t ≡ Ok (text t)
+  read : cell_of_text Numbers kind t ≡ Ok (text t)
   weighs : kind_weight kind (text t) ≡ 1 + length t
   key : t ≡ key_of kind (text t)
   fits : fits_kind kind (text t) ≡ true
@@ -477,7 +478,7 @@ unfolding fits_kind
 boolean_fits None x h = absurd cc
 boolean_fits (Some b) x h = (let same : boolean b ≡ x = cc in rw (← same) refl)
 
-pub text_fits : (kind : Kind) (t : List ℕ) (x : Cell) → is_nested kind ≡ false → cell_of_text kind t ≡ Ok x → fits_kind kind x ≡ true
+pub text_fits : (kind : Kind) (t : List ℕ) (x : Cell) → is_nested kind ≡ false → cell_of_text Numbers kind t ≡ Ok x → fits_kind kind x ≡ true
 unfolding cell_of_text
 text_fits booleans t x flat h = boolean_fits (typed_boolean t) x h
 text_fits (integers bits signed) t x flat h = number_fits_kind (integers bits signed) (typed_integer t) x h

@@ -23,6 +23,7 @@ use Rattle.text_columns.specs.inner.Lines.{HasItemRow, KeepsItems, KeepsNext, Ke
 use Rattle.text_columns.proofs.LineRows.{none_behind}
 use Rattle.text_columns.proofs.MemberGrammar.{converted_some, twice, value_shorter, value_there}
 use Rattle.text_columns.proofs.Rows.{at_end, at_other, at_set, column_more, dropped_here, none_weigh, parts_weigh, taken_here, there_within}
+use Rattle.civil_days.specs.declared.date_form.DateForm.TheVariants.{Numbers}
 
 -- ---- the items of an array
 
@@ -68,7 +69,7 @@ array_read (Some p) = twice array p.1 (of_items p.0)
 pub record ItemHalf (cs : List Column) (found : List Data) (rows : List (List Cell)) (i weight : ℕ) (bs : List ColumnBuilder) : Type 0 where
   pub row : List Cell
   pub len : length row ≡ i
-  pub read : (more : Items) → cells_behind row (cells_by_place (columns_of (drop i cs)) more) ≡ cells_by_place (columns_of cs) (prepend found more)
+  pub read : (more : Items) → cells_behind row (cells_by_place Numbers (columns_of (drop i cs)) more) ≡ cells_by_place Numbers (columns_of cs) (prepend found more)
   pub weighs : 1 + parts_weight (columns_of (take i cs)) (cells_of row) ≡ weight
   pub count : length bs ≡ length cs
   pub done : (j : ℕ) (c : Column) (b : ColumnBuilder) → j < i → slice_get cs j ≡ Some c → slice_get bs j ≡ Some b → Keeps c (column_at j rows ++ get_or row j null ∷ []) b
@@ -78,17 +79,17 @@ item_half_none : (cs : List Column) (rows : List (List Cell)) (bs : List ColumnB
 item_half_none cs rows bs k = record {
   row = [];
   len = refl;
-  read = λ more. none_behind (cells_by_place (columns_of cs) more);
+  read = λ more. none_behind (cells_by_place Numbers (columns_of cs) more);
   weighs = none_weigh [];
   count = k.count;
   done = λ j c b lt. absurd (omega arith);
   rest = λ j c b le. k.each j c b;
 }
 
-placed_more : (so : List Cell) (c : Column) (cs : Columns) (d : Data) (ds : Items) (x : Cell) → cell_in c d ≡ Ok x
-    → cells_behind so (cells_by_place (and_column c cs) (item d ds)) ≡ cells_behind (so ++ x ∷ []) (cells_by_place cs ds)
+placed_more : (so : List Cell) (c : Column) (cs : Columns) (d : Data) (ds : Items) (x : Cell) → cell_in Numbers c d ≡ Ok x
+    → cells_behind so (cells_by_place Numbers (and_column c cs) (item d ds)) ≡ cells_behind (so ++ x ∷ []) (cells_by_place Numbers cs ds)
 unfolding cells_by_place
-placed_more so c cs d ds x e = rw e (cells_behind_more so x (cells_by_place cs ds))
+placed_more so c cs d ds x e = rw e (cells_behind_more so x (cells_by_place Numbers cs ds))
 
 item_half_more : (cs : List Column) (found : List Data) (rows : List (List Cell)) (i weight more depth : ℕ) (left right : List Token) (bs : List ColumnBuilder) (old new : ColumnBuilder) → slice_get bs i ≡ Some old
     → (keeps : KeepsNext depth left right more old new) → ItemHalf cs found rows i weight bs → ItemHalf cs (found ++ keeps.data_is ∷ []) rows (i + 1) (weight + more) (set bs i new)
@@ -105,9 +106,9 @@ item_half_more cs found rows i weight more depth left right bs old new here keep
       row = h.row ++ k.kept ∷ [];
       len = length-append h.row (k.kept ∷ []) ∙ ap (λ (n : ℕ). n + 1) h.len;
       read = λ ds.
-          let before : cells_behind h.row (cells_by_place (columns_of (c ∷ drop (suc i) cs)) (item d ds)) ≡ cells_by_place (columns_of cs) (prepend found (item d ds)) =
-          subst (λ (xs : List Column). cells_behind h.row (cells_by_place (columns_of xs) (item d ds)) ≡ cells_by_place (columns_of cs) (prepend found (item d ds))) fields (h.read (item d ds)) in
-          rw one (sym (placed_more h.row c (columns_of (drop (suc i) cs)) d ds k.kept k.read) ∙ before ∙ ap (cells_by_place (columns_of cs)) (prepend_more found d ds));
+          let before : cells_behind h.row (cells_by_place Numbers (columns_of (c ∷ drop (suc i) cs)) (item d ds)) ≡ cells_by_place Numbers (columns_of cs) (prepend found (item d ds)) =
+          subst (λ (xs : List Column). cells_behind h.row (cells_by_place Numbers (columns_of xs) (item d ds)) ≡ cells_by_place Numbers (columns_of cs) (prepend found (item d ds))) fields (h.read (item d ds)) in
+          rw one (sym (placed_more h.row c (columns_of (drop (suc i) cs)) d ds k.kept k.read) ∙ before ∙ ap (cells_by_place Numbers (columns_of cs)) (prepend_more found d ds));
       weighs = rw (one, taken_here cs i c col) (omega (arith, weighed, h.weighs, k.weighs));
       count = length-set bs i new ∙ h.count;
       done = λ j e b lt dc db. elim (cases_lt j i) [
@@ -133,11 +134,11 @@ item_half_all : (cs : List Column) (found : List Data) (rows : List (List Cell))
 item_half_all cs found rows i weight bs le h =
     let none : drop i cs ≡ [] = drop_all i cs (omega (arith, le, h.count)) in
     let all : take i cs ≡ cs = take_all i cs (omega (arith, le, h.count)) in
-    let read : cells_behind h.row (cells_by_place (columns_of []) no_items) ≡ cells_by_place (columns_of cs) (prepend found no_items) =
-    subst (λ (xs : List Column). cells_behind h.row (cells_by_place (columns_of xs) no_items) ≡ cells_by_place (columns_of cs) (prepend found no_items)) none (h.read no_items) in
+    let read : cells_behind h.row (cells_by_place Numbers (columns_of []) no_items) ≡ cells_by_place Numbers (columns_of cs) (prepend found no_items) =
+    subst (λ (xs : List Column). cells_behind h.row (cells_by_place Numbers (columns_of xs) no_items) ≡ cells_by_place Numbers (columns_of cs) (prepend found no_items)) none (h.read no_items) in
     record {
       row = h.row;
-      read = sym read ∙ places_end h.row no_items;
+      read = sym read ∙ places_end Numbers h.row no_items;
       weighs = rw all at h.weighs;
       keeps = record {
         count = h.count;

@@ -24,3 +24,4 @@ pub mod Starts
 pub mod LexemeGrammar
 pub mod ShortNumbers
 pub mod LineSteps
+pub mod Forms

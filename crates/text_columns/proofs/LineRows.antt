@@ -48,6 +48,7 @@ use Rattle.text_columns.specs.inner.Lines.{Completes, CompletesRow, HasKeptValue
 use Rattle.text_columns.proofs.MemberGrammar.{member_read, members_over, object_read, text_read, value_shorter}
 use Rattle.text_columns.proofs.FewEntries.{row_fits}
 use Rattle.text_columns.proofs.Rows.{at_end, at_other, at_set, column_more, dropped_here, none_weigh, parts_weigh, taken_here, there_within}
+use Rattle.civil_days.specs.declared.date_form.DateForm.TheVariants.{Numbers}
 
 -- ---- names
 
@@ -186,7 +187,7 @@ members_all depth names all left new ws0 ws bs0 bs key m = record {
 pub record NamedHalf (cs : List Column) (found : Members) (rows : List (List Cell)) (i weight : ℕ) (ws : List (Option ℕ)) (bs : List ColumnBuilder) : Type 0 where
   pub row : List Cell
   pub len : length row ≡ i
-  pub read : cells_behind row (cells_by_name (columns_of (drop i cs)) found) ≡ cells_by_name (columns_of cs) found
+  pub read : cells_behind row (cells_by_name Numbers (columns_of (drop i cs)) found) ≡ cells_by_name Numbers (columns_of cs) found
   pub weighs : 1 + parts_weight (columns_of (take i cs)) (cells_of row) ≡ weight
   pub count : length bs ≡ length cs
   pub counted : length ws ≡ length cs
@@ -202,7 +203,7 @@ pub named_none : (cs : List Column) (found : Members) (rows : List (List Cell)) 
 named_none cs found rows ws bs h = record {
   row = [];
   len = refl;
-  read = none_behind (cells_by_name (columns_of cs) found);
+  read = none_behind (cells_by_name Numbers (columns_of cs) found);
   weighs = none_weigh [];
   count = h.count;
   counted = h.counted;
@@ -223,7 +224,7 @@ named_more cs found rows i weight more w ws bs old new here weighed completes h 
     record {
       row = h.row ++ k.kept ∷ [];
       len = length-append h.row (k.kept ∷ []) ∙ ap (λ (n : ℕ). n + 1) h.len;
-      read = rw one (sym (name_more h.row c (columns_of (drop (suc i) cs)) found k.kept k.read) ∙ rw fields at h.read);
+      read = rw one (sym (name_more Numbers h.row c (columns_of (drop (suc i) cs)) found k.kept k.read) ∙ rw fields at h.read);
       weighs = rw (one, taken_here cs i c col) (omega (arith, sum, h.weighs, k.weighs));
       count = length-set bs i new ∙ h.count;
       counted = h.counted;
@@ -252,7 +253,7 @@ named_all cs found rows i weight ws bs le h =
     let all : take i cs ≡ cs = take_all i cs (omega (arith, le, h.count)) in
     record {
       row = h.row;
-      read = sym (rw none at h.read) ∙ names_end h.row found;
+      read = sym (rw none at h.read) ∙ names_end Numbers h.row found;
       weighs = rw all at h.weighs;
       keeps = record {
         count = h.count;
@@ -317,7 +318,7 @@ object_kept names inside rest weight bs bs2 ends k =
 pub record LinesRead (s : PlainSchema) (lines left : List (List ℕ)) (weight : ℕ) (b : Batches) : Type 0 where
   pub number : ℕ
   pub rows : List (List Cell)
-  pub read : behind rows (rows_from (line_row s) (number + 1) (filled_lines left)) ≡ rows_from (line_row s) 1 (filled_lines lines)
+  pub read : behind rows (rows_from (line_row Numbers s) (number + 1) (filled_lines left)) ≡ rows_from (line_row Numbers s) 1 (filled_lines lines)
   pub weighs : table_weight s rows ≡ weight
   pub holds : HoldRows s rows b
 
@@ -333,14 +334,14 @@ pub lines_skipped : (s : PlainSchema) (lines left others : List (List ℕ)) (wei
 lines_skipped s lines left others weight line b here blank h = record {
   number = h.number;
   rows = h.rows;
-  read = ap (λ (xs : List (List ℕ)). behind h.rows (rows_from (line_row s) (h.number + 1) xs)) (sym (blank_first left others line here blank)) ∙ h.read;
+  read = ap (λ (xs : List (List ℕ)). behind h.rows (rows_from (line_row Numbers s) (h.number + 1) xs)) (sym (blank_first left others line here blank)) ∙ h.read;
   weighs = h.weighs;
   holds = h.holds;
 }
 
 -- a row that is not too heavy is accepted
-line_accepted : (s : PlainSchema) (line : List ℕ) (d : Data) (row : List Cell) (weight : ℕ) → line_value line ≡ Ok d → cells_in (columns_of s.columns) d ≡ Ok (cells_of row)
-    → 1 + parts_weight (columns_of s.columns) (cells_of row) ≡ weight → weight ≤ 16777216 → dictionaries_fit s (row ∷ []) ≡ true → line_row s line ≡ Ok row
+line_accepted : (s : PlainSchema) (line : List ℕ) (d : Data) (row : List Cell) (weight : ℕ) → line_value line ≡ Ok d → cells_in Numbers (columns_of s.columns) d ≡ Ok (cells_of row)
+    → 1 + parts_weight (columns_of s.columns) (cells_of row) ≡ weight → weight ≤ 16777216 → dictionaries_fit s (row ∷ []) ≡ true → line_row Numbers s line ≡ Ok row
 line_accepted s line d row weight value cells weighs few full =
     let light : nat_lt 16777216 (row_weight s row) ≡ false = le-ltb _ _ (omega (arith, weighs, few)) in
     rw (value, cells, cells_listed row, light, full) refl
@@ -354,23 +355,23 @@ lines_more s names lines left others weight more line b b2 here blank named dist
     let full = row_fits s held.last b.builders.items v.row held.keeps in
     let row = line_accepted s line keeps.data_is v.row more keeps.read v.read v.weighs few full in
     let i = h.number in
-    let given : numbered (i + 1) (line_row s line) ≡ Ok v.row = rw row refl in
+    let given : numbered (i + 1) (line_row Numbers s line) ≡ Ok v.row = rw row refl in
     let next = filled_first left others line here blank in
     let joined = sum_by-append (row_weight s) h.rows (v.row ∷ []) in
     record {
       number = i + 1;
       rows = h.rows ++ v.row ∷ [];
-      read = sym (row_more (line_row s) (i + 1) h.rows line (filled_lines others) v.row given)
-          ∙ ap (λ (xs : List (List ℕ)). behind h.rows (rows_from (line_row s) (i + 1) xs)) (sym next) ∙ h.read;
+      read = sym (row_more (line_row Numbers s) (i + 1) h.rows line (filled_lines others) v.row given)
+          ∙ ap (λ (xs : List (List ℕ)). behind h.rows (rows_from (line_row Numbers s) (i + 1) xs)) (sym next) ∙ h.read;
       weighs = omega (arith, joined, h.weighs, v.weighs);
       holds = held_more s h.rows v.row b b2 held adds v.keeps;
     }
 
 pub lines_all : (s : PlainSchema) (lines left : List (List ℕ)) (weight : ℕ) (b : Batches) → left ≡ [] → weight ≤ 268435456
-    → LinesRead s lines left weight b → HasRows s (rows_from (line_row s) 1 (filled_lines lines)) weight b
+    → LinesRead s lines left weight b → HasRows s (rows_from (line_row Numbers s) 1 (filled_lines lines)) weight b
 lines_all s lines left weight b none few h = record {
   rows = h.rows;
-  are_read = sym (rw none at h.read) ∙ rows_end (line_row s) (h.number + 1) h.rows;
+  are_read = sym (rw none at h.read) ∙ rows_end (line_row Numbers s) (h.number + 1) h.rows;
   weighs = h.weighs;
   few = few;
   holds = h.holds;

@@ -39,6 +39,7 @@ use Rattle.text_columns.proofs.Nulls.{offsets_pushed}
 use Rattle.text_columns.proofs.StructFields.{fields_hold, fields_kept, held_by, holds_so, no_struct_fixed_list, no_struct_list, parts_more}
 use Rattle.text_columns.proofs.Taken.{one_mapped}
 use Rattle.text_columns.proofs.TokenCells.{null_token}
+use Rattle.civil_days.specs.declared.date_form.DateForm.TheVariants.{Numbers}
 
 -- ---- the items of an array, one after another
 
@@ -46,7 +47,7 @@ use Rattle.text_columns.proofs.TokenCells.{null_token}
 pub record ItemsHalf (c : Column) (found : List Data) (so : List Cell) (weight : ℕ) (b : ColumnBuilder) : Type 0 where
   pub kept : List Cell
   pub len : length kept ≡ length found
-  pub read : (more : Items) → cells_behind kept (each_item (cell_in c) more) ≡ each_item (cell_in c) (prepend found more)
+  pub read : (more : Items) → cells_behind kept (each_item (cell_in Numbers c) more) ≡ each_item (cell_in Numbers c) (prepend found more)
   pub weighs : 1 + sum_of (cell_weight c) (cells_of kept) ≡ weight
   pub keeps : Keeps c (so ++ kept) b
 
@@ -58,7 +59,7 @@ item_behind : (f : Data → _) (so : List Cell) (d : Data) (ds : Items) (x : Cel
 item_behind f so d ds x e = rw e (cells_behind_more so x (each_item f ds))
 
 items_half_none : (c : Column) (so : List Cell) (b : ColumnBuilder) → Keeps c so b → ItemsHalf c [] so 1 b
-items_half_none c so b k = record { kept = []; len = refl; read = λ more. none_behind (each_item (cell_in c) more); weighs = refl; keeps = subst (λ (xs : List Cell). Keeps c xs b) (sym (append-nil so)) k }
+items_half_none c so b k = record { kept = []; len = refl; read = λ more. none_behind (each_item (cell_in Numbers c) more); weighs = refl; keeps = subst (λ (xs : List Cell). Keeps c xs b) (sym (append-nil so)) k }
 
 items_half_more : (c : Column) (found : List Data) (so : List Cell) (weight more : ℕ) (d : Data) (b b2 : ColumnBuilder) → KeepsValue d more b b2 → ItemsHalf c found so weight b
     → ItemsHalf c (found ++ d ∷ []) so (weight + more) b2
@@ -68,7 +69,7 @@ items_half_more c found so weight more d b b2 keeps h =
     record {
       kept = h.kept ++ v.kept ∷ [];
       len = length-append h.kept (v.kept ∷ []) ∙ ap (λ (n : ℕ). n + 1) h.len ∙ sym (length-append found (d ∷ []));
-      read = λ ds. sym (item_behind (cell_in c) h.kept d ds v.kept v.read) ∙ h.read (json.item d ds) ∙ ap (each_item (cell_in c)) (prepend_more found d ds);
+      read = λ ds. sym (item_behind (cell_in Numbers c) h.kept d ds v.kept v.read) ∙ h.read (json.item d ds) ∙ ap (each_item (cell_in Numbers c)) (prepend_more found d ds);
       weighs = omega (arith, weighed, h.weighs, v.weighs);
       keeps = subst (λ (xs : List Cell). Keeps c xs b2) (append_assoc so h.kept (v.kept ∷ [])) v.keeps;
     }
@@ -142,7 +143,7 @@ slots_behind nullable dictionary kind so x old new there slot k = record {
 -- the list of a type that such an array is, and the buffers below it
 record HasList (kind : Kind) (found : Items) (weight : ℕ) (so : List Cell) (new : ColumnBuilder) : Type 0 where
   pub kept : List Cell
-  pub read : kind_in kind (array found) ≡ Ok (items (cells_of kept))
+  pub read : kind_in Numbers kind (array found) ≡ Ok (items (cells_of kept))
   pub weighs : kind_weight kind (items (cells_of kept)) ≡ weight
   pub parts : KeepsBelow kind (so ++ items (cells_of kept) ∷ []) new
 
@@ -264,7 +265,7 @@ fixed_list_step depth inside rest taken slots slots2 size p p2 old new (Ok (Some
 -- the struct of a type that a value is, and the buffers below it
 record HasStruct (kind : Kind) (d : Data) (weight : ℕ) (so : List Cell) (new : ColumnBuilder) : Type 0 where
   pub kept : List Cell
-  pub read : kind_in kind d ≡ Ok (parts (cells_of kept))
+  pub read : kind_in Numbers kind d ≡ Ok (parts (cells_of kept))
   pub weighs : kind_weight kind (parts (cells_of kept)) ≡ weight
   pub below : KeepsBelow kind (so ++ parts (cells_of kept) ∷ []) new
 
@@ -282,7 +283,7 @@ struct_kept (structs columns) d weight so slots slots2 names names2 old new same
     let h = row (list_of columns) (map part_list so) named (ap repeats k.names_are ∙ k.distinct) (fields_kept columns so (key_list names.names.keys) old.items k) in
     record {
       kept = h.row;
-      read = ap (given parts) (subst (λ (cs : Columns). cells_in cs d ≡ Ok (cells_of h.row)) all h.read);
+      read = ap (given parts) (subst (λ (cs : Columns). cells_in Numbers cs d ≡ Ok (cells_of h.row)) all h.read);
       weighs = subst (λ (cs : Columns). 1 + parts_weight cs (cells_of h.row) ≡ weight) all h.weighs;
       below = holds_so columns (so ++ parts (cells_of h.row) ∷ []) slots2 names2 new
           (fields_hold columns (so ++ parts (cells_of h.row) ∷ []) (key_list names2.names.keys) new.items (ap (λ s. key_list s.keys) same ∙ k.names_are) k.distinct k.unlimited
@@ -297,7 +298,7 @@ struct_value d weight slots slots2 names names2 old new opened same slot row (co
     let h = struct_kept kind d weight so slots slots2 names names2 old new same row k.parts in
     record {
       kept = parts (cells_of h.kept);
-      read = opened.none nullable (kind_in kind) ∙ h.read;
+      read = opened.none nullable (kind_in Numbers kind) ∙ h.read;
       weighs = h.weighs;
       keeps = record { slots = slots_behind nullable dictionary kind so (parts (cells_of h.kept)) slots slots2 refl slot k.slots; parts = h.below };
     }

@@ -36,6 +36,7 @@ use Rattle.text_columns.specs.inner.Kept.{AppendsInteger, Clears, Codes, HasCell
 use Rattle.text_columns.specs.inner.Lines.{AppendsBinary, AppendsBit, AppendsFixedBinary, AppendsNumber, AppendsString, Completes, KeepsNull, KeepsToken, KeepsValue, TakesCellToken, TakesCodedToken, TakesNumber, TakesToken, TakesValue, integer_in, token_data}
 use Rattle.text_columns.proofs.Coded.{bytes_fit_kind, number_fits_kind, fitting_fits, own_flat, own_kind, with_one}
 use Rattle.text_columns.proofs.Taken.{contents_hold, dates_read, null_weighs, one_joined, one_mapped, times_read, width_fits}
+use Rattle.civil_days.specs.declared.date_form.DateForm.TheVariants.{Numbers}
 
 -- ---- values of a type
 
@@ -210,7 +211,7 @@ not_null nullable f json.null other = absurd (other refl)
 not_null nullable f _ other = refl
 
 value_behind : (d : Data) (weight : ℕ) (old new : FlatBuilder) → (d ≡ json.null → ⊥) → new.nullable ≡ old.nullable → new.valid.items ≡ old.valid.items ++ true ∷ []
-    → ((dictionary : Option Index) (kind : Kind) (so : List Cell) → HoldsCells dictionary kind so old.values old.coding → HasCell dictionary kind (kind_in kind d) weight so new.values new.coding)
+    → ((dictionary : Option Index) (kind : Kind) (so : List Cell) → HoldsCells dictionary kind so old.values old.coding → HasCell dictionary kind (kind_in Numbers kind d) weight so new.values new.coding)
     → KeepsValue d weight (Flat old) (Flat new)
 unfolding cell_in weight
 value_behind d weight old new other same valid takes (column name nullable kind dictionary pairs) so k =
@@ -218,7 +219,7 @@ value_behind d weight old new other same valid takes (column name nullable kind 
     let there : old.valid.items ++ true ∷ [] ≡ old.valid.items ++ is_there h.taken ∷ [] = ap (λ (b : Bool). old.valid.items ++ b ∷ []) (sym h.there) in
     record {
       kept = h.taken;
-      read = not_null nullable (kind_in kind) d other ∙ h.read;
+      read = not_null nullable (kind_in Numbers kind) d other ∙ h.read;
       weighs = h.weighs;
       keeps = (same ∙ k.0, one_mapped is_there so h.taken old.valid.items new.valid.items k.1 (valid ∙ there), h.holds);
     }
@@ -250,7 +251,7 @@ large_fits : (x : Cell) → fits_kind texts x ≡ true → fits_kind large_texts
 unfolding fits_kind
 large_fits x h = h
 
-value_fits : (kind : Kind) (d : Data) (x : Cell) → is_nested kind ≡ false → kind_in kind d ≡ Ok x → fits_kind kind x ≡ true
+value_fits : (kind : Kind) (d : Data) (x : Cell) → is_nested kind ≡ false → kind_in Numbers kind d ≡ Ok x → fits_kind kind x ≡ true
 unfolding kind_in
 value_fits booleans d x flat h = boolean_fits_in d x h
 value_fits (integers bits signed) d x flat h = number_fits_in (integers bits signed) d x h
@@ -283,7 +284,7 @@ token_coded t weight old new values values2 cleared one clears taken codes = rec
 }
 
 -- the cell of a string is that of its text
-string_read : (kind : Kind) (values : ColumnValues) (s : List ℕ) → has_texts values ≡ true → IsOf kind values → kind_in kind (json.string s) ≡ cell_of_text kind s
+string_read : (kind : Kind) (values : ColumnValues) (s : List ℕ) → has_texts values ≡ true → IsOf kind values → kind_in Numbers kind (json.string s) ≡ cell_of_text Numbers kind s
 unfolding kind_in cell_of_text fits_kind
 string_read texts (Texts width offsets contents) s strings is = refl
 string_read large_texts (Texts width offsets contents) s strings is = refl
@@ -303,7 +304,7 @@ coded_string_step t s old new values values2 (Ok (Some weight)) is strings h = r
 }
 
 plain_taken : (d : Data) (weight : ℕ) (old new : ColumnValues) → TakesValue d weight old new → (dictionary : Option Index) (kind : Kind) (so : List Cell) → HoldsCells dictionary kind so old None
-    → HasCell dictionary kind (kind_in kind d) weight so new None
+    → HasCell dictionary kind (kind_in Numbers kind d) weight so new None
 plain_taken d weight old new takes None kind so h = (let own = takes kind so h in record { taken = own.taken; read = own.read; there = own.there; weighs = own.weighs; holds = own.takes })
 plain_taken d weight old new takes (Some index) kind so h = absurd h
 
@@ -311,8 +312,8 @@ pub plain_token : (t : Token) (weight : ℕ) (old new : ColumnValues) → TakesT
 plain_token t weight old new taken = record { data_is = taken.data_is; read = taken.read; there = taken.there; takes = plain_taken taken.data_is weight old new taken.takes }
 
 coded_taken : (d : Data) (weight : ℕ) (old new : Coding) (values values2 : ColumnValues)
-    → ((index : Index) (kind : Kind) (so : List Cell) → IsCoded index kind so values old → HasCell (Some index) kind (kind_in kind d) weight so values2 (Some new))
-    → (dictionary : Option Index) (kind : Kind) (so : List Cell) → HoldsCells dictionary kind so values (Some old) → HasCell dictionary kind (kind_in kind d) weight so values2 (Some new)
+    → ((index : Index) (kind : Kind) (so : List Cell) → IsCoded index kind so values old → HasCell (Some index) kind (kind_in Numbers kind d) weight so values2 (Some new))
+    → (dictionary : Option Index) (kind : Kind) (so : List Cell) → HoldsCells dictionary kind so values (Some old) → HasCell dictionary kind (kind_in Numbers kind d) weight so values2 (Some new)
 coded_taken d weight old new values values2 takes None kind so h = absurd h
 coded_taken d weight old new values values2 takes (Some index) kind so h = takes index kind so h
 
@@ -332,7 +333,7 @@ coded_token_step t old new values values2 (Err e) h = tt
 coded_token_step t old new values values2 (Ok None) h = tt
 coded_token_step t old new values values2 (Ok (Some weight)) h = coded_token t weight old new values values2 h
 
-null_read : (c : Column) → is_nullable_column c ≡ true → cell_in c json.null ≡ Ok null
+null_read : (c : Column) → is_nullable_column c ≡ true → cell_in Numbers c json.null ≡ Ok null
 unfolding cell_in
 null_read (column name nullable kind dictionary pairs) e = rw e refl
 

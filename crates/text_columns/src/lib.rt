@@ -15,7 +15,8 @@
 //! ```
 //! let fields = field_texts::parse_fields(alloc, &["a:int32?", "s:utf8"])?;
 //! let schema = arrow_schema::Schema { fields, pairs: Vec::new(alloc) };
-//! let read = text_columns::csv_table(alloc, &schema, b"a,s\n1,x\n,\n", "")?;
+//! let form = text_import::FieldForm { null_text: b"", dates: civil_days::DateForm::Numbers };
+//! let read = text_columns::csv_table(alloc, &schema, b"a,s\n1,x\n,\n", &form)?;
 //! ```
 //!
 //! gives a table of two rows in one record batch, 1 and "x", and a null and "", with weight 7.

@@ -8,6 +8,7 @@ ghost use Rattle.text_import.specs.Objects.{jsonl_rows_of, names_of, repeats};
 ghost use Rattle.text_columns.specs.inner.Batches.{AddsRow, HasRows, HoldRows};
 ghost use Rattle.text_columns.specs.inner.Kept.{key_list};
 ghost use Rattle.text_columns.specs.inner.Lines.{KeepsLine, KeepsTokens};
+ghost use Rattle.civil_days.specs.declared.date_form.DateForm.TheVariants.{Numbers};
 
 use crate::batches::Batches;
 use crate::builder::ColumnBuilder;
@@ -154,7 +155,7 @@ pub(crate) fn push_lines(
     requires { repeats (key_list names.now.keys) ≡ false }
     ensures { names_of (columns_of (schema_of schema.now).columns) ≡ key_list names.now.keys → HoldRows (schema_of schema.now) [] batches.old
         → IfOk result (λ read. IfSome read (λ weight.
-        HasRows (schema_of schema.now) (jsonl_rows_of (schema_of schema.now) text.now) weight batches.new)) }
+        HasRows (schema_of schema.now) (jsonl_rows_of Numbers (schema_of schema.now) text.now) weight batches.new)) }
 {
     let mut scratch = Scratch::new(alloc);
     let mut weights = vec![in alloc; None; schema.fields.len()]?;

@@ -8,6 +8,7 @@ ghost use Rattle.text_import.specs.Rows.{rows_from};
 ghost use Rattle.text_import.specs.Stands.{Left};
 ghost use Rattle.text_columns.specs.inner.Batches.{AddsRow, HasRows, HoldRows};
 ghost use Rattle.text_columns.specs.inner.Plain.{IsFieldAt, PushesField, PushesPlain, SkipsEnds, SkipsHeader, begins_quoted, begins_with, ends_field, ends_line};
+ghost use Rattle.text_import.specs.FieldForm.{with_numbers};
 
 use crate::ascii_texts::text_field;
 use crate::batches::Batches;
@@ -265,7 +266,7 @@ fn push_plain_rows(
     requires { from ≤ length text.now }
     ensures { IfOk result (λ read. IfSome read (λ weight. (records : List (List (List ℕ)))
         → Left records st.StartRecord (drop from text.now) → HoldRows (schema_of schema.now) [] batches.old
-        → HasRows (schema_of schema.now) (rows_from (record_row (schema_of schema.now) null_text.now) 1 records) weight batches.new)) }
+        → HasRows (schema_of schema.now) (rows_from (record_row (schema_of schema.now) (with_numbers null_text.now)) 1 records) weight batches.new)) }
 {
     let mut at = from;
     let mut weight = 0;
@@ -302,7 +303,7 @@ pub(crate) fn push_plain_text(
 ) -> Result<Option<u64>, AllocError>
     ensures { IfOk result (λ read. IfSome read (λ weight. (header : List (List ℕ)) (records : List (List (List ℕ)))
         → records_of text.now ≡ header ∷ records → HoldRows (schema_of schema.now) [] batches.old
-        → HasRows (schema_of schema.now) (rows_from (record_row (schema_of schema.now) null_text.now) 1 records) weight batches.new)) }
+        → HasRows (schema_of schema.now) (rows_from (record_row (schema_of schema.now) (with_numbers null_text.now)) 1 records) weight batches.new)) }
 {
     let header = skip_ends(text, behind_mark(text));
     let Some(from) = skip_header(text, header) else {

@@ -6,6 +6,8 @@ ghost use Rattle.text_import.specs.Records.{csv_rows_of};
 ghost use Rattle.text_import.specs.Objects.{jsonl_rows_of, names_of, repeats};
 ghost use Rattle.text_columns.specs.inner.Batches.{HasRows, ReadsBatches};
 ghost use Rattle.text_columns.specs.inner.Kept.{key_list};
+ghost use Rattle.civil_days.specs.declared.date_form.DateForm.TheVariants.{Numbers};
+ghost use Rattle.text_import.specs.FieldForm.{with_numbers};
 
 use crate::batches::{Batches, begin_batches};
 use crate::lines::push_lines;
@@ -33,7 +35,7 @@ fn read_plain(
     text: &[u8],
     null_text: &[u8],
 ) -> Result<Option<WeighedBatches>, TextError>
-    ensures { ReadsBatches (schema_of schema.now) (csv_rows_of (schema_of schema.now) null_text.now text.now) result }
+    ensures { ReadsBatches (schema_of schema.now) (csv_rows_of (schema_of schema.now) (with_numbers null_text.now) text.now) result }
 {
     drop(csv_records(alloc, schema, text)?);
     for ends in [false, true] {
@@ -58,7 +60,7 @@ fn read_records(
     text: &[u8],
     null_text: &[u8],
 ) -> Result<Option<WeighedBatches>, TextError>
-    ensures { ReadsBatches (schema_of schema.now) (csv_rows_of (schema_of schema.now) null_text.now text.now) result }
+    ensures { ReadsBatches (schema_of schema.now) (csv_rows_of (schema_of schema.now) (with_numbers null_text.now) text.now) result }
 {
     for ends in [false, true] {
         let Some(mut batches) = begin_batches(alloc, schema)? else {
@@ -86,7 +88,7 @@ pub(crate) fn read_csv(
     text: &[u8],
     null_text: &[u8],
 ) -> Result<Option<WeighedBatches>, TextError>
-    ensures { ReadsBatches (schema_of schema.now) (csv_rows_of (schema_of schema.now) null_text.now text.now) result }
+    ensures { ReadsBatches (schema_of schema.now) (csv_rows_of (schema_of schema.now) (with_numbers null_text.now) text.now) result }
 {
     match read_plain(alloc, schema, text, null_text)? {
         Some(found) => Ok(Some(found)),
@@ -104,7 +106,7 @@ fn read_text(
 ) -> Result<Option<WeighedBatches>, AllocError>
     requires { repeats (key_list names.now.keys) ≡ false }
     ensures { names_of (columns_of (schema_of schema.now).columns) ≡ key_list names.now.keys → IfOk result (λ found. IfSome found (λ c.
-        HasRows (schema_of schema.now) (jsonl_rows_of (schema_of schema.now) text.now) c.weight c.batches)) }
+        HasRows (schema_of schema.now) (jsonl_rows_of Numbers (schema_of schema.now) text.now) c.weight c.batches)) }
 {
     for ends in [false, true] {
         let Some(mut batches) = begin_batches(alloc, schema)? else {
@@ -127,7 +129,7 @@ pub(crate) fn read_jsonl(
     text: &[u8],
 ) -> Result<Option<WeighedBatches>, AllocError>
     ensures { IfOk result (λ found. IfSome found (λ c.
-        HasRows (schema_of schema.now) (jsonl_rows_of (schema_of schema.now) text.now) c.weight c.batches)) }
+        HasRows (schema_of schema.now) (jsonl_rows_of Numbers (schema_of schema.now) text.now) c.weight c.batches)) }
 {
     let Some(names) = names_of(alloc, &schema.fields)? else {
         return Ok(None);

@@ -9,14 +9,16 @@ ghost use Rattle.text_import.specs.Rows.{rows_from};
 ghost use Rattle.text_import.specs.Stands.{HasLeft};
 ghost use Rattle.text_columns.specs.inner.Batches.{AddsRow, HoldRows, ReadsRows};
 ghost use Rattle.text_columns.specs.inner.Kept.{KeepsFields, KeepsRecord};
+ghost use Rattle.text_import.specs.FieldForm.{with_numbers};
 
 use crate::batches::Batches;
 use crate::builder::ColumnBuilder;
 use arrow_schema::Schema;
 use cells::{MAX_ROW_WEIGHT, MAX_TABLE_WEIGHT, has_limits};
+use civil_days::DateForm;
 use csv::{ByteRecord, Reader};
 use std::alloc::{AllocError, Global};
-use text_import::{TextError, csv_records, numbered_row, read_next, record_field};
+use text_import::{FieldForm, TextError, csv_records, numbered_row, read_next, record_field};
 
 // Appends the cells of as many fields as columns, and returns the weight of their row; `None` if a field is no cell of its column, or the row is too heavy.
 fn push_fields(
@@ -81,9 +83,13 @@ fn refuse(
     number: u64,
 ) -> Result<Option<u64>, TextError>
     ensures { MatchResult result (λ read. read ≡ None)
-        (λ e. Reports (refused_by e) (numbered number (record_row (schema_of schema.now) null_text.now (fields_of row.now)))) }
+        (λ e. Reports (refused_by e) (numbered number (record_row (schema_of schema.now) (with_numbers null_text.now) (fields_of row.now)))) }
 {
-    let _row = numbered_row(alloc, schema, has_limits(schema), null_text, row, number)?;
+    let form = FieldForm {
+        null_text,
+        dates: DateForm::Numbers,
+    };
+    let _row = numbered_row(alloc, schema, has_limits(schema), &form, row, number)?;
     Ok(None)
 }
 
@@ -101,7 +107,7 @@ fn push_records(
 ) -> Result<Option<u64>, TextError>
     ensures { (records : List (List (List ℕ))) → HasLeft reader.old records → length records ≤ most
         → HoldRows (schema_of schema.now) [] batches.old
-        → ReadsRows (schema_of schema.now) (rows_from (record_row (schema_of schema.now) null_text.now) 1 records) result batches.new }
+        → ReadsRows (schema_of schema.now) (rows_from (record_row (schema_of schema.now) (with_numbers null_text.now)) 1 records) result batches.new }
 {
     let mut weight = 0;
     for index in 0..most {
@@ -137,7 +143,7 @@ pub(crate) fn push_rows(
     ends: bool,
 ) -> Result<Option<u64>, TextError>
     ensures { HoldRows (schema_of schema.now) [] batches.old
-        → ReadsRows (schema_of schema.now) (csv_rows_of (schema_of schema.now) null_text.now text.now) result batches.new }
+        → ReadsRows (schema_of schema.now) (csv_rows_of (schema_of schema.now) (with_numbers null_text.now) text.now) result batches.new }
 {
     match csv_records(alloc, schema, text) {
         Ok(mut reader) => {

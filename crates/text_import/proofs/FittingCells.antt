@@ -16,9 +16,15 @@ use Rattle.cells.specs.Typed.{typed_integer, typed_boolean}
 use Rattle.text_import.specs.declared.refusal.Refusal.{Refusal}
 use Rattle.text_import.specs.declared.refusal.Refusal.TheVariants.{NotUtf8, OutOfRange, FixedWidth, Width, AmbiguousNames, UnknownName}
 use Rattle.text_import.specs.Refusals.{and_then, given}
-use Rattle.text_import.specs.Flat.{fitting, number_cell, boolean_cell, bytes_cell, cell_of_text, field_cell}
+use Rattle.text_import.specs.Flat.{fitting, number_cell, spelled_cell, dated_cell, boolean_cell, bytes_cell, cell_of_text, field_cell}
 use Rattle.text_import.specs.Records.{field_cells}
-use Rattle.text_import.specs.Objects.{boolean_in, number_in, text_in, bytes_in, list_in, each_item, item_count, sized, fixed_list_in, null_or_in, member_in, first_item, other_items, column_count, names_of, keys_of, repeats, has_unknown, cell_in, kind_in, cells_by_place, cells_by_name, cells_in}
+use Rattle.text_import.specs.Objects.{boolean_in, number_in, dated_in, text_in, bytes_in, list_in, each_item, item_count, sized, fixed_list_in, null_or_in, member_in, first_item, other_items, column_count, names_of, keys_of, repeats, has_unknown, cell_in, kind_in, cells_by_place, cells_by_name, cells_in}
+use Rattle.civil_days.specs.declared.date_column.DateFault.{DateFault}
+use Rattle.civil_days.specs.declared.date_column.DateFault.TheVariants as faults
+use Rattle.civil_days.specs.declared.date_form.DateForm.{DateForm}
+use Rattle.civil_days.specs.declared.date_form.DateForm.TheVariants.{Numbers, Iso}
+use Rattle.civil_days.specs.Typed.{spelled}
+use Rattle.text_import.specs.FieldForm.{PlainFieldForm}
 
 -- a value of the kind, and no null
 record IsOf (kind : Kind) (x : Cell) : Type 0 where
@@ -52,39 +58,48 @@ bytes_are : (kind : Kind) (r : Result (List ℕ) FromHexError) (x : Cell) → by
 bytes_are kind (Err e) x h = absurd cc
 bytes_are kind (Ok t) x h = fitting_is kind FixedWidth (bytes t) x refl h
 
-text_is : (kind : Kind) (t : List ℕ) (x : Cell) → cell_of_text kind t ≡ Ok x → IsOf kind x
+spelled_is : (kind : Kind) (r : Result ℤ DateFault) (x : Cell) → spelled_cell kind r ≡ Ok x → IsOf kind x
+spelled_is kind (Err faults.NotADate) x h = absurd cc
+spelled_is kind (Err faults.WrongOffset) x h = absurd cc
+spelled_is kind (Ok n) x h = fitting_is kind OutOfRange (number n) x refl h
+
+dated_is : (date_form : DateForm) (kind : Kind) (t : List ℕ) (x : Cell) → dated_cell date_form kind t ≡ Ok x → IsOf kind x
+dated_is Numbers kind t x h = number_is kind (typed_integer t) x h
+dated_is Iso kind t x h = spelled_is kind (spelled kind t) x h
+
+text_is : (date_form : DateForm) (kind : Kind) (t : List ℕ) (x : Cell) → cell_of_text date_form kind t ≡ Ok x → IsOf kind x
 unfolding cell_of_text
-text_is booleans t x h = boolean_is (typed_boolean t) x h
-text_is (integers bits signed) t x h = number_is (integers bits signed) (typed_integer t) x h
-text_is (dates unit) t x h = number_is (dates unit) (typed_integer t) x h
-text_is (timestamps unit timezone) t x h = number_is (timestamps unit timezone) (typed_integer t) x h
-text_is texts t x h = fitting_is texts NotUtf8 (text t) x refl h
-text_is large_texts t x h = fitting_is large_texts NotUtf8 (text t) x refl h
-text_is binaries t x h = bytes_are binaries (decode_of t) x h
-text_is large_binaries t x h = bytes_are large_binaries (decode_of t) x h
-text_is (fixed_binaries width) t x h = bytes_are (fixed_binaries width) (decode_of t) x h
-text_is _ t x h = absurd cc
+text_is date_form booleans t x h = boolean_is (typed_boolean t) x h
+text_is date_form (integers bits signed) t x h = number_is (integers bits signed) (typed_integer t) x h
+text_is date_form (dates unit) t x h = dated_is date_form (dates unit) t x h
+text_is date_form (timestamps unit timezone) t x h = dated_is date_form (timestamps unit timezone) t x h
+text_is date_form texts t x h = fitting_is texts NotUtf8 (text t) x refl h
+text_is date_form large_texts t x h = fitting_is large_texts NotUtf8 (text t) x refl h
+text_is date_form binaries t x h = bytes_are binaries (decode_of t) x h
+text_is date_form large_binaries t x h = bytes_are large_binaries (decode_of t) x h
+text_is date_form (fixed_binaries width) t x h = bytes_are (fixed_binaries width) (decode_of t) x h
+text_is date_form _ t x h = absurd cc
 
-field_fits : (null_text : List ℕ) (c : Column) (t : List ℕ) (x : Cell) → field_cell null_text c t ≡ Ok x → fits c x ≡ true
+field_fits : (form : PlainFieldForm) (c : Column) (t : List ℕ) (x : Cell) → field_cell form c t ≡ Ok x → fits c x ≡ true
 unfolding field_cell fits
-field_fits null_text (column name false kind d p) t x h = of_column name false kind d p x (text_is kind t x h)
-field_fits null_text (column name true kind d p) t x h = by (bytes_eq t null_text) h
+field_fits form (column name false kind d p) t x h = of_column name false kind d p x (text_is form.dates kind t x h)
+field_fits form (column name true kind d p) t x h = by (bytes_eq t form.null_text) h
   where
-    by : (b : Bool) → (if b then Ok null else cell_of_text kind t) ≡ Ok x → fits (column name true kind d p) x ≡ true
+    by : (b : Bool) → (if b then Ok null else cell_of_text form.dates kind t) ≡ Ok x → fits (column name true kind d p) x ≡ true
     by true h = (let same : null ≡ x = cc in rw (← same) refl)
-    by false h = of_column name true kind d p x (text_is kind t x h)
+    by false h = of_column name true kind d p x (text_is form.dates kind t x h)
 
-pub fields_fit : (null_text : List ℕ) (cs : List Column) (ts : List (List ℕ)) (xs : List Cell) → field_cells null_text cs ts ≡ Ok xs → each_fits (columns_of cs) (cells_of xs) ≡ true
+pub fields_fit : (form : PlainFieldForm) (cs : List Column) (ts : List (List ℕ)) (xs : List Cell) → field_cells form cs ts ≡ Ok xs → each_fits (columns_of cs) (cells_of xs) ≡ true
 unfolding field_cells each_fits
-fields_fit null_text [] ts xs h = let same : [] ≡ xs = cc in rw (← same) refl
-fields_fit null_text (c ∷ cs) [] xs h = absurd cc
-fields_fit null_text (c ∷ cs) (t ∷ ts) xs h = by (field_cell null_text c t) refl (field_cells null_text cs ts) h (fields_fit null_text cs ts)
+fields_fit form [] ts xs h = let same : [] ≡ xs = cc in rw (← same) refl
+fields_fit form (c ∷ cs) [] xs h = absurd cc
+fields_fit form (c ∷ cs) (t ∷ ts) xs h = by (field_cell form c t) refl (field_cells form cs ts) h (fields_fit form cs ts)
   where
-    by : (r : Result Cell Refusal) → field_cell null_text c t ≡ r → (s : Result (List Cell) Refusal) → and_then r (λ x. given (λ ys. x ∷ ys) s) ≡ Ok xs
+    by : (r : Result Cell Refusal) → field_cell form c t ≡ r → (s : Result (List Cell) Refusal) → and_then r (λ x. given (λ ys. x ∷ ys) s) ≡ Ok xs
         → ((ys : List Cell) → s ≡ Ok ys → each_fits (columns_of cs) (cells_of ys) ≡ true) → each_fits (columns_of (c ∷ cs)) (cells_of xs) ≡ true
     by (Err e) is s h more = absurd cc
     by (Ok x) is (Err e) h more = absurd cc
-    by (Ok x) is (Ok ys) h more = (let same : x ∷ ys ≡ xs = cc in rw (← same) (and_from _ _ (field_fits null_text c t x is) (more ys refl)))
+    by (Ok x) is (Ok ys) h more = (let same : x ∷ ys ≡ xs = cc in rw (← same) (and_from _ _ (field_fits form c t x is) (more ys refl)))
 
 -- ---- values
 
@@ -96,11 +111,21 @@ number_value : (kind : Kind) (d : Data) (x : Cell) → number_in kind d ≡ Ok x
 number_value kind (json.number n) x h = number_is kind (as_integer n) x h
 number_value kind _ x h = absurd cc
 
+dated_value : (date_form : DateForm) (kind : Kind) (d : Data) (x : Cell) → dated_in date_form kind d ≡ Ok x → IsOf kind x
+dated_value Numbers kind d x h = number_value kind d x h
+dated_value Iso kind (json.string t) x h = spelled_is kind (spelled kind t) x h
+dated_value Iso kind _ x h = absurd cc
+
 text_value : (d : Data) (x : Cell) → text_in d ≡ Ok x → IsOf texts x
 text_value (json.string t) x h = fitting_is texts NotUtf8 (text t) x refl h
 text_value _ x h = absurd cc
 
-large_text_value : (d : Data) (x : Cell) → text_in d ≡ Ok x → IsOf large_texts x
+large_dated_value : (date_form : DateForm) (kind : Kind) (d : Data) (x : Cell) → dated_in date_form kind d ≡ Ok x → IsOf kind x
+dated_value Numbers kind d x h = number_value kind d x h
+dated_value Iso kind (json.string t) x h = spelled_is kind (spelled kind t) x h
+dated_value Iso kind _ x h = absurd cc
+
+text_value : (d : Data) (x : Cell) → text_in d ≡ Ok x → IsOf large_texts x
 unfolding fits_kind
 large_text_value d x h = let is = text_value d x h in record { there = is.there; kinds = is.kinds }
 
@@ -153,22 +178,22 @@ struct_is : (cs : Columns) (s : Result Cells Refusal) → ((ys : Cells) → s �
 struct_is cs (Err e) each x h = absurd cc
 struct_is cs (Ok ys) each x h = let same : parts ys ≡ x = cc in rw (← same) (refl, each ys refl)
 
-member_fits : (c : Column) (o : Option Data) (x : Cell) → ((d : Data) (y : Cell) → cell_in c d ≡ Ok y → fits c y ≡ true) → member_in (is_nullable_column c) (cell_in c) o ≡ Ok x → fits c x ≡ true
+member_fits : (date_form : DateForm) (c : Column) (o : Option Data) (x : Cell) → ((d : Data) (y : Cell) → cell_in date_form c d ≡ Ok y → fits c y ≡ true) → member_in (is_nullable_column c) (cell_in date_form c) o ≡ Ok x → fits c x ≡ true
 unfolding fits
-member_fits (column name true kind d p) None x is h = let same : null ≡ x = cc in rw (← same) refl
-member_fits (column name false kind d p) None x is h = absurd cc
-member_fits (column name nullable kind d p) (Some e) x is h = is e x h
+member_fits date_form (column name true kind d p) None x is h = let same : null ≡ x = cc in rw (← same) refl
+member_fits date_form (column name false kind d p) None x is h = absurd cc
+member_fits date_form (column name nullable kind d p) (Some e) x is h = is e x h
 
 nullable_is : (nullable : Bool) (f : Data → Result Cell Refusal) (d : Data) (x : Cell) → null_or_in nullable f d ≡ Ok x → ((nullable ≡ true) × (x ≡ null)) ⊎ (f d ≡ Ok x)
 nullable_is true f json.null x h = inl (refl, cc)
 nullable_is false f json.null x h = absurd cc
 nullable_is nullable f _ x h = inr h
 
-column_is : (name : List ℕ) (nullable : Bool) (kind : Kind) (d : _) (p : _) (v : Data) (x : Cell) → ((y : Cell) → kind_in kind v ≡ Ok y → IsOf kind y)
-    → null_or_in nullable (kind_in kind) v ≡ Ok x → fits (column name nullable kind d p) x ≡ true
+column_is : (date_form : DateForm) (name : List ℕ) (nullable : Bool) (kind : Kind) (d : _) (p : _) (v : Data) (x : Cell) → ((y : Cell) → kind_in date_form kind v ≡ Ok y → IsOf kind y)
+    → null_or_in nullable (kind_in date_form kind) v ≡ Ok x → fits (column name nullable kind d p) x ≡ true
 unfolding fits
-column_is name nullable kind d p v x is h =
-    elim (nullable_is nullable (kind_in kind) v x h) [
+column_is date_form name nullable kind d p v x is h =
+    elim (nullable_is nullable (kind_in date_form kind) v x h) [
       | inl both ↦ rw (both.1, both.0) refl
       | inr more ↦ of_column name nullable kind d p x (is x more)
     ]
@@ -180,56 +205,56 @@ one_more c cs (Err e) s xs one others h = absurd cc
 one_more c cs (Ok x) (Err e) xs one others h = absurd cc
 one_more c cs (Ok x) (Ok ys) xs one others h = let same : and_cell x ys ≡ xs = cc in rw (← same) (and_from _ _ (one x refl) (others ys refl))
 
-parts_are : (cs : Columns) → ((ds : Items) (ys : Cells) → cells_by_place cs ds ≡ Ok ys → each_fits cs ys ≡ true) → ((ms : Members) (ys : Cells) → cells_by_name cs ms ≡ Ok ys → each_fits cs ys ≡ true)
-    → (d : Data) (xs : Cells) → cells_in cs d ≡ Ok xs → each_fits cs xs ≡ true
-parts_are cs places names (json.array ds) xs h = by (item_count ds == column_count cs) h
+parts_are : (date_form : DateForm) (cs : Columns) → ((ds : Items) (ys : Cells) → cells_by_place date_form cs ds ≡ Ok ys → each_fits cs ys ≡ true) → ((ms : Members) (ys : Cells) → cells_by_name date_form cs ms ≡ Ok ys → each_fits cs ys ≡ true)
+    → (d : Data) (xs : Cells) → cells_in date_form cs d ≡ Ok xs → each_fits cs xs ≡ true
+parts_are date_form cs places names (json.array ds) xs h = by (item_count ds == column_count cs) h
   where
-    by : (b : Bool) → (if b then cells_by_place cs ds else Err Width) ≡ Ok xs → each_fits cs xs ≡ true
+    by : (b : Bool) → (if b then cells_by_place date_form cs ds else Err Width) ≡ Ok xs → each_fits cs xs ≡ true
     by true h = places ds xs h
     by false h = absurd cc
-parts_are cs places names (json.object ms) xs h = by (repeats (names_of cs)) (has_unknown (names_of cs) (keys_of ms)) h
+parts_are date_form cs places names (json.object ms) xs h = by (repeats (names_of cs)) (has_unknown (names_of cs) (keys_of ms)) h
   where
-    by : (a b : Bool) → (if a then Err AmbiguousNames else if b then Err UnknownName else cells_by_name cs ms) ≡ Ok xs → each_fits cs xs ≡ true
+    by : (a b : Bool) → (if a then Err AmbiguousNames else if b then Err UnknownName else cells_by_name date_form cs ms) ≡ Ok xs → each_fits cs xs ≡ true
     by true b h = absurd cc
     by false true h = absurd cc
     by false false h = names ms xs h
-parts_are cs places names _ xs h = absurd cc
+parts_are date_form cs places names _ xs h = absurd cc
 
 mutual
   unfolding cell_in kind_in cells_by_place cells_by_name fits_kind each_fits
 
-  cell_fits : (c : Column) (d : Data) (x : Cell) → cell_in c d ≡ Ok x → fits c x ≡ true
-  cell_fits (column name nullable kind dictionary pairs) d x h = column_is name nullable kind dictionary pairs d x (λ y e. value_is kind d y e) h
+  cell_fits : (date_form : DateForm) (c : Column) (d : Data) (x : Cell) → cell_in date_form c d ≡ Ok x → fits c x ≡ true
+  cell_fits date_form (column name nullable kind dictionary pairs) d x h = column_is date_form name nullable kind dictionary pairs d x (λ y e. value_is date_form kind d y e) h
 
-  value_is : (kind : Kind) (d : Data) (x : Cell) → kind_in kind d ≡ Ok x → IsOf kind x
-  value_is nulls d x h = absurd cc
-  value_is booleans d x h = boolean_value d x h
-  value_is (integers bits signed) d x h = number_value (integers bits signed) d x h
-  value_is (dates unit) d x h = number_value (dates unit) d x h
-  value_is (timestamps unit timezone) d x h = number_value (timestamps unit timezone) d x h
-  value_is texts d x h = text_value d x h
-  value_is large_texts d x h = large_text_value d x h
-  value_is binaries d x h = bytes_value binaries d x h
-  value_is large_binaries d x h = bytes_value large_binaries d x h
-  value_is (fixed_binaries width) d x h = bytes_value (fixed_binaries width) d x h
-  value_is (lists below) d x h = let both = list_is (cell_in below) (fits below) (λ e y g. cell_fits below e y g) d x h in record { there = both.0; kinds = both.1 }
-  value_is (large_lists below) d x h = let both = list_is (cell_in below) (fits below) (λ e y g. cell_fits below e y g) d x h in record { there = both.0; kinds = both.1 }
-  value_is (fixed_lists size below) d x h =
-      let both = fixed_list_is size (cell_in below) (fits below) (λ e y g. cell_fits below e y g) d x h in record { there = both.0; kinds = both.1 }
-  value_is (structs columns) d x h =
-      let both = struct_is columns (cells_in columns d) (λ ys g. parts_are columns (λ ds zs f. place_fits columns ds zs f) (λ ms zs f. name_fits columns ms zs f) d ys g) x h in
+  value_is : (date_form : DateForm) (kind : Kind) (d : Data) (x : Cell) → kind_in date_form kind d ≡ Ok x → IsOf kind x
+  value_is date_form nulls d x h = absurd cc
+  value_is date_form booleans d x h = boolean_value d x h
+  value_is date_form (integers bits signed) d x h = number_value (integers bits signed) d x h
+  value_is date_form (dates unit) d x h = dated_value date_form (dates unit) d x h
+  value_is date_form (timestamps unit timezone) d x h = dated_value date_form (timestamps unit timezone) d x h
+  value_is date_form texts d x h = text_value d x h
+  value_is date_form large_texts d x h = large_text_value d x h
+  value_is date_form binaries d x h = bytes_value binaries d x h
+  value_is date_form large_binaries d x h = bytes_value large_binaries d x h
+  value_is date_form (fixed_binaries width) d x h = bytes_value (fixed_binaries width) d x h
+  value_is date_form (lists below) d x h = let both = list_is (cell_in date_form below) (fits below) (λ e y g. cell_fits date_form below e y g) d x h in record { there = both.0; kinds = both.1 }
+  value_is date_form (large_lists below) d x h = let both = list_is (cell_in date_form below) (fits below) (λ e y g. cell_fits date_form below e y g) d x h in record { there = both.0; kinds = both.1 }
+  value_is date_form (fixed_lists size below) d x h =
+      let both = fixed_list_is size (cell_in date_form below) (fits below) (λ e y g. cell_fits date_form below e y g) d x h in record { there = both.0; kinds = both.1 }
+  value_is date_form (structs columns) d x h =
+      let both = struct_is columns (cells_in date_form columns d) (λ ys g. parts_are date_form columns (λ ds zs f. place_fits date_form columns ds zs f) (λ ms zs f. name_fits date_form columns ms zs f) d ys g) x h in
       record { there = both.0; kinds = both.1 }
 
-  place_fits : (cs : Columns) (ds : Items) (xs : Cells) → cells_by_place cs ds ≡ Ok xs → each_fits cs xs ≡ true
-  place_fits no_column ds xs h = let same : no_cell ≡ xs = cc in rw (← same) refl
-  place_fits (and_column c cs) ds xs h =
-      one_more c cs (cell_in c (first_item ds)) (cells_by_place cs (other_items ds)) xs (λ x e. cell_fits c (first_item ds) x e) (λ ys e. place_fits cs (other_items ds) ys e) h
+  place_fits : (date_form : DateForm) (cs : Columns) (ds : Items) (xs : Cells) → cells_by_place date_form cs ds ≡ Ok xs → each_fits cs xs ≡ true
+  place_fits date_form no_column ds xs h = let same : no_cell ≡ xs = cc in rw (← same) refl
+  place_fits date_form (and_column c cs) ds xs h =
+      one_more c cs (cell_in date_form c (first_item ds)) (cells_by_place date_form cs (other_items ds)) xs (λ x e. cell_fits date_form c (first_item ds) x e) (λ ys e. place_fits date_form cs (other_items ds) ys e) h
 
-  name_fits : (cs : Columns) (ms : Members) (xs : Cells) → cells_by_name cs ms ≡ Ok xs → each_fits cs xs ≡ true
-  name_fits no_column ms xs h = let same : no_cell ≡ xs = cc in rw (← same) refl
-  name_fits (and_column c cs) ms xs h =
-      one_more c cs (member_in (is_nullable_column c) (cell_in c) (get_member (name_of_column c) ms)) (cells_by_name cs ms) xs
-      (λ x e. member_fits c (get_member (name_of_column c) ms) x (λ d y g. cell_fits c d y g) e) (λ ys e. name_fits cs ms ys e) h
+  name_fits : (date_form : DateForm) (cs : Columns) (ms : Members) (xs : Cells) → cells_by_name date_form cs ms ≡ Ok xs → each_fits cs xs ≡ true
+  name_fits date_form no_column ms xs h = let same : no_cell ≡ xs = cc in rw (← same) refl
+  name_fits date_form (and_column c cs) ms xs h =
+      one_more c cs (member_in (is_nullable_column c) (cell_in date_form c) (get_member (name_of_column c) ms)) (cells_by_name date_form cs ms) xs
+      (λ x e. member_fits date_form c (get_member (name_of_column c) ms) x (λ d y g. cell_fits date_form c d y g) e) (λ ys e. name_fits date_form cs ms ys e) h
 
-pub values_fit : (cs : Columns) (d : Data) (xs : Cells) → cells_in cs d ≡ Ok xs → each_fits cs xs ≡ true
-values_fit cs d xs h = parts_are cs (place_fits cs) (name_fits cs) d xs h
+pub values_fit : (date_form : DateForm) (cs : Columns) (d : Data) (xs : Cells) → cells_in date_form cs d ≡ Ok xs → each_fits cs xs ≡ true
+values_fit date_form cs d xs h = parts_are date_form cs (place_fits date_form cs) (name_fits date_form cs) d xs h

@@ -33,6 +33,7 @@ use Rattle.std.proofs.lemmas.Bool.{false≢true}
 use Rattle.std.proofs.lemmas.Bool.Decides.{same_from_decides, Decides-like}
 use Rattle.std.proofs.lemmas.Slice.Eq.{bytes_eq-Decides}
 use Rattle.text_import.specs.Objects.{has_name, has_unknown, named_parts, repeats, keys_of, item_count, column_count, sized, each_item, cell_in, cells_by_place, cells_by_name, is_blank, line_row}
+use Rattle.civil_days.specs.declared.date_form.DateForm.{DateForm}
 
 pub columns_counted : (cs : List Column) → column_count (columns_of cs) ≡ length cs
 columns_counted [] = refl
@@ -115,75 +116,75 @@ pub item_more : (f : Data → Result Cell Refusal) (so : List Cell) (v : Value) 
     → cells_behind so (each_item f (items_view (v ∷ vs))) ≡ cells_behind (so ++ x ∷ []) (each_item f (items_view vs))
 item_more f so v vs x e = rw e (cells_behind_more so x (each_item f (items_view vs)))
 
-pub place_more : (so : List Cell) (c : Column) (cs : Columns) (v : Value) (vs : List Value) (x : Cell) → cell_in c (view v) ≡ Ok x
-    → cells_behind so (cells_by_place (and_column c cs) (items_view (v ∷ vs))) ≡ cells_behind (so ++ x ∷ []) (cells_by_place cs (items_view vs))
+pub place_more : (date_form : DateForm) (so : List Cell) (c : Column) (cs : Columns) (v : Value) (vs : List Value) (x : Cell) → cell_in date_form c (view v) ≡ Ok x
+    → cells_behind so (cells_by_place date_form (and_column c cs) (items_view (v ∷ vs))) ≡ cells_behind (so ++ x ∷ []) (cells_by_place date_form cs (items_view vs))
 unfolding cells_by_place
-place_more so c cs v vs x e = rw e (cells_behind_more so x (cells_by_place cs (items_view vs)))
+place_more date_form so c cs v vs x e = rw e (cells_behind_more so x (cells_by_place date_form cs (items_view vs)))
 
-pub places_end : (so : List Cell) (ds : Items) → cells_behind so (cells_by_place no_column ds) ≡ Ok (cells_of so)
+pub places_end : (date_form : DateForm) (so : List Cell) (ds : Items) → cells_behind so (cells_by_place date_form no_column ds) ≡ Ok (cells_of so)
 unfolding cells_by_place
-places_end so ds = cells_behind_end so
+places_end date_form so ds = cells_behind_end so
 
-pub name_more : (so : List Cell) (c : Column) (cs : Columns) (ms : Members) (x : Cell) → member_of c ms ≡ Ok x
-    → cells_behind so (cells_by_name (and_column c cs) ms) ≡ cells_behind (so ++ x ∷ []) (cells_by_name cs ms)
+pub name_more : (date_form : DateForm) (so : List Cell) (c : Column) (cs : Columns) (ms : Members) (x : Cell) → member_of date_form c ms ≡ Ok x
+    → cells_behind so (cells_by_name date_form (and_column c cs) ms) ≡ cells_behind (so ++ x ∷ []) (cells_by_name date_form cs ms)
 unfolding cells_by_name
-name_more so c cs ms x e = rw e (cells_behind_more so x (cells_by_name cs ms))
+name_more date_form so c cs ms x e = rw e (cells_behind_more so x (cells_by_name date_form cs ms))
 
-pub names_end : (so : List Cell) (ms : Members) → cells_behind so (cells_by_name no_column ms) ≡ Ok (cells_of so)
+pub names_end : (date_form : DateForm) (so : List Cell) (ms : Members) → cells_behind so (cells_by_name date_form no_column ms) ≡ Ok (cells_of so)
 unfolding cells_by_name
-names_end so ms = cells_behind_end so
+names_end date_form so ms = cells_behind_end so
 
 -- one that is refused
 pub item_refused : (f : Data → Result Cell Refusal) (so : List Cell) (v : Value) (vs : List Value) (r : Refusal) → f (view v) ≡ Err r → cells_behind so (each_item f (items_view (v ∷ vs))) ≡ Err r
 item_refused f so v vs r e = rw e refl
 
-pub place_refused : (so : List Cell) (c : Column) (cs : Columns) (v : Value) (vs : List Value) (r : Refusal) → cell_in c (view v) ≡ Err r
-    → cells_behind so (cells_by_place (and_column c cs) (items_view (v ∷ vs))) ≡ Err r
+pub place_refused : (date_form : DateForm) (so : List Cell) (c : Column) (cs : Columns) (v : Value) (vs : List Value) (r : Refusal) → cell_in date_form c (view v) ≡ Err r
+    → cells_behind so (cells_by_place date_form (and_column c cs) (items_view (v ∷ vs))) ≡ Err r
 unfolding cells_by_place
-place_refused so c cs v vs r e = rw e refl
+place_refused date_form so c cs v vs r e = rw e refl
 
-pub name_refused : (so : List Cell) (c : Column) (cs : Columns) (ms : Members) (r : Refusal) → member_of c ms ≡ Err r → cells_behind so (cells_by_name (and_column c cs) ms) ≡ Err r
+pub name_refused : (date_form : DateForm) (so : List Cell) (c : Column) (cs : Columns) (ms : Members) (r : Refusal) → member_of date_form c ms ≡ Err r → cells_behind so (cells_by_name date_form (and_column c cs) ms) ≡ Err r
 unfolding cells_by_name
-name_refused so c cs ms r e = rw e refl
+name_refused date_form so c cs ms r e = rw e refl
 
 -- the rows of the lines from a place on
-abbrev pub rows_of_lines : PlainSchema → ℕ → List (Bor (List ℕ)) → Result (List (List Cell)) Refused
-rows_of_lines s n lines = rows_from (line_row s) n (filter (λ line. not (is_blank line)) (text_list lines))
+abbrev pub rows_of_lines : (date_form : DateForm) → PlainSchema → ℕ → List (Bor (List ℕ)) → Result (List (List Cell)) Refused
+rows_of_lines date_form s n lines = rows_from (line_row date_form s) n (filter (λ line. not (is_blank line)) (text_list lines))
 
-filled_at : (s : PlainSchema) (n : ℕ) (line : Bor (List ℕ)) (lines : List (Bor (List ℕ))) → is_blank line.now ≡ false
-    → rows_of_lines s n (line ∷ lines) ≡ rows_from (line_row s) n (line.now ∷ filter (λ l. not (is_blank l)) (text_list lines))
-filled_at s n line lines e = rw e refl
+filled_at : (date_form : DateForm) (s : PlainSchema) (n : ℕ) (line : Bor (List ℕ)) (lines : List (Bor (List ℕ))) → is_blank line.now ≡ false
+    → rows_of_lines date_form s n (line ∷ lines) ≡ rows_from (line_row date_form s) n (line.now ∷ filter (λ l. not (is_blank l)) (text_list lines))
+filled_at date_form s n line lines e = rw e refl
 
-skipped_at : (s : PlainSchema) (n : ℕ) (line : Bor (List ℕ)) (lines : List (Bor (List ℕ))) → is_blank line.now ≡ true → rows_of_lines s n (line ∷ lines) ≡ rows_of_lines s n lines
-skipped_at s n line lines e = rw e refl
+skipped_at : (date_form : DateForm) (s : PlainSchema) (n : ℕ) (line : Bor (List ℕ)) (lines : List (Bor (List ℕ))) → is_blank line.now ≡ true → rows_of_lines date_form s n (line ∷ lines) ≡ rows_of_lines date_form s n lines
+skipped_at date_form s n line lines e = rw e refl
 
 -- a line that is skipped, one that is read, and one that is refused
-pub line_skipped : (s : PlainSchema) (lines : List (Bor (List ℕ))) (i : ℕ) (d : Bor (List ℕ)) (n : ℕ) → i < length lines → is_blank (get_or lines i d).now ≡ true
-    → rows_of_lines s n (drop i lines) ≡ rows_of_lines s n (drop (i + 1) lines)
-line_skipped s lines i d n lt e = ap (rows_of_lines s n) (drop_more lines i d lt) ∙ skipped_at s n (get_or lines i d) (drop (i + 1) lines) e
+pub line_skipped : (date_form : DateForm) (s : PlainSchema) (lines : List (Bor (List ℕ))) (i : ℕ) (d : Bor (List ℕ)) (n : ℕ) → i < length lines → is_blank (get_or lines i d).now ≡ true
+    → rows_of_lines date_form s n (drop i lines) ≡ rows_of_lines date_form s n (drop (i + 1) lines)
+line_skipped date_form s lines i d n lt e = ap (rows_of_lines date_form s n) (drop_more lines i d lt) ∙ skipped_at date_form s n (get_or lines i d) (drop (i + 1) lines) e
 
-pub line_more : (s : PlainSchema) (lines : List (Bor (List ℕ))) (i : ℕ) (d : Bor (List ℕ)) (n m : ℕ) (so : List (List Cell)) (row : List Cell) (r : Result Row CellError)
-    → i < length lines → is_blank (get_or lines i d).now ≡ false → Gives refusal_of row_of r (line_row s (get_or lines i d).now)
+pub line_more : (date_form : DateForm) (s : PlainSchema) (lines : List (Bor (List ℕ))) (i : ℕ) (d : Bor (List ℕ)) (n m : ℕ) (so : List (List Cell)) (row : List Cell) (r : Result Row CellError)
+    → i < length lines → is_blank (get_or lines i d).now ≡ false → Gives refusal_of row_of r (line_row date_form s (get_or lines i d).now)
     → ((R : Result (List Cell) Refusal) → Gives refusal_of row_of r R → numbered n R ≡ Ok row) → n ≡ m
-    → behind so (rows_of_lines s m (drop i lines)) ≡ behind (so ++ row ∷ []) (rows_of_lines s (m + 1) (drop (i + 1) lines))
-line_more s lines i d n m so row r lt e given_row made is =
+    → behind so (rows_of_lines date_form s m (drop i lines)) ≡ behind (so ++ row ∷ []) (rows_of_lines date_form s (m + 1) (drop (i + 1) lines))
+line_more date_form s lines i d n m so row r lt e given_row made is =
     let x = (get_or lines i d).now in
-    let read : numbered m (line_row s x) ≡ Ok row = rw is at (made (line_row s x) given_row) in
-    ap (λ (xs : List (Bor (List ℕ))). behind so (rows_of_lines s m xs)) (drop_more lines i d lt)
-    ∙ ap (behind so) (filled_at s m (get_or lines i d) (drop (i + 1) lines) e)
-    ∙ row_more (line_row s) m so x (filter (λ l. not (is_blank l)) (text_list (drop (i + 1) lines))) row read
+    let read : numbered m (line_row date_form s x) ≡ Ok row = rw is at (made (line_row date_form s x) given_row) in
+    ap (λ (xs : List (Bor (List ℕ))). behind so (rows_of_lines date_form s m xs)) (drop_more lines i d lt)
+    ∙ ap (behind so) (filled_at date_form s m (get_or lines i d) (drop (i + 1) lines) e)
+    ∙ row_more (line_row date_form s) m so x (filter (λ l. not (is_blank l)) (text_list (drop (i + 1) lines))) row read
 
-pub line_refused : (s : PlainSchema) (lines : List (Bor (List ℕ))) (i : ℕ) (d : Bor (List ℕ)) (n m : ℕ) (so : List (List Cell)) (o : Option Refused) (r : Result Row CellError)
-    → i < length lines → is_blank (get_or lines i d).now ≡ false → Gives refusal_of row_of r (line_row s (get_or lines i d).now)
+pub line_refused : (date_form : DateForm) (s : PlainSchema) (lines : List (Bor (List ℕ))) (i : ℕ) (d : Bor (List ℕ)) (n m : ℕ) (so : List (List Cell)) (o : Option Refused) (r : Result Row CellError)
+    → i < length lines → is_blank (get_or lines i d).now ≡ false → Gives refusal_of row_of r (line_row date_form s (get_or lines i d).now)
     → ((R : Result (List Cell) Refusal) → Gives refusal_of row_of r R → Reports o (numbered n R)) → n ≡ m
-    → Reports o (behind so (rows_of_lines s m (drop i lines)))
-line_refused s lines i d n m so o r lt e given_row made is =
+    → Reports o (behind so (rows_of_lines date_form s m (drop i lines)))
+line_refused date_form s lines i d n m so o r lt e given_row made is =
     let x = (get_or lines i d).now in
-    let reported : Reports o (numbered m (line_row s x)) = rw is at (made (line_row s x) given_row) in
-    told o (numbered m (line_row s x)) (behind so (rows_of_lines s m (drop i lines))) reported (λ f no.
-    ap (λ (xs : List (Bor (List ℕ))). behind so (rows_of_lines s m xs)) (drop_more lines i d lt)
-    ∙ ap (behind so) (filled_at s m (get_or lines i d) (drop (i + 1) lines) e)
-    ∙ row_refused (line_row s) m so x (filter (λ l. not (is_blank l)) (text_list (drop (i + 1) lines))) f no)
+    let reported : Reports o (numbered m (line_row date_form s x)) = rw is at (made (line_row date_form s x) given_row) in
+    told o (numbered m (line_row date_form s x)) (behind so (rows_of_lines date_form s m (drop i lines))) reported (λ f no.
+    ap (λ (xs : List (Bor (List ℕ))). behind so (rows_of_lines date_form s m xs)) (drop_more lines i d lt)
+    ∙ ap (behind so) (filled_at date_form s m (get_or lines i d) (drop (i + 1) lines) e)
+    ∙ row_refused (line_row date_form s) m so x (filter (λ l. not (is_blank l)) (text_list (drop (i + 1) lines))) f no)
 
-pub lines_end : (s : PlainSchema) (n : ℕ) (so : List (List Cell)) → behind so (rows_of_lines s n []) ≡ Ok so
-lines_end s n so = rows_end (line_row s) n so
+pub lines_end : (date_form : DateForm) (s : PlainSchema) (n : ℕ) (so : List (List Cell)) → behind so (rows_of_lines date_form s n []) ≡ Ok so
+lines_end date_form s n so = rows_end (line_row date_form s) n so

@@ -21,6 +21,8 @@ use Rattle.text_import.specs.ValuePart.{is_refused, first_repeated, first_unknow
 use Rattle.text_import.specs.Part.{nested_column, header_name, header_count, field, value_part, other_count, unknown_name, repeated_name, nested_part, other_name, refused_names, header_of, refused_field, refused_in_items, refused_in_members}
 use Rattle.text_import.proofs.ObjectLemmas.{item_count_is, column_count_is}
 use Rattle.text_import.proofs.RecordLemmas.{field_here, field_past}
+use Rattle.civil_days.specs.declared.date_form.DateForm.{DateForm}
+use Rattle.text_import.specs.FieldForm.{PlainFieldForm}
 
 -- whether a key is no name, by the first that is none
 pub any_unknown : (names keys : List (List ℕ)) → is_some (first_unknown names keys) ≡ has_unknown names keys
@@ -81,42 +83,42 @@ pub headless : (fs : List Field) (t : List ℕ) → slice_get (records_of t) 0 �
 headless fs t none = rw (none, no_header_names (map column_of fs), length-map fs column_of) refl
 
 -- a field that is refused, one that is not, and the end
-pub field_named : (null_text : List ℕ) (place : ℕ) (c : Column) (cs : List Column) (t : List ℕ) (ts : List (List ℕ)) → is_refused (field_cell null_text c t) ≡ true
-    → refused_field null_text place (c ∷ cs) (t ∷ ts) ≡ Some (field (name_of_column c) place t)
+pub field_named : (form : PlainFieldForm) (place : ℕ) (c : Column) (cs : List Column) (t : List ℕ) (ts : List (List ℕ)) → is_refused (field_cell form c t) ≡ true
+    → refused_field form place (c ∷ cs) (t ∷ ts) ≡ Some (field (name_of_column c) place t)
 unfolding refused_field
-field_named null_text place c cs t ts e = rw e refl
+field_named form place c cs t ts e = rw e refl
 
-pub field_passed : (null_text : List ℕ) (place : ℕ) (c : Column) (cs : List Column) (t : List ℕ) (ts : List (List ℕ)) → is_refused (field_cell null_text c t) ≡ false
-    → refused_field null_text place (c ∷ cs) (t ∷ ts) ≡ refused_field null_text (place + 1) cs ts
+pub field_passed : (form : PlainFieldForm) (place : ℕ) (c : Column) (cs : List Column) (t : List ℕ) (ts : List (List ℕ)) → is_refused (field_cell form c t) ≡ false
+    → refused_field form place (c ∷ cs) (t ∷ ts) ≡ refused_field form (place + 1) cs ts
 unfolding refused_field
-field_passed null_text place c cs t ts e = rw e refl
+field_passed form place c cs t ts e = rw e refl
 
-pub no_field : (null_text : List ℕ) (place : ℕ) (ts : List (List ℕ)) → refused_field null_text place [] ts ≡ None
+pub no_field : (form : PlainFieldForm) (place : ℕ) (ts : List (List ℕ)) → refused_field form place [] ts ≡ None
 unfolding refused_field
-no_field null_text place ts = refl
+no_field form place ts = refl
 
 -- the number of items
-pub counted_no : (fs : List Field) (vs : List Value) → (length vs ≡ length fs → ⊥)
-    → refused_in_items (columns_of (map column_of fs)) (items_view vs) ≡ Some (other_count (length vs) (length fs))
-counted_no fs vs h = rw (item_count_is vs, column_count_is fs, ne_eqb (length vs) (length fs) h) refl
+pub counted_no : (date_form : DateForm) (fs : List Field) (vs : List Value) → (length vs ≡ length fs → ⊥)
+    → refused_in_items date_form (columns_of (map column_of fs)) (items_view vs) ≡ Some (other_count (length vs) (length fs))
+counted_no date_form fs vs h = rw (item_count_is vs, column_count_is fs, ne_eqb (length vs) (length fs) h) refl
 
-pub counted_yes : (fs : List Field) (vs : List Value) → length vs ≡ length fs
-    → refused_in_items (columns_of (map column_of fs)) (items_view vs) ≡ option_map value_part (part_by_place [] 0 (columns_of (map column_of fs)) (items_view vs))
-counted_yes fs vs h = rw (item_count_is vs, column_count_is fs, eq-eqb (length vs) (length fs) h) refl
+pub counted_yes : (date_form : DateForm) (fs : List Field) (vs : List Value) → length vs ≡ length fs
+    → refused_in_items date_form (columns_of (map column_of fs)) (items_view vs) ≡ option_map value_part (part_by_place date_form [] 0 (columns_of (map column_of fs)) (items_view vs))
+counted_yes date_form fs vs h = rw (item_count_is vs, column_count_is fs, eq-eqb (length vs) (length fs) h) refl
 
 pub ruleset counted_rules = (counted_no, counted_yes)
 
 -- the tests of names
-pub name_repeated : (cs : Columns) (ms : Members) (name : List ℕ) → first_repeated (names_of cs) ≡ Some name → refused_in_members cs ms ≡ Some (repeated_name name)
-name_repeated cs ms name e = rw e refl
+pub name_repeated : (date_form : DateForm) (cs : Columns) (ms : Members) (name : List ℕ) → first_repeated (names_of cs) ≡ Some name → refused_in_members date_form cs ms ≡ Some (repeated_name name)
+name_repeated date_form cs ms name e = rw e refl
 
-pub name_unknown : (cs : Columns) (ms : Members) (name : List ℕ) → first_repeated (names_of cs) ≡ None → first_unknown (names_of cs) (keys_of ms) ≡ Some name
-    → refused_in_members cs ms ≡ Some (unknown_name name)
-name_unknown cs ms name e is = rw (e, is) refl
+pub name_unknown : (date_form : DateForm) (cs : Columns) (ms : Members) (name : List ℕ) → first_repeated (names_of cs) ≡ None → first_unknown (names_of cs) (keys_of ms) ≡ Some name
+    → refused_in_members date_form cs ms ≡ Some (unknown_name name)
+name_unknown date_form cs ms name e is = rw (e, is) refl
 
-pub names_known : (cs : Columns) (ms : Members) → first_repeated (names_of cs) ≡ None → first_unknown (names_of cs) (keys_of ms) ≡ None
-    → refused_in_members cs ms ≡ option_map value_part (part_by_name [] 0 cs ms)
-names_known cs ms e is = rw (e, is) refl
+pub names_known : (date_form : DateForm) (cs : Columns) (ms : Members) → first_repeated (names_of cs) ≡ None → first_unknown (names_of cs) (keys_of ms) ≡ None
+    → refused_in_members date_form cs ms ≡ option_map value_part (part_by_name date_form [] 0 cs ms)
+names_known date_form cs ms e is = rw (e, is) refl
 
 pub ruleset named_rules = (name_repeated, name_unknown, names_known)
 

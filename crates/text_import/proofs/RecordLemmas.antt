@@ -16,6 +16,7 @@ use Rattle.csv.specs.declared.parser.State.TheVariants as st
 use Rattle.text_import.specs.Records.{records_of, are_names, whole, record_row, rows_behind_header, is_nested_column, csv_rows_of}
 use Rattle.text_import.specs.Rows.{rows_from}
 use Rattle.text_import.specs.declared.refusal.Refusal.TheVariants.{Header, Nested}
+use Rattle.text_import.specs.FieldForm.{PlainFieldForm}
 
 stripped : (xs : List ℕ) → length (strip_bom xs) ≤ length xs
 unfolding strip_bom
@@ -122,23 +123,23 @@ taken records old r found fields has reads =
     next_taken records has.state has.bytes (next_record default_config has.state [] [] has.bytes) found fields r has.left refl (reads has.state has.bytes has.stands)
 
 -- the rows after a header that is not there, is another, or is the names
-pub no_header : (s : PlainSchema) (null_text : List ℕ) (rs : List (List (List ℕ))) → rs ≡ [] → rows_behind_header s null_text rs ≡ Err (whole Header)
+pub no_header : (s : PlainSchema) (form : PlainFieldForm) (rs : List (List (List ℕ))) → rs ≡ [] → rows_behind_header s form rs ≡ Err (whole Header)
 unfolding rows_behind_header
-no_header s null_text rs e = rw e refl
+no_header s form rs e = rw e refl
 
-pub other_header : (s : PlainSchema) (null_text : List ℕ) (rs rest : List (List (List ℕ))) (h : List (List ℕ)) → rs ≡ h ∷ rest → are_names h s.columns ≡ false
-    → rows_behind_header s null_text rs ≡ Err (whole Header)
+pub other_header : (s : PlainSchema) (form : PlainFieldForm) (rs rest : List (List (List ℕ))) (h : List (List ℕ)) → rs ≡ h ∷ rest → are_names h s.columns ≡ false
+    → rows_behind_header s form rs ≡ Err (whole Header)
 unfolding rows_behind_header
-other_header s null_text rs rest h e n = rw (e, n) refl
+other_header s form rs rest h e n = rw (e, n) refl
 
-pub right_header : (s : PlainSchema) (null_text : List ℕ) (rs rest : List (List (List ℕ))) (h : List (List ℕ)) → rs ≡ h ∷ rest → are_names h s.columns ≡ true
-    → rows_behind_header s null_text rs ≡ rows_from (record_row s null_text) 1 rest
+pub right_header : (s : PlainSchema) (form : PlainFieldForm) (rs rest : List (List (List ℕ))) (h : List (List ℕ)) → rs ≡ h ∷ rest → are_names h s.columns ≡ true
+    → rows_behind_header s form rs ≡ rows_from (record_row s form) 1 rest
 unfolding rows_behind_header
-right_header s null_text rs rest h e n = rw (e, n) refl
+right_header s form rs rest h e n = rw (e, n) refl
 
 -- the rows of a text, by its records
-pub nested_refused : (s : PlainSchema) (null_text t : List ℕ) → list_any is_nested_column s.columns ≡ true → csv_rows_of s null_text t ≡ Err (whole Nested)
-nested_refused s null_text t e = rw e refl
+pub nested_refused : (s : PlainSchema) (form : PlainFieldForm) (t : List ℕ) → list_any is_nested_column s.columns ≡ true → csv_rows_of s form t ≡ Err (whole Nested)
+nested_refused s form t e = rw e refl
 
-pub unnested : (s : PlainSchema) (null_text t : List ℕ) → list_any is_nested_column s.columns ≡ false → csv_rows_of s null_text t ≡ rows_behind_header s null_text (records_of t)
-unnested s null_text t e = rw e refl
+pub unnested : (s : PlainSchema) (form : PlainFieldForm) (t : List ℕ) → list_any is_nested_column s.columns ≡ false → csv_rows_of s form t ≡ rows_behind_header s form (records_of t)
+unnested s form t e = rw e refl

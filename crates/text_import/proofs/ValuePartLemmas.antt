@@ -16,6 +16,7 @@ use Rattle.text_import.specs.inner.Names.{member_part_of, tested}
 use Rattle.text_import.proofs.ObjectLemmas.{item_count_is, column_count_is}
 use Rattle.text_import.proofs.NameLemmas.{any_repeated}
 use Rattle.text_import.proofs.PartLemmas.{any_unknown}
+use Rattle.civil_days.specs.declared.date_form.DateForm.{DateForm}
 
 -- the number of items
 pub sized_no : (size : ℕ) (f : Items → Option PlainValuePart) (vs : List Value) → (length vs ≡ size → ⊥) → sized_part size f (items_view vs) ≡ Some (itself (reasons.Count (length vs) size))
@@ -27,33 +28,33 @@ sized_yes size f vs h = rw (item_count_is vs, eq-eqb (length vs) size h) refl
 pub ruleset sized_rules = (sized_no, sized_yes, column_count_is)
 
 -- a field with a refused part, one without, and the end
-pub place_named : (before : List ℕ) (index : ℕ) (c : Column) (cs : Columns) (v : Value) (vs : List Value) (p : PlainValuePart) → cell_part c (view v) ≡ Some p
-    → part_by_place before index (and_column c cs) (items_view (v ∷ vs)) ≡ Some (below (before ++ name_of_column c) index p)
+pub place_named : (date_form : DateForm) (before : List ℕ) (index : ℕ) (c : Column) (cs : Columns) (v : Value) (vs : List Value) (p : PlainValuePart) → cell_part date_form c (view v) ≡ Some p
+    → part_by_place date_form before index (and_column c cs) (items_view (v ∷ vs)) ≡ Some (below (before ++ name_of_column c) index p)
 unfolding part_by_place
-place_named before index c cs v vs p e = rw e refl
+place_named date_form before index c cs v vs p e = rw e refl
 
-pub place_passed : (before : List ℕ) (index : ℕ) (c : Column) (cs : Columns) (v : Value) (vs : List Value) → cell_part c (view v) ≡ None
-    → part_by_place before index (and_column c cs) (items_view (v ∷ vs)) ≡ part_by_place before (index + 1) cs (items_view vs)
+pub place_passed : (date_form : DateForm) (before : List ℕ) (index : ℕ) (c : Column) (cs : Columns) (v : Value) (vs : List Value) → cell_part date_form c (view v) ≡ None
+    → part_by_place date_form before index (and_column c cs) (items_view (v ∷ vs)) ≡ part_by_place date_form before (index + 1) cs (items_view vs)
 unfolding part_by_place
-place_passed before index c cs v vs e = rw e refl
+place_passed date_form before index c cs v vs e = rw e refl
 
-pub no_place : (before : List ℕ) (index : ℕ) (ds : Items) → part_by_place before index no_column ds ≡ None
+pub no_place : (date_form : DateForm) (before : List ℕ) (index : ℕ) (ds : Items) → part_by_place date_form before index no_column ds ≡ None
 unfolding part_by_place
-no_place before index ds = refl
+no_place date_form before index ds = refl
 
-pub name_named : (before : List ℕ) (index : ℕ) (c : Column) (cs : Columns) (ms : Members) (p : PlainValuePart) → member_part_of c ms ≡ Some p
-    → part_by_name before index (and_column c cs) ms ≡ Some (below (before ++ name_of_column c) index p)
+pub name_named : (date_form : DateForm) (before : List ℕ) (index : ℕ) (c : Column) (cs : Columns) (ms : Members) (p : PlainValuePart) → member_part_of date_form c ms ≡ Some p
+    → part_by_name date_form before index (and_column c cs) ms ≡ Some (below (before ++ name_of_column c) index p)
 unfolding part_by_name
-name_named before index c cs ms p e = rw e refl
+name_named date_form before index c cs ms p e = rw e refl
 
-pub name_passed : (before : List ℕ) (index : ℕ) (c : Column) (cs : Columns) (ms : Members) → member_part_of c ms ≡ None
-    → part_by_name before index (and_column c cs) ms ≡ part_by_name before (index + 1) cs ms
+pub name_passed : (date_form : DateForm) (before : List ℕ) (index : ℕ) (c : Column) (cs : Columns) (ms : Members) → member_part_of date_form c ms ≡ None
+    → part_by_name date_form before index (and_column c cs) ms ≡ part_by_name date_form before (index + 1) cs ms
 unfolding part_by_name
-name_passed before index c cs ms e = rw e refl
+name_passed date_form before index c cs ms e = rw e refl
 
-pub no_name : (before : List ℕ) (index : ℕ) (ms : Members) → part_by_name before index no_column ms ≡ None
+pub no_name : (date_form : DateForm) (before : List ℕ) (index : ℕ) (ms : Members) → part_by_name date_form before index no_column ms ≡ None
 unfolding part_by_name
-no_name before index ms = refl
+no_name date_form before index ms = refl
 
 -- names that are not refused
 pub names_pass : (names : List (List ℕ)) (ms : Members) → tested names ms ≡ Ok ms → names_part names ms ≡ None

@@ -7,8 +7,9 @@ use Rattle.text_import.specs.declared.form.TextForm.TheVariants.{Csv, JsonLines}
 use Rattle.text_import.specs.declared.refusal.Refused.{Refused}
 use Rattle.text_import.specs.Objects.{jsonl_rows_of}
 use Rattle.text_import.specs.Records.{csv_rows_of}
+use Rattle.text_import.specs.FieldForm.{field_form}
 
 -- the rows of a text for a schema, or its first refusal
 abbrev pub rows_of_text : TextForm → PlainSchema → List ℕ → Result (List (List Cell)) Refused
-rows_of_text (Csv null_text) schema text = csv_rows_of schema null_text.now text
-rows_of_text JsonLines schema text = jsonl_rows_of schema text
+rows_of_text (Csv form) schema text = csv_rows_of schema (field_form form) text
+rows_of_text (JsonLines date_form) schema text = jsonl_rows_of date_form schema text

@@ -1,5 +1,6 @@
 pub mod Refusals
 pub mod RefusalText
+pub mod FieldForm
 pub mod Flat
 pub mod Rows
 pub mod Stands

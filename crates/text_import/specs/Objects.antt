@@ -11,11 +11,14 @@ use Rattle.arrow_schema.specs.Column.{Kind, Column, Columns, nulls, booleans, in
 use Rattle.arrow_schema.specs.Parts.{name_of_column, is_nullable_column}
 use Rattle.cells.specs.Cell.{Cell, Cells, null, boolean, text, items, parts, no_cell, and_cell, cell_list}
 use Rattle.text_import.specs.declared.refusal.Refusal.{Refusal}
-use Rattle.text_import.specs.declared.refusal.Refusal.TheVariants.{Width, NotUtf8, NotANumber, NotABool, NullMismatch, Json, UnknownName, MissingName, AmbiguousNames, WrongKind}
+use Rattle.text_import.specs.declared.refusal.Refusal.TheVariants.{Width, NotUtf8, NotANumber, NotADate, NotABool, NullMismatch, Json, UnknownName, MissingName, AmbiguousNames, WrongKind}
 use Rattle.text_import.specs.declared.refusal.Refused.{Refused}
 use Rattle.text_import.specs.Refusals.{and_then, given}
-use Rattle.text_import.specs.Flat.{fitting, number_cell, hex_cell}
+use Rattle.text_import.specs.Flat.{fitting, number_cell, spelled_cell, hex_cell}
 use Rattle.text_import.specs.Rows.{accepted, rows_from}
+use Rattle.civil_days.specs.declared.date_form.DateForm.{DateForm}
+use Rattle.civil_days.specs.declared.date_form.DateForm.TheVariants.{Numbers, Iso}
+use Rattle.civil_days.specs.Typed.{spelled}
 
 abbrev pub item_count : Items → ℕ
 item_count no_items = 0
@@ -33,6 +36,12 @@ boolean_in _ = Err NotABool
 abbrev pub number_in : Kind → Data → Result Cell Refusal
 number_in kind (json.number n) = number_cell kind (as_integer n)
 number_in kind _ = Err NotANumber
+
+-- a date or a time is a number, or the string that spells it
+abbrev pub dated_in : DateForm → Kind → Data → Result Cell Refusal
+dated_in Numbers kind d = number_in kind d
+dated_in Iso kind (json.string t) = spelled_cell kind (spelled kind t)
+dated_in Iso kind _ = Err NotADate
 
 -- a text of a UTF-8 line is UTF-8, too
 abbrev pub text_in : Data → Result Cell Refusal
@@ -117,42 +126,42 @@ other_items (item d ds) = ds
 
 unfoldable mutual
   -- the cell of a value in a column
-  pub cell_in : Column → Data → Result Cell Refusal
-  cell_in (column name nullable kind dictionary pairs) = null_or_in nullable (kind_in kind)
+  pub cell_in : DateForm → Column → Data → Result Cell Refusal
+  cell_in date_form (column name nullable kind dictionary pairs) = null_or_in nullable (kind_in date_form kind)
 
   -- the cell of a value that is not null
-  pub kind_in : Kind → Data → Result Cell Refusal
-  kind_in nulls = λ d. Err NullMismatch
-  kind_in booleans = boolean_in
-  kind_in (integers bits signed) = number_in (integers bits signed)
-  kind_in (dates unit) = number_in (dates unit)
-  kind_in (timestamps unit timezone) = number_in (timestamps unit timezone)
-  kind_in texts = text_in
-  kind_in large_texts = text_in
-  kind_in binaries = bytes_in binaries
-  kind_in large_binaries = bytes_in large_binaries
-  kind_in (fixed_binaries width) = bytes_in (fixed_binaries width)
-  kind_in (lists below) = list_in (cell_in below)
-  kind_in (large_lists below) = list_in (cell_in below)
-  kind_in (fixed_lists size below) = fixed_list_in size (cell_in below)
-  kind_in (structs columns) = λ d. given parts (parts_in (column_count columns) (cells_by_place columns) (named_parts (names_of columns) (cells_by_name columns)) d)
+  pub kind_in : DateForm → Kind → Data → Result Cell Refusal
+  kind_in date_form nulls = λ d. Err NullMismatch
+  kind_in date_form booleans = boolean_in
+  kind_in date_form (integers bits signed) = number_in (integers bits signed)
+  kind_in date_form (dates unit) = dated_in date_form (dates unit)
+  kind_in date_form (timestamps unit timezone) = dated_in date_form (timestamps unit timezone)
+  kind_in date_form texts = text_in
+  kind_in date_form large_texts = text_in
+  kind_in date_form binaries = bytes_in binaries
+  kind_in date_form large_binaries = bytes_in large_binaries
+  kind_in date_form (fixed_binaries width) = bytes_in (fixed_binaries width)
+  kind_in date_form (lists below) = list_in (cell_in date_form below)
+  kind_in date_form (large_lists below) = list_in (cell_in date_form below)
+  kind_in date_form (fixed_lists size below) = fixed_list_in size (cell_in date_form below)
+  kind_in date_form (structs columns) = λ d. given parts (parts_in (column_count columns) (cells_by_place date_form columns) (named_parts (names_of columns) (cells_by_name date_form columns)) d)
 
   -- the cells of as many items as columns, in order
-  pub cells_by_place : Columns → Items → Result Cells Refusal
-  cells_by_place no_column = λ ds. Ok no_cell
-  cells_by_place (and_column c cs) = λ ds. and_then (cell_in c (first_item ds)) (λ x. given (and_cell x) (cells_by_place cs (other_items ds)))
+  pub cells_by_place : DateForm → Columns → Items → Result Cells Refusal
+  cells_by_place date_form no_column = λ ds. Ok no_cell
+  cells_by_place date_form (and_column c cs) = λ ds. and_then (cell_in date_form c (first_item ds)) (λ x. given (and_cell x) (cells_by_place date_form cs (other_items ds)))
 
   -- the cells of the members with the names of the columns, in the order of the columns
-  pub cells_by_name : Columns → Members → Result Cells Refusal
-  cells_by_name no_column = λ ms. Ok no_cell
-  cells_by_name (and_column c cs) = λ ms. and_then (member_in (is_nullable_column c) (cell_in c) (get_member (name_of_column c) ms)) (λ x. given (and_cell x) (cells_by_name cs ms))
+  pub cells_by_name : DateForm → Columns → Members → Result Cells Refusal
+  cells_by_name date_form no_column = λ ms. Ok no_cell
+  cells_by_name date_form (and_column c cs) = λ ms. and_then (member_in (is_nullable_column c) (cell_in date_form c) (get_member (name_of_column c) ms)) (λ x. given (and_cell x) (cells_by_name date_form cs ms))
 
 -- the cells of columns, for a row or a struct
-abbrev pub cells_in : Columns → Data → Result Cells Refusal
-cells_in columns = parts_in (column_count columns) (cells_by_place columns) (named_parts (names_of columns) (cells_by_name columns))
+abbrev pub cells_in : DateForm → Columns → Data → Result Cells Refusal
+cells_in date_form columns = parts_in (column_count columns) (cells_by_place date_form columns) (named_parts (names_of columns) (cells_by_name date_form columns))
 
-abbrev pub value_row : PlainSchema → Data → Result (List Cell) Refusal
-value_row s d = and_then (given cell_list (cells_in (columns_of s.columns) d)) (accepted s)
+abbrev pub value_row : DateForm → PlainSchema → Data → Result (List Cell) Refusal
+value_row date_form s d = and_then (given cell_list (cells_in date_form (columns_of s.columns) d)) (accepted s)
 
 -- the value of a line
 abbrev pub value_of : Option Data → Result Data Refusal
@@ -162,8 +171,8 @@ value_of (Some d) = Ok d
 abbrev pub line_value : List ℕ → Result Data Refusal
 line_value line = if is_utf8 line then value_of (read line) else Err NotUtf8
 
-abbrev pub line_row : PlainSchema → List ℕ → Result (List Cell) Refusal
-line_row s line = and_then (line_value line) (value_row s)
+abbrev pub line_row : DateForm → PlainSchema → List ℕ → Result (List Cell) Refusal
+line_row date_form s line = and_then (line_value line) (value_row date_form s)
 
 -- a line of only spaces, tabs and carriage returns is skipped and not counted
 abbrev pub is_blank : List ℕ → Bool
@@ -173,5 +182,5 @@ is_blank line = list_all (λ b. b == 32 || b == 9 || b == 13) line
 abbrev pub lines_of : List ℕ → List (List ℕ)
 lines_of t = filter (λ line. not (is_blank line)) (slice_split (λ b. b == 10) t)
 
-abbrev pub jsonl_rows_of : PlainSchema → List ℕ → Result (List (List Cell)) Refused
-jsonl_rows_of s t = rows_from (line_row s) 1 (lines_of t)
+abbrev pub jsonl_rows_of : DateForm → PlainSchema → List ℕ → Result (List (List Cell)) Refused
+jsonl_rows_of date_form s t = rows_from (line_row date_form s) 1 (lines_of t)

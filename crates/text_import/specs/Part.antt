@@ -16,6 +16,8 @@ use Rattle.text_import.specs.Flat.{field_cell}
 use Rattle.text_import.specs.Records.{is_nested_column, records_of}
 use Rattle.text_import.specs.Objects.{item_count, column_count, names_of, keys_of, line_value, lines_of}
 use Rattle.text_import.specs.ValuePart.{PlainValuePart, value_part_of, is_refused, first_unknown, first_repeated, part_by_place, part_by_name}
+use Rattle.civil_days.specs.declared.date_form.DateForm.{DateForm}
+use Rattle.text_import.specs.FieldForm.{PlainFieldForm, field_form}
 
 -- the refused part of a line of JSON Lines: a part of its value in a column, with the path from the line; an array whose number of items differs from
 -- the number of columns; a name that is not that of a column; or one that two columns have
@@ -73,49 +75,49 @@ abbrev pub refused_header : List Column → List ℕ → Option PlainPart
 refused_header cs t = option_or (nested_part cs) (refused_names cs (header_of t))
 
 -- the first field whose text is refused for its column; the first column has this place
-unfoldable pub refused_field : List ℕ → (place : ℕ) → List Column → List (List ℕ) → Option PlainPart
-refused_field null_text place [] ts = None
-refused_field null_text place (c ∷ cs) [] = None
-refused_field null_text place (c ∷ cs) (t ∷ ts) =
-    if is_refused (field_cell null_text c t) then Some (field (name_of_column c) place t) else refused_field null_text (place + 1) cs ts
+unfoldable pub refused_field : PlainFieldForm → (place : ℕ) → List Column → List (List ℕ) → Option PlainPart
+refused_field form place [] ts = None
+refused_field form place (c ∷ cs) [] = None
+refused_field form place (c ∷ cs) (t ∷ ts) =
+    if is_refused (field_cell form c t) then Some (field (name_of_column c) place t) else refused_field form (place + 1) cs ts
 
 -- the number of fields is tested before any field
-abbrev pub refused_in_record : List ℕ → List Column → List (List ℕ) → Option PlainPart
-refused_in_record null_text cs ts = if length ts == length cs then refused_field null_text 0 cs ts else Some (record_count (length ts) (length cs))
+abbrev pub refused_in_record : PlainFieldForm → List Column → List (List ℕ) → Option PlainPart
+refused_in_record form cs ts = if length ts == length cs then refused_field form 0 cs ts else Some (record_count (length ts) (length cs))
 
 -- the number of items is tested before any item; a path begins with the name of a column
-abbrev pub refused_in_items : Columns → Items → Option PlainLinePart
-refused_in_items cs ds =
-    if item_count ds == column_count cs then option_map value_part (part_by_place [] 0 cs ds) else Some (other_count (item_count ds) (column_count cs))
+abbrev pub refused_in_items : DateForm → Columns → Items → Option PlainLinePart
+refused_in_items date_form cs ds =
+    if item_count ds == column_count cs then option_map value_part (part_by_place date_form [] 0 cs ds) else Some (other_count (item_count ds) (column_count cs))
 
 -- names are tested before any member, first those of the columns
-abbrev pub refused_in_members : Columns → Members → Option PlainLinePart
-refused_in_members cs ms =
+abbrev pub refused_in_members : DateForm → Columns → Members → Option PlainLinePart
+refused_in_members date_form cs ms =
     option_or (option_map repeated_name (first_repeated (names_of cs)))
-    (option_or (option_map unknown_name (first_unknown (names_of cs) (keys_of ms))) (option_map value_part (part_by_name [] 0 cs ms)))
+    (option_or (option_map unknown_name (first_unknown (names_of cs) (keys_of ms))) (option_map value_part (part_by_name date_form [] 0 cs ms)))
 
-abbrev pub refused_in_value : Columns → Data → Option PlainLinePart
-refused_in_value cs (json.array ds) = refused_in_items cs ds
-refused_in_value cs (json.object ms) = refused_in_members cs ms
-refused_in_value cs _ = None
+abbrev pub refused_in_value : DateForm → Columns → Data → Option PlainLinePart
+refused_in_value date_form cs (json.array ds) = refused_in_items date_form cs ds
+refused_in_value date_form cs (json.object ms) = refused_in_members date_form cs ms
+refused_in_value date_form cs _ = None
 
 -- the refused part of a value that was read from a line
-abbrev pub refused_in_read : Columns → Result Data Refusal → Option PlainLinePart
-refused_in_read cs (Ok d) = refused_in_value cs d
-refused_in_read cs (Err e) = None
+abbrev pub refused_in_read : DateForm → Columns → Result Data Refusal → Option PlainLinePart
+refused_in_read date_form cs (Ok d) = refused_in_value date_form cs d
+refused_in_read date_form cs (Err e) = None
 
-abbrev pub refused_in_line : PlainSchema → List ℕ → PlainPart
-refused_in_line s t = line (refused_in_read (columns_of s.columns) (line_value t)) t
+abbrev pub refused_in_line : DateForm → PlainSchema → List ℕ → PlainPart
+refused_in_line date_form s t = line (refused_in_read date_form (columns_of s.columns) (line_value t)) t
 
 -- a refusal without a record is that of the header in CSV
 abbrev pub whole_part : TextForm → PlainSchema → List ℕ → Option PlainPart
-whole_part (Csv null_text) s t = refused_header s.columns t
-whole_part JsonLines s t = None
+whole_part (Csv form) s t = refused_header s.columns t
+whole_part (JsonLines date_form) s t = None
 
 -- the refused part of the record with this number: CSV records are counted with the header at 0, and lines from 1
 abbrev pub numbered_part : TextForm → PlainSchema → List ℕ → ℕ → Option PlainPart
-numbered_part (Csv null_text) s t number = option_and_then (refused_in_record null_text.now s.columns) (slice_get (records_of t) number)
-numbered_part JsonLines s t number = option_map (refused_in_line s) (slice_get (lines_of t) (number - 1))
+numbered_part (Csv form) s t number = option_and_then (refused_in_record (field_form form) s.columns) (slice_get (records_of t) number)
+numbered_part (JsonLines date_form) s t number = option_map (refused_in_line date_form s) (slice_get (lines_of t) (number - 1))
 
 abbrev pub refused_part : TextForm → PlainSchema → List ℕ → ℕ → Option PlainPart
 refused_part form s t number = if number == 0 then whole_part form s t else numbered_part form s t number

@@ -12,6 +12,8 @@ use Rattle.text_import.specs.declared.value_part.Reason.TheVariants.{Value}
 use Rattle.text_import.specs.Flat.{field_cell}
 use Rattle.text_import.specs.Objects.{cell_in}
 use Rattle.text_import.specs.Part.{PlainPart, field, line, value_part}
+use Rattle.civil_days.specs.declared.date_form.DateForm.{DateForm}
+use Rattle.text_import.specs.FieldForm.{PlainFieldForm, field_form}
 
 -- the field of the items of a list, or the fields of a struct
 abbrev pub parts_of_kind : Kind → List Column
@@ -38,21 +40,21 @@ column_of_part cs (line (Some (value_part part)) text) = column_at cs part.place
 column_of_part cs part = None
 
 -- some value is refused with this refusal for the field at this place
-pub record IsRefusedThere (cs : List Column) (place : List ℕ) (e : Refusal) : Type 0 where
+pub record IsRefusedThere (date_form : DateForm) (cs : List Column) (place : List ℕ) (e : Refusal) : Type 0 where
   pub column : Column
   pub stands : column_at cs place ≡ Some column
   pub value : Data
-  pub refused : cell_in column value ≡ Err e
+  pub refused : cell_in date_form column value ≡ Err e
 
 -- the same of a text for the column at this place
-pub record IsTextRefusedThere (null_text : List ℕ) (cs : List Column) (place : ℕ) (text : List ℕ) (e : Refusal) : Type 0 where
+pub record IsTextRefusedThere (form : PlainFieldForm) (cs : List Column) (place : ℕ) (text : List ℕ) (e : Refusal) : Type 0 where
   pub column : Column
   pub stands : slice_get cs place ≡ Some column
-  pub refused : field_cell null_text column text ≡ Err e
+  pub refused : field_cell form column text ≡ Err e
 
 -- the place that a part names is the place where it is refused: of a CSV field its text, and of a line the value, unless a name or a number of items is
 -- refused there
 abbrev pub IsAtItsPlace : TextForm → List Column → PlainPart → Refusal → Type 0
-IsAtItsPlace (Csv null_text) cs (field name place text) e = IsTextRefusedThere null_text.now cs place text e
-IsAtItsPlace JsonLines cs (line (Some (value_part part)) text) e = part.reason ≡ Value → IsRefusedThere cs part.place e
+IsAtItsPlace (Csv form) cs (field name place text) e = IsTextRefusedThere (field_form form) cs place text e
+IsAtItsPlace (JsonLines date_form) cs (line (Some (value_part part)) text) e = part.reason ≡ Value → IsRefusedThere date_form cs part.place e
 IsAtItsPlace form cs part e = Unit {0}

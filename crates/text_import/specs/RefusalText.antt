@@ -22,6 +22,8 @@ refusal_text refusals.FixedWidth = codes "X14 FixedWidth"
 refusal_text refusals.TooHeavy = codes "X15 TooHeavy"
 refusal_text refusals.DictionaryFull = codes "X16 DictionaryFull"
 refusal_text refusals.WrongKind = codes "X17 WrongKind"
+refusal_text refusals.NotADate = codes "X18 NotADate"
+refusal_text refusals.WrongOffset = codes "X19 WrongOffset"
 
 abbrev pub refused_text : Refused → List ℕ
 refused_text r = refusal_text r.refusal ++ codes " " ++ decimal r.number

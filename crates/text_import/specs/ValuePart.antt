@@ -12,6 +12,7 @@ use Rattle.text_import.specs.declared.value_part.Reason.{Reason}
 use Rattle.text_import.specs.declared.value_part.Reason.TheVariants.{Value, Missing, Unknown, Repeated, Count}
 use Rattle.text_import.specs.declared.value_part.ValuePart.{ValuePart}
 use Rattle.text_import.specs.Objects.{item_count, column_count, first_item, other_items, kind_in, has_name, names_of, keys_of}
+use Rattle.civil_days.specs.declared.date_form.DateForm.{DateForm}
 
 -- the refused part of a value: the path to it, which is empty for the value itself; the place of its field, by index at each step from the field of the
 -- value; and what is refused there
@@ -97,28 +98,28 @@ struct_part f g _ = Some (itself Value)
 
 unfoldable mutual
   -- of a value in a column
-  pub cell_part : Column → Data → Option PlainValuePart
-  cell_part (column name nullable kind dictionary pairs) = null_part nullable (kind_part kind)
+  pub cell_part : DateForm → Column → Data → Option PlainValuePart
+  cell_part date_form (column name nullable kind dictionary pairs) = null_part nullable (kind_part date_form kind)
 
   -- of a value that is not null
-  pub kind_part : Kind → Data → Option PlainValuePart
-  kind_part (lists inner) = list_part (cell_part inner)
-  kind_part (large_lists inner) = list_part (cell_part inner)
-  kind_part (fixed_lists size inner) = fixed_list_part size (cell_part inner)
-  kind_part (structs columns) =
-      struct_part (sized_part (column_count columns) (part_by_place dot 0 columns)) (λ ms. option_or (names_part (names_of columns) ms) (part_by_name dot 0 columns ms))
-  kind_part kind = λ d. flat_part (kind_in kind d)
+  pub kind_part : DateForm → Kind → Data → Option PlainValuePart
+  kind_part date_form (lists inner) = list_part (cell_part date_form inner)
+  kind_part date_form (large_lists inner) = list_part (cell_part date_form inner)
+  kind_part date_form (fixed_lists size inner) = fixed_list_part size (cell_part date_form inner)
+  kind_part date_form (structs columns) =
+      struct_part (sized_part (column_count columns) (part_by_place date_form dot 0 columns)) (λ ms. option_or (names_part (names_of columns) ms) (part_by_name date_form dot 0 columns ms))
+  kind_part date_form kind = λ d. flat_part (kind_in date_form kind d)
 
   -- of as many items as columns, in order; `before` stands before the name of each, and the first column has this index
-  pub part_by_place : (before : List ℕ) → (index : ℕ) → Columns → Items → Option PlainValuePart
-  part_by_place before index no_column = λ ds. None
-  part_by_place before index (and_column c cs) = λ ds.
-      option_or (option_map (below (before ++ name_of_column c) index) (cell_part c (first_item ds))) (part_by_place before (index + 1) cs (other_items ds))
+  pub part_by_place : (date_form : DateForm) (before : List ℕ) → (index : ℕ) → Columns → Items → Option PlainValuePart
+  part_by_place date_form before index no_column = λ ds. None
+  part_by_place date_form before index (and_column c cs) = λ ds.
+      option_or (option_map (below (before ++ name_of_column c) index) (cell_part date_form c (first_item ds))) (part_by_place date_form before (index + 1) cs (other_items ds))
 
   -- of the members with the names of the columns, in the order of the columns
-  pub part_by_name : (before : List ℕ) → (index : ℕ) → Columns → Members → Option PlainValuePart
-  part_by_name before index no_column = λ ms. None
-  part_by_name before index (and_column c cs) = λ ms.
+  pub part_by_name : (date_form : DateForm) (before : List ℕ) → (index : ℕ) → Columns → Members → Option PlainValuePart
+  part_by_name date_form before index no_column = λ ms. None
+  part_by_name date_form before index (and_column c cs) = λ ms.
       option_or
-      (option_map (below (before ++ name_of_column c) index) (member_part (is_nullable_column c) (cell_part c) (get_member (name_of_column c) ms)))
-      (part_by_name before (index + 1) cs ms)
+      (option_map (below (before ++ name_of_column c) index) (member_part (is_nullable_column c) (cell_part date_form c) (get_member (name_of_column c) ms)))
+      (part_by_name date_form before (index + 1) cs ms)

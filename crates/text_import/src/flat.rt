@@ -3,7 +3,8 @@ ghost use Rattle.std.specs.Prelude.{◌≡◌, ◌≤◌, ℕ, Bool, pos, neg_�
 ghost use Rattle.arrow_schema.specs.Column as kinds;
 ghost use Rattle.arrow_schema.specs.Column.{integers};
 ghost use Rattle.arrow_schema.specs.Parts.{kind_of_column};
-ghost use Rattle.arrow_schema.specs.View.{column_of};
+ghost use Rattle.arrow_schema.specs.View.{column_of, kind_of};
+ghost use Rattle.civil_days.specs.Typed.{spelled};
 ghost use Rattle.cells.specs.Cell as plain;
 ghost use Rattle.cells.specs.Nulls.{is_there};
 ghost use Rattle.cells.specs.Typed.{typed_number, typed_integer, typed_boolean};
@@ -11,13 +12,16 @@ ghost use Rattle.cells.specs.View.{cell};
 ghost use Rattle.text_import.specs.declared.refusal.Refusal.TheVariants.{NotUtf8};
 ghost use Rattle.text_import.specs.Refusals.{refusal_of};
 ghost use Rattle.facts.specs.Outcomes.{Gives};
-ghost use Rattle.text_import.specs.Flat.{fitting, number_cell, boolean_cell, hex_cell, cell_of_text, field_cell};
+ghost use Rattle.text_import.specs.Flat.{fitting, number_cell, spelled_cell, dated_cell, boolean_cell, hex_cell, cell_of_text, field_cell};
 ghost use Rattle.text_import.specs.inner.Capped.{capped, capped_integer, holds_numbers, number_behind};
+ghost use Rattle.text_import.specs.FieldForm.{field_form};
 
+use crate::form::FieldForm;
 use crate::refusal::{CellError, Refusal};
 use crate::texts::text_of;
 use arrow_schema::{DataType, Field};
 use cells::{Value, fits};
+use civil_days::{DateFault, DateForm, date_column_of, read_value};
 use hex::FromHexError;
 use std::alloc::{AllocError, Global};
 
@@ -128,6 +132,39 @@ fn integer_cell(field: &Field, text: &[u8]) -> Result<Value, CellError>
     number_cell(field, integer(text))
 }
 
+// Returns the number that a text states in a column of this type.
+fn spelled(data_type: &DataType, text: &[u8]) -> Result<i128, DateFault>
+    ensures { result ≡ spelled (kind_of data_type.now) text.now }
+{
+    match date_column_of(data_type) {
+        Some(column) => read_value(column, text),
+        None => Err(DateFault::NotADate),
+    }
+}
+
+// Returns the cell of the date or the time that a text spells.
+#[tactic(auto, using(arrow_schema::specs::declared::types::Field::the_lemmas))]
+pub(crate) fn spelled_cell(field: &Field, text: &[u8]) -> Result<Value, CellError>
+    ensures { Gives refusal_of cell result (spelled_cell (kind_of_column (column_of field.now)) (spelled (kind_of_column (column_of field.now)) text.now)) }
+{
+    match spelled(&field.data_type, text) {
+        Ok(number) => fitting(field, Value::Int(number), Refusal::OutOfRange),
+        Err(DateFault::NotADate) => Err(CellError::Refused(Refusal::NotADate)),
+        Err(DateFault::WrongOffset) => Err(CellError::Refused(Refusal::WrongOffset)),
+    }
+}
+
+// Returns the cell of a date or a time.
+fn dated_cell(date_form: DateForm, field: &Field, text: &[u8]) -> Result<Value, CellError>
+    requires { holds_numbers (kind_of_column (column_of field.now)) ≡ true }
+    ensures { Gives refusal_of cell result (dated_cell date_form (kind_of_column (column_of field.now)) text.now) }
+{
+    match date_form {
+        DateForm::Numbers => integer_cell(field, text),
+        DateForm::Iso => spelled_cell(field, text),
+    }
+}
+
 /// Parses a boolean, or returns `None` if the text is none.
 pub fn spelled_boolean(text: &[u8]) -> Option<bool>
     ensures { result ≡ typed_boolean text.now }
@@ -185,15 +222,20 @@ pub(crate) fn hex_cell(alloc: Global, field: &Field, digits: &[u8]) -> Result<Va
 }
 
 #[tactic(auto, using(arrow_schema::specs::declared::types::Field::the_lemmas), unfolding(crate::specs::Flat::cell_of_text, cells::specs::Fit::fits_kind))]
-fn typed_cell(alloc: Global, field: &Field, text: &[u8]) -> Result<Value, CellError>
-    ensures { Gives refusal_of cell result (cell_of_text (kind_of_column (column_of field.now)) text.now) }
+fn typed_cell(
+    alloc: Global,
+    date_form: DateForm,
+    field: &Field,
+    text: &[u8],
+) -> Result<Value, CellError>
+    ensures { Gives refusal_of cell result (cell_of_text date_form (kind_of_column (column_of field.now)) text.now) }
 {
     match &field.data_type {
         DataType::Null => Err(CellError::Refused(Refusal::NullMismatch)),
         DataType::Bool => boolean_cell(text),
         DataType::Int(_) => integer_cell(field, text),
-        DataType::Date(_) => integer_cell(field, text),
-        DataType::Timestamp(_, _) => integer_cell(field, text),
+        DataType::Date(_) => dated_cell(date_form, field, text),
+        DataType::Timestamp(_, _) => dated_cell(date_form, field, text),
         DataType::Utf8 => text_cell(alloc, text),
         DataType::LargeUtf8 => text_cell(alloc, text),
         DataType::Binary => hex_cell(alloc, field, text),
@@ -211,14 +253,14 @@ fn typed_cell(alloc: Global, field: &Field, text: &[u8]) -> Result<Value, CellEr
 pub(crate) fn field_cell(
     alloc: Global,
     field: &Field,
-    null_text: &[u8],
+    form: &FieldForm<'_>,
     text: &[u8],
 ) -> Result<Value, CellError>
-    ensures { Gives refusal_of cell result (field_cell null_text.now (column_of field.now) text.now) }
+    ensures { Gives refusal_of cell result (field_cell (field_form form.now) (column_of field.now) text.now) }
 {
-    if field.nullable && text == null_text {
+    if field.nullable && text == form.null_text {
         Ok(Value::Null)
     } else {
-        typed_cell(alloc, field, text)
+        typed_cell(alloc, form.dates, field, text)
     }
 }

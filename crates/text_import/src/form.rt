@@ -9,15 +9,25 @@ ghost use Rattle.text_import.specs.Refusals.{refused_by};
 use crate::{TextError, csv_rows, jsonl_rows};
 use arrow_schema::Schema;
 use cells::Row;
+use civil_days::DateForm;
 use std::alloc::Global;
+
+/// How the fields of a CSV text are read.
+#[derive(Clone, Copy)]
+pub struct FieldForm<'a> {
+    /// The text that means a null where nulls are allowed.
+    pub null_text: &'a [u8],
+    /// How dates and times stand.
+    pub dates: DateForm,
+}
 
 /// The form of a text of rows.
 #[derive(Clone, Copy)]
 pub enum TextForm<'a> {
-    /// CSV, in which this text means a null where nulls are allowed.
-    Csv { null_text: &'a str },
-    /// JSON Lines, with a line for each row.
-    JsonLines,
+    /// CSV.
+    Csv(FieldForm<'a>),
+    /// JSON Lines, with a line for each row, and how dates and times stand.
+    JsonLines(DateForm),
 }
 
 /// Returns the rows of a text in this form for a schema.
@@ -33,7 +43,7 @@ pub fn rows_of_text(
     ensures { Gives refused_by (λ v. map row_of v.items) result (rows_of_text form.now (schema_of schema.now) text.now) }
 {
     match form {
-        TextForm::Csv { null_text } => csv_rows(alloc, schema, text, null_text),
-        TextForm::JsonLines => jsonl_rows(alloc, schema, text),
+        TextForm::Csv(form) => csv_rows(alloc, schema, text, form),
+        TextForm::JsonLines(date_form) => jsonl_rows(alloc, *date_form, schema, text),
     }
 }

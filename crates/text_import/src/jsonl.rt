@@ -18,6 +18,7 @@ use crate::rows::numbered;
 use crate::texts::text_of;
 use arrow_schema::Schema;
 use cells::{Row, has_limits};
+use civil_days::DateForm;
 use serde_json::Value;
 use std::alloc::{AllocError, Global};
 
@@ -62,15 +63,16 @@ pub(crate) fn line_value(alloc: Global, line: &[u8]) -> Result<Value, CellError>
 
 pub(crate) fn line_row(
     alloc: Global,
+    date_form: DateForm,
     schema: &Schema,
     limited: bool,
     line: &[u8],
 ) -> Result<Row, CellError>
     requires { limited ≡ is_any_limited (columns_of (schema_of schema.now).columns) }
-    ensures { Gives refusal_of row_of result (line_row (schema_of schema.now) line.now) }
+    ensures { Gives refusal_of row_of result (line_row date_form (schema_of schema.now) line.now) }
 {
     let value = line_value(alloc, line)?;
-    value_row(alloc, schema, limited, &value)
+    value_row(alloc, date_form, schema, limited, &value)
 }
 
 // Returns the line at this place among those that are not blank, counted from 0.
@@ -92,9 +94,14 @@ pub(crate) fn line_at(alloc: Global, text: &[u8], place: u64) -> Result<Option<&
 }
 
 // Reads the rows of lines. Blank lines are skipped and not counted.
-fn line_rows(alloc: Global, schema: &Schema, lines: &[&[u8]]) -> Result<Vec<Row>, TextError>
+fn line_rows(
+    alloc: Global,
+    date_form: DateForm,
+    schema: &Schema,
+    lines: &[&[u8]],
+) -> Result<Vec<Row>, TextError>
     ensures { Gives refused_by (λ v. map row_of v.items) result
-        (rows_from (line_row (schema_of schema.now)) 1 (filter (λ line. not (is_blank line)) (text_list lines.now))) }
+        (rows_from (line_row date_form (schema_of schema.now)) 1 (filter (λ line. not (is_blank line)) (text_list lines.now))) }
 {
     let limited = has_limits(schema);
     let mut rows = Vec::new(alloc);
@@ -103,7 +110,7 @@ fn line_rows(alloc: Global, schema: &Schema, lines: &[&[u8]]) -> Result<Vec<Row>
             continue;
         }
         let number = rows.len() as u64 + 1;
-        let row = match numbered(number, line_row(alloc, schema, limited, line)) {
+        let row = match numbered(number, line_row(alloc, date_form, schema, limited, line)) {
             Ok(row) => row,
             Err(error) => return Err(error),
         };
@@ -116,9 +123,14 @@ fn line_rows(alloc: Global, schema: &Schema, lines: &[&[u8]]) -> Result<Vec<Row>
 ///
 /// # Errors
 /// `Refused` with the first refused line and its number; `OutOfMemory`.
-pub fn jsonl_rows(alloc: Global, schema: &Schema, text: &[u8]) -> Result<Vec<Row>, TextError>
-    ensures exact { Gives refused_by (λ v. map row_of v.items) result (jsonl_rows_of (schema_of schema.now) text.now) }
+pub fn jsonl_rows(
+    alloc: Global,
+    date_form: DateForm,
+    schema: &Schema,
+    text: &[u8],
+) -> Result<Vec<Row>, TextError>
+    ensures exact { Gives refused_by (λ v. map row_of v.items) result (jsonl_rows_of date_form (schema_of schema.now) text.now) }
 {
     let parts = split_lines(alloc, text)?;
-    line_rows(alloc, schema, &parts)
+    line_rows(alloc, date_form, schema, &parts)
 }

@@ -1,6 +1,7 @@
 // Laws about the definitions. The functions do nothing: their contracts are the laws.
 ghost use Rattle.std.specs.Prelude.{◌≡◌, ℕ, List, Some, Ok, Err};
 ghost use Rattle.std.specs.List.{AllPass};
+ghost use Rattle.civil_days.specs.declared.date_form.DateForm.{DateForm};
 ghost use Rattle.arrow_schema.specs.Column.{PlainSchema};
 ghost use Rattle.cells.specs.Cell.{Cell};
 ghost use Rattle.cells.specs.Row.{is_row};
@@ -12,12 +13,14 @@ ghost use Rattle.text_import.specs.Form.{rows_of_text};
 ghost use Rattle.text_import.specs.Part.{PlainPart, refused_part};
 ghost use Rattle.text_import.specs.Cause.{IsCause};
 ghost use Rattle.text_import.specs.Place.{IsAtItsPlace};
+ghost use Rattle.text_import.specs.FieldForm.{PlainFieldForm};
 
 /// The rows of a text are rows that a table of the schema accepts, each by itself: every cell fits, no row is too heavy, and none fills a dictionary.
 pub fn rows_of_texts_are_rows()
-    ensures csv { (s : PlainSchema) (null_text text : List ℕ) (rows : List (List Cell)) → csv_rows_of s null_text text ≡ Ok rows
+    ensures csv { (s : PlainSchema) (form : PlainFieldForm) (text : List ℕ) (rows : List (List Cell)) → csv_rows_of s form text ≡ Ok rows
         → AllPass (is_row s) rows }
-    ensures jsonl { (s : PlainSchema) (text : List ℕ) (rows : List (List Cell)) → jsonl_rows_of s text ≡ Ok rows → AllPass (is_row s) rows }
+    ensures jsonl { (date_form : DateForm) (s : PlainSchema) (text : List ℕ) (rows : List (List Cell)) → jsonl_rows_of date_form s text ≡ Ok rows
+        → AllPass (is_row s) rows }
 {}
 
 /// The part of a refused text is the cause of the refusal: for CSV a column of this name is a list or a struct; a name in the header differs from that of

@@ -8,7 +8,8 @@
 //! ```
 //! let fields = field_texts::parse_fields(alloc, &["a:int32?", "s:utf8"])?;
 //! let schema = arrow_schema::Schema { fields, pairs: Vec::new(alloc) };
-//! let rows = text_import::csv_rows(alloc, &schema, b"a,s\n1,x\n,\n", "")?;
+//! let form = text_import::FieldForm { null_text: b"", dates: civil_days::DateForm::Numbers };
+//! let rows = text_import::csv_rows(alloc, &schema, b"a,s\n1,x\n,\n", &form)?;
 //! ```
 //!
 //! The rows are 1 and "x", and a null and "": the null text means a null only where nulls are allowed.
@@ -30,7 +31,7 @@ mod value_part;
 mod weight;
 
 pub use flat::{spelled_boolean, spelled_integer};
-pub use form::{TextForm, rows_of_text};
+pub use form::{FieldForm, TextForm, rows_of_text};
 pub use jsonl::{is_blank, jsonl_rows, split_lines};
 pub use laws::{refused_parts_are_causes, rows_of_texts_are_rows};
 pub use part::{LinePart, RefusedPart, refused_part};

@@ -5,6 +5,7 @@ ghost use Rattle.serde_json.specs.View.{view, items_view, members_view};
 ghost use Rattle.arrow_schema.specs.Column.{columns_of};
 ghost use Rattle.arrow_schema.specs.Parts.{is_nullable_column, kind_of_column};
 ghost use Rattle.arrow_schema.specs.View.{column_of, schema_of};
+ghost use Rattle.civil_days.specs.declared.date_form.DateForm.TheVariants.{Iso};
 ghost use Rattle.cells.specs.Cell as plain;
 ghost use Rattle.cells.specs.Cell.{Cells, cells_of};
 ghost use Rattle.cells.specs.View.{cell};
@@ -13,17 +14,18 @@ ghost use Rattle.cells.specs.Dictionary.{is_any_limited};
 ghost use Rattle.text_import.specs.declared.refusal.Refusal.{Refusal};
 ghost use Rattle.text_import.specs.Refusals.{given, refusal_of};
 ghost use Rattle.facts.specs.Outcomes.{Gives};
-ghost use Rattle.text_import.specs.Objects.{boolean_in, number_in, text_in, bytes_in, list_in, each_item, fixed_list_in, cell_in, kind_in, cells_by_place, cells_by_name, cells_in, absent, sized, column_count, has_name, names_of, keys_of, repeats, has_unknown, value_row};
+ghost use Rattle.text_import.specs.Objects.{boolean_in, number_in, dated_in, text_in, bytes_in, list_in, each_item, fixed_list_in, cell_in, kind_in, cells_by_place, cells_by_name, cells_in, absent, sized, column_count, has_name, names_of, keys_of, repeats, has_unknown, value_row};
 ghost use Rattle.facts.specs.Texts.{text_list};
 ghost use Rattle.text_import.specs.ValuePart.{first_repeated, first_unknown};
 ghost use Rattle.text_import.specs.inner.Names.{IsText, member_of, tested};
 
-use crate::flat::{hex_cell, number_cell, own_text};
+use crate::flat::{hex_cell, number_cell, own_text, spelled_cell};
 use crate::refusal::{CellError, Refusal};
 use crate::rows::accepted;
 use crate::texts::name_of;
 use arrow_schema::{DataType, Field, Schema};
 use cells::{Row, Value};
+use civil_days::DateForm;
 use indexmap::IndexSet;
 use serde_json::{Map, Value as Json};
 use std::alloc::{AllocError, Global};
@@ -43,6 +45,25 @@ fn number_in(field: &Field, value: &Json) -> Result<Value, CellError>
     match value {
         Json::Number(number) => number_cell(field, number.as_i128()),
         _ => Err(CellError::Refused(Refusal::NotANumber)),
+    }
+}
+
+// Returns the cell of the date or the time that a string spells.
+fn spelled_in(field: &Field, value: &Json) -> Result<Value, CellError>
+    ensures { Gives refusal_of cell result (dated_in Iso (kind_of_column (column_of field.now)) (view value.now)) }
+{
+    match value {
+        Json::String(text) => spelled_cell(field, text.as_bytes()),
+        _ => Err(CellError::Refused(Refusal::NotADate)),
+    }
+}
+
+fn dated_in(date_form: DateForm, field: &Field, value: &Json) -> Result<Value, CellError>
+    ensures { Gives refusal_of cell result (dated_in date_form (kind_of_column (column_of field.now)) (view value.now)) }
+{
+    match date_form {
+        DateForm::Numbers => number_in(field, value),
+        DateForm::Iso => spelled_in(field, value),
     }
 }
 
@@ -245,8 +266,13 @@ fn struct_cell(cells: Result<Vec<Value>, CellError>) -> Result<Value, CellError>
 
 #[tactic(auto, unfolding(crate::specs::Objects::cell_in))]
 #[cycle(cells)]
-fn cell_in(alloc: Global, field: &Field, value: &Json) -> Result<Value, CellError>
-    ensures { Gives refusal_of cell result (cell_in (column_of field.now) (view value.now)) }
+fn cell_in(
+    alloc: Global,
+    date_form: DateForm,
+    field: &Field,
+    value: &Json,
+) -> Result<Value, CellError>
+    ensures { Gives refusal_of cell result (cell_in date_form (column_of field.now) (view value.now)) }
 {
     match value {
         Json::Null => {
@@ -256,49 +282,65 @@ fn cell_in(alloc: Global, field: &Field, value: &Json) -> Result<Value, CellErro
                 Err(CellError::Refused(Refusal::NullMismatch))
             }
         }
-        _ => typed_in(alloc, field, value),
+        _ => typed_in(alloc, date_form, field, value),
     }
 }
 
 #[tactic(auto, using(arrow_schema::specs::declared::types::Field::the_lemmas), unfolding(crate::specs::Objects::kind_in))]
 #[cycle(cells)]
-pub(crate) fn typed_in(alloc: Global, field: &Field, value: &Json) -> Result<Value, CellError>
-    ensures { Gives refusal_of cell result (kind_in (kind_of_column (column_of field.now)) (view value.now)) }
+pub(crate) fn typed_in(
+    alloc: Global,
+    date_form: DateForm,
+    field: &Field,
+    value: &Json,
+) -> Result<Value, CellError>
+    ensures { Gives refusal_of cell result (kind_in date_form (kind_of_column (column_of field.now)) (view value.now)) }
 {
     match &field.data_type {
         DataType::Null => Err(CellError::Refused(Refusal::NullMismatch)),
         DataType::Bool => boolean_in(value),
         DataType::Int(_) => number_in(field, value),
-        DataType::Date(_) => number_in(field, value),
-        DataType::Timestamp(_, _) => number_in(field, value),
+        DataType::Date(_) => dated_in(date_form, field, value),
+        DataType::Timestamp(_, _) => dated_in(date_form, field, value),
         DataType::Utf8 => text_in(alloc, value),
         DataType::LargeUtf8 => text_in(alloc, value),
         DataType::Binary => bytes_in(alloc, field, value),
         DataType::LargeBinary => bytes_in(alloc, field, value),
         DataType::FixedSizeBinary(_) => bytes_in(alloc, field, value),
-        DataType::List(item) => list_in(alloc, item, value),
-        DataType::LargeList(item) => list_in(alloc, item, value),
-        DataType::FixedSizeList(size, item) => fixed_list_in(alloc, *size, item, value),
-        DataType::Struct(fields) => struct_cell(cells_in(alloc, fields, value)),
+        DataType::List(item) => list_in(alloc, date_form, item, value),
+        DataType::LargeList(item) => list_in(alloc, date_form, item, value),
+        DataType::FixedSizeList(size, item) => fixed_list_in(alloc, date_form, *size, item, value),
+        DataType::Struct(fields) => struct_cell(cells_in(alloc, date_form, fields, value)),
     }
 }
 
 #[cycle(cells)]
-fn list_in(alloc: Global, item: &Field, value: &Json) -> Result<Value, CellError>
-    ensures { Gives refusal_of cell result (list_in (cell_in (column_of item.now)) (view value.now)) }
+fn list_in(
+    alloc: Global,
+    date_form: DateForm,
+    item: &Field,
+    value: &Json,
+) -> Result<Value, CellError>
+    ensures { Gives refusal_of cell result (list_in (cell_in date_form (column_of item.now)) (view value.now)) }
 {
     match value {
-        Json::Array(values) => list_cell(each_item(alloc, item, values)),
+        Json::Array(values) => list_cell(each_item(alloc, date_form, item, values)),
         _ => Err(CellError::Refused(Refusal::WrongKind)),
     }
 }
 
 #[cycle(cells)]
-fn fixed_list_in(alloc: Global, size: u32, item: &Field, value: &Json) -> Result<Value, CellError>
-    ensures { Gives refusal_of cell result (fixed_list_in size (cell_in (column_of item.now)) (view value.now)) }
+fn fixed_list_in(
+    alloc: Global,
+    date_form: DateForm,
+    size: u32,
+    item: &Field,
+    value: &Json,
+) -> Result<Value, CellError>
+    ensures { Gives refusal_of cell result (fixed_list_in size (cell_in date_form (column_of item.now)) (view value.now)) }
 {
     match value {
-        Json::Array(values) => list_cell(sized_items(alloc, size, item, values)),
+        Json::Array(values) => list_cell(sized_items(alloc, date_form, size, item, values)),
         _ => Err(CellError::Refused(Refusal::WrongKind)),
     }
 }
@@ -307,39 +349,50 @@ fn fixed_list_in(alloc: Global, size: u32, item: &Field, value: &Json) -> Result
 #[cycle(cells)]
 fn sized_items(
     alloc: Global,
+    date_form: DateForm,
     size: u32,
     item: &Field,
     values: &[Json],
 ) -> Result<Vec<Value>, CellError>
-    ensures { Gives refusal_of (λ v. cells_of (map cell v.items)) result (sized size (each_item (cell_in (column_of item.now))) (items_view values.now)) }
+    ensures { Gives refusal_of (λ v. cells_of (map cell v.items)) result (sized size (each_item (cell_in date_form (column_of item.now))) (items_view values.now)) }
 {
     if values.len() != size as usize {
         return Err(CellError::Refused(Refusal::Width));
     }
-    each_item(alloc, item, values)
+    each_item(alloc, date_form, item, values)
 }
 
 #[cycle(cells)]
-fn each_item(alloc: Global, item: &Field, values: &[Json]) -> Result<Vec<Value>, CellError>
-    ensures { Gives refusal_of (λ v. cells_of (map cell v.items)) result (each_item (cell_in (column_of item.now)) (items_view values.now)) }
+fn each_item(
+    alloc: Global,
+    date_form: DateForm,
+    item: &Field,
+    values: &[Json],
+) -> Result<Vec<Value>, CellError>
+    ensures { Gives refusal_of (λ v. cells_of (map cell v.items)) result (each_item (cell_in date_form (column_of item.now)) (items_view values.now)) }
 {
     let mut cells = Vec::with_capacity(alloc, values.len())?;
     for value in values {
-        cells.push_reserved(cell_in(alloc, item, value)?);
+        cells.push_reserved(cell_in(alloc, date_form, item, value)?);
     }
     Ok(cells)
 }
 
 // Reads the cells of fields, by position from an array or by name from an object.
 #[cycle(cells)]
-fn cells_in(alloc: Global, fields: &[Field], value: &Json) -> Result<Vec<Value>, CellError>
-    ensures { Gives refusal_of (λ v. cells_of (map cell v.items)) result (cells_in (columns_of (map column_of fields.now)) (view value.now)) }
+fn cells_in(
+    alloc: Global,
+    date_form: DateForm,
+    fields: &[Field],
+    value: &Json,
+) -> Result<Vec<Value>, CellError>
+    ensures { Gives refusal_of (λ v. cells_of (map cell v.items)) result (cells_in date_form (columns_of (map column_of fields.now)) (view value.now)) }
 {
     match value {
-        Json::Array(values) => sized_cells(alloc, fields, values),
+        Json::Array(values) => sized_cells(alloc, date_form, fields, values),
         Json::Object(members) => {
             test_names(alloc, fields, members)?;
-            cells_by_name(alloc, fields, members)
+            cells_by_name(alloc, date_form, fields, members)
         }
         _ => Err(CellError::Refused(Refusal::WrongKind)),
     }
@@ -347,25 +400,35 @@ fn cells_in(alloc: Global, fields: &[Field], value: &Json) -> Result<Vec<Value>,
 
 #[tactic(auto, using(crate::proofs::ObjectLemmas::sized_rules))]
 #[cycle(cells)]
-fn sized_cells(alloc: Global, fields: &[Field], values: &[Json]) -> Result<Vec<Value>, CellError>
+fn sized_cells(
+    alloc: Global,
+    date_form: DateForm,
+    fields: &[Field],
+    values: &[Json],
+) -> Result<Vec<Value>, CellError>
     ensures { Gives refusal_of (λ v. cells_of (map cell v.items)) result
-        (sized (column_count (columns_of (map column_of fields.now))) (cells_by_place (columns_of (map column_of fields.now))) (items_view values.now)) }
+        (sized (column_count (columns_of (map column_of fields.now))) (cells_by_place date_form (columns_of (map column_of fields.now))) (items_view values.now)) }
 {
     if values.len() != fields.len() {
         return Err(CellError::Refused(Refusal::Width));
     }
-    cells_by_place(alloc, fields, values)
+    cells_by_place(alloc, date_form, fields, values)
 }
 
 #[tactic(auto, unfolding(crate::specs::Objects::cells_by_place))]
 #[cycle(cells)]
-fn cells_by_place(alloc: Global, fields: &[Field], values: &[Json]) -> Result<Vec<Value>, CellError>
+fn cells_by_place(
+    alloc: Global,
+    date_form: DateForm,
+    fields: &[Field],
+    values: &[Json],
+) -> Result<Vec<Value>, CellError>
     requires { length values.now ≡ length fields.now }
-    ensures { Gives refusal_of (λ v. cells_of (map cell v.items)) result (cells_by_place (columns_of (map column_of fields.now)) (items_view values.now)) }
+    ensures { Gives refusal_of (λ v. cells_of (map cell v.items)) result (cells_by_place date_form (columns_of (map column_of fields.now)) (items_view values.now)) }
 {
     let mut cells = Vec::with_capacity(alloc, fields.len())?;
     for (i, field) in fields.iter().enumerate() {
-        cells.push_reserved(cell_in(alloc, field, &values[i])?);
+        cells.push_reserved(cell_in(alloc, date_form, field, &values[i])?);
     }
     Ok(cells)
 }
@@ -374,38 +437,45 @@ fn cells_by_place(alloc: Global, fields: &[Field], values: &[Json]) -> Result<Ve
 #[cycle(cells)]
 fn cells_by_name(
     alloc: Global,
+    date_form: DateForm,
     fields: &[Field],
     members: &Map<String, Json>,
 ) -> Result<Vec<Value>, CellError>
     ensures { Gives refusal_of (λ v. cells_of (map cell v.items)) result
-        (cells_by_name (columns_of (map column_of fields.now)) (members_view members.now.entries)) }
+        (cells_by_name date_form (columns_of (map column_of fields.now)) (members_view members.now.entries)) }
 {
     let mut cells = Vec::with_capacity(alloc, fields.len())?;
     for field in fields {
-        cells.push_reserved(member_in(alloc, field, members)?);
+        cells.push_reserved(member_in(alloc, date_form, field, members)?);
     }
     Ok(cells)
 }
 
 #[cycle(cells)]
-fn member_in(alloc: Global, field: &Field, members: &Map<String, Json>) -> Result<Value, CellError>
-    ensures { Gives refusal_of cell result (member_of (column_of field.now) (members_view members.now.entries)) }
+fn member_in(
+    alloc: Global,
+    date_form: DateForm,
+    field: &Field,
+    members: &Map<String, Json>,
+) -> Result<Value, CellError>
+    ensures { Gives refusal_of cell result (member_of date_form (column_of field.now) (members_view members.now.entries)) }
 {
     match member(members, name_of(field)) {
-        Some(value) => cell_in(alloc, field, value),
+        Some(value) => cell_in(alloc, date_form, field, value),
         None => absent(field),
     }
 }
 
 pub(crate) fn value_row(
     alloc: Global,
+    date_form: DateForm,
     schema: &Schema,
     limited: bool,
     value: &Json,
 ) -> Result<Row, CellError>
     requires { limited ≡ is_any_limited (columns_of (schema_of schema.now).columns) }
-    ensures { Gives refusal_of row_of result (value_row (schema_of schema.now) (view value.now)) }
+    ensures { Gives refusal_of row_of result (value_row date_form (schema_of schema.now) (view value.now)) }
 {
-    let cells = cells_in(alloc, &schema.fields, value)?;
+    let cells = cells_in(alloc, date_form, &schema.fields, value)?;
     accepted(alloc, schema, limited, cells)
 }

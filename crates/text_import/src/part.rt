@@ -11,9 +11,10 @@ ghost use Rattle.text_import.specs.Objects.{lines_of, line_value};
 ghost use Rattle.text_import.specs.ValuePart.{value_part_of};
 ghost use Rattle.text_import.specs.Part.{part_of, line_part_of, nested_part, other_name, refused_names, header_of, refused_header, refused_field, refused_in_record, refused_in_items, refused_in_members, refused_in_value, refused_in_read, refused_in_line, numbered_part, refused_part};
 ghost use Rattle.text_import.specs.Part as plain;
+ghost use Rattle.text_import.specs.FieldForm.{field_form};
 
-use crate::TextForm;
 use crate::flat::field_cell;
+use crate::form::{FieldForm, TextForm};
 use crate::jsonl::{line_at, line_value};
 use crate::objects::{first_repeated, first_unknown};
 use crate::records::{is_nested, record_at, record_field};
@@ -21,6 +22,7 @@ use crate::refusal::CellError;
 use crate::texts::{is_name_of, name_of};
 use crate::value_part::{ValuePart, is_refused, part_by_name, part_by_place};
 use arrow_schema::{Field, Schema};
+use civil_days::DateForm;
 use csv::ByteRecord;
 use serde_json::{Map, Value as Json};
 use std::alloc::{AllocError, Global};
@@ -191,15 +193,15 @@ fn field_part(
 fn refused_field(
     alloc: Global,
     fields: &[Field],
-    null_text: &[u8],
+    form: &FieldForm<'_>,
     row: &ByteRecord,
 ) -> Result<Option<RefusedPart>, AllocError>
     requires { length (fields_of row.now) ≡ length fields.now }
-    ensures { IfOk result (λ part. option_map part_of part ≡ refused_field null_text.now 0 (map column_of fields.now) (fields_of row.now)) }
+    ensures { IfOk result (λ part. option_map part_of part ≡ refused_field (field_form form.now) 0 (map column_of fields.now) (fields_of row.now)) }
 {
     for (i, field) in fields.iter().enumerate() {
         let text = record_field(row, i);
-        if is_refused(field_cell(alloc, field, null_text, text))? {
+        if is_refused(field_cell(alloc, field, form, text))? {
             return Ok(Some(field_part(alloc, field, i, text)?));
         }
     }
@@ -209,10 +211,10 @@ fn refused_field(
 fn refused_in_record(
     alloc: Global,
     fields: &[Field],
-    null_text: &[u8],
+    form: &FieldForm<'_>,
     row: &ByteRecord,
 ) -> Result<Option<RefusedPart>, AllocError>
-    ensures { IfOk result (λ part. option_map part_of part ≡ refused_in_record null_text.now (map column_of fields.now) (fields_of row.now)) }
+    ensures { IfOk result (λ part. option_map part_of part ≡ refused_in_record (field_form form.now) (map column_of fields.now) (fields_of row.now)) }
 {
     if row.len() != fields.len() {
         return Ok(Some(RefusedPart::RecordCount {
@@ -220,23 +222,23 @@ fn refused_in_record(
             columns: fields.len(),
         }));
     }
-    refused_field(alloc, fields, null_text, row)
+    refused_field(alloc, fields, form, row)
 }
 
 // Returns the refused part of the record at this place of a CSV text, whose header has the place 0.
 fn part_of_record(
     alloc: Global,
     schema: &Schema,
-    null_text: &str,
+    form: &FieldForm<'_>,
     text: &[u8],
     place: u64,
 ) -> Result<Option<RefusedPart>, AllocError>
     ensures { IfOk result (λ part. option_map part_of part
-        ≡ option_and_then (refused_in_record null_text.now (schema_of schema.now).columns) (slice_get (records_of text.now) place)) }
+        ≡ option_and_then (refused_in_record (field_form form.now) (schema_of schema.now).columns) (slice_get (records_of text.now) place)) }
 {
     let mut row = ByteRecord::new(alloc);
     if record_at(alloc, text, &mut row, place)? {
-        refused_in_record(alloc, &schema.fields, null_text.as_bytes(), &row)
+        refused_in_record(alloc, &schema.fields, form, &row)
     } else {
         Ok(None)
     }
@@ -254,10 +256,11 @@ fn value_part(part: Option<ValuePart>) -> Option<LinePart>
 #[tactic(auto, using(crate::proofs::PartLemmas::counted_rules))]
 fn refused_in_items(
     alloc: Global,
+    date_form: DateForm,
     fields: &[Field],
     values: &[Json],
 ) -> Result<Option<LinePart>, AllocError>
-    ensures { IfOk result (λ part. option_map line_part_of part ≡ refused_in_items (columns_of (map column_of fields.now)) (items_view values.now)) }
+    ensures { IfOk result (λ part. option_map line_part_of part ≡ refused_in_items date_form (columns_of (map column_of fields.now)) (items_view values.now)) }
 {
     if values.len() != fields.len() {
         return Ok(Some(LinePart::Count {
@@ -265,17 +268,18 @@ fn refused_in_items(
             columns: fields.len(),
         }));
     }
-    Ok(value_part(part_by_place(alloc, "", fields, values)?))
+    Ok(value_part(part_by_place(alloc, date_form, "", fields, values)?))
 }
 
 #[tactic(auto, using(crate::proofs::PartLemmas::named_rules))]
 fn refused_in_members(
     alloc: Global,
+    date_form: DateForm,
     fields: &[Field],
     members: &Map<String, Json>,
 ) -> Result<Option<LinePart>, AllocError>
     ensures { IfOk result (λ part. option_map line_part_of part
-        ≡ refused_in_members (columns_of (map column_of fields.now)) (members_view members.now.entries)) }
+        ≡ refused_in_members date_form (columns_of (map column_of fields.now)) (members_view members.now.entries)) }
 {
     if let Some(name) = first_repeated(fields) {
         return Ok(Some(LinePart::RepeatedName {
@@ -287,41 +291,48 @@ fn refused_in_members(
             name: String::from_str(alloc, name)?,
         }));
     }
-    Ok(value_part(part_by_name(alloc, "", fields, members)?))
+    Ok(value_part(part_by_name(alloc, date_form, "", fields, members)?))
 }
 
 fn refused_in_value(
     alloc: Global,
+    date_form: DateForm,
     fields: &[Field],
     value: &Json,
 ) -> Result<Option<LinePart>, AllocError>
-    ensures { IfOk result (λ part. option_map line_part_of part ≡ refused_in_value (columns_of (map column_of fields.now)) (view value.now)) }
+    ensures { IfOk result (λ part. option_map line_part_of part ≡ refused_in_value date_form (columns_of (map column_of fields.now)) (view value.now)) }
 {
     match value {
-        Json::Array(values) => refused_in_items(alloc, fields, values),
-        Json::Object(members) => refused_in_members(alloc, fields, members),
+        Json::Array(values) => refused_in_items(alloc, date_form, fields, values),
+        Json::Object(members) => refused_in_members(alloc, date_form, fields, members),
         _ => Ok(None),
     }
 }
 
 fn refused_in_read(
     alloc: Global,
+    date_form: DateForm,
     fields: &[Field],
     line: &[u8],
 ) -> Result<Option<LinePart>, AllocError>
-    ensures { IfOk result (λ part. option_map line_part_of part ≡ refused_in_read (columns_of (map column_of fields.now)) (line_value line.now)) }
+    ensures { IfOk result (λ part. option_map line_part_of part ≡ refused_in_read date_form (columns_of (map column_of fields.now)) (line_value line.now)) }
 {
     match line_value(alloc, line) {
-        Ok(value) => refused_in_value(alloc, fields, &value),
+        Ok(value) => refused_in_value(alloc, date_form, fields, &value),
         Err(CellError::Refused(_)) => Ok(None),
         Err(CellError::OutOfMemory) => Err(AllocError),
     }
 }
 
-fn refused_in_line(alloc: Global, schema: &Schema, line: &[u8]) -> Result<RefusedPart, AllocError>
-    ensures { IfOk result (λ part. part_of part ≡ refused_in_line (schema_of schema.now) line.now) }
+fn refused_in_line(
+    alloc: Global,
+    date_form: DateForm,
+    schema: &Schema,
+    line: &[u8],
+) -> Result<RefusedPart, AllocError>
+    ensures { IfOk result (λ part. part_of part ≡ refused_in_line date_form (schema_of schema.now) line.now) }
 {
-    let part = refused_in_read(alloc, &schema.fields, line)?;
+    let part = refused_in_read(alloc, date_form, &schema.fields, line)?;
     let text = Vec::from_slice(alloc, line)?;
     Ok(RefusedPart::Line { part, text })
 }
@@ -329,15 +340,16 @@ fn refused_in_line(alloc: Global, schema: &Schema, line: &[u8]) -> Result<Refuse
 // Returns the refused part of the line at this place of a text of JSON Lines, counted from 0.
 fn part_of_line(
     alloc: Global,
+    date_form: DateForm,
     schema: &Schema,
     text: &[u8],
     place: u64,
 ) -> Result<Option<RefusedPart>, AllocError>
-    ensures { IfOk result (λ part. option_map part_of part ≡ option_map (refused_in_line (schema_of schema.now)) (slice_get (lines_of text.now) place)) }
+    ensures { IfOk result (λ part. option_map part_of part ≡ option_map (refused_in_line date_form (schema_of schema.now)) (slice_get (lines_of text.now) place)) }
 {
     match line_at(alloc, text, place)? {
         None => Ok(None),
-        Some(line) => Ok(Some(refused_in_line(alloc, schema, line)?)),
+        Some(line) => Ok(Some(refused_in_line(alloc, date_form, schema, line)?)),
     }
 }
 
@@ -353,8 +365,10 @@ fn numbered_part(
     ensures { IfOk result (λ part. option_map part_of part ≡ numbered_part form.now (schema_of schema.now) text.now number) }
 {
     match form {
-        TextForm::Csv { null_text } => part_of_record(alloc, schema, null_text, text, number),
-        TextForm::JsonLines => part_of_line(alloc, schema, text, number - 1),
+        TextForm::Csv(form) => part_of_record(alloc, schema, form, text, number),
+        TextForm::JsonLines(date_form) => {
+            part_of_line(alloc, *date_form, schema, text, number - 1)
+        },
     }
 }
 
@@ -381,7 +395,7 @@ pub fn refused_part(
         return numbered_part(alloc, form, schema, text, number);
     }
     match form {
-        TextForm::Csv { null_text: _ } => refused_header(alloc, &schema.fields, text),
-        TextForm::JsonLines => Ok(None),
+        TextForm::Csv(_) => refused_header(alloc, &schema.fields, text),
+        TextForm::JsonLines(_) => Ok(None),
     }
 }

@@ -16,8 +16,10 @@ ghost use Rattle.facts.specs.Outcomes.{Gives, Reports};
 ghost use Rattle.text_import.specs.Rows.{rows_from};
 ghost use Rattle.text_import.specs.Records.{whole, are_names, is_nested_column, field_cells, record_cells, record_row, records_of, rows_behind_header, csv_rows_of};
 ghost use Rattle.text_import.specs.Stands.{HasLeft, Stands, Reads, TakesNext, is_text};
+ghost use Rattle.text_import.specs.FieldForm.{PlainFieldForm, field_form};
 
 use crate::flat::field_cell;
+use crate::form::FieldForm;
 use crate::refusal::{CellError, Refusal, Refused, TextError};
 use crate::rows::{accepted, numbered};
 use crate::texts::is_name_of;
@@ -121,15 +123,15 @@ pub fn record_field(row: &ByteRecord, i: usize) -> &[u8]
 fn field_cells(
     alloc: Global,
     fields: &[Field],
-    null_text: &[u8],
+    form: &FieldForm<'_>,
     row: &ByteRecord,
 ) -> Result<Vec<Value>, CellError>
     requires { length (fields_of row.now) ≡ length fields.now }
-    ensures { Gives refusal_of (λ v. map cell v.items) result (field_cells null_text.now (map column_of fields.now) (fields_of row.now)) }
+    ensures { Gives refusal_of (λ v. map cell v.items) result (field_cells (field_form form.now) (map column_of fields.now) (fields_of row.now)) }
 {
     let mut cells = Vec::with_capacity(alloc, fields.len())?;
     for (i, field) in fields.iter().enumerate() {
-        cells.push_reserved(field_cell(alloc, field, null_text, record_field(row, i))?);
+        cells.push_reserved(field_cell(alloc, field, form, record_field(row, i))?);
     }
     Ok(cells)
 }
@@ -137,28 +139,28 @@ fn field_cells(
 fn record_cells(
     alloc: Global,
     fields: &[Field],
-    null_text: &[u8],
+    form: &FieldForm<'_>,
     row: &ByteRecord,
 ) -> Result<Vec<Value>, CellError>
-    ensures { Gives refusal_of (λ v. map cell v.items) result (record_cells null_text.now (map column_of fields.now) (fields_of row.now)) }
+    ensures { Gives refusal_of (λ v. map cell v.items) result (record_cells (field_form form.now) (map column_of fields.now) (fields_of row.now)) }
 {
     if row.len() != fields.len() {
         return Err(CellError::Refused(Refusal::Width));
     }
-    field_cells(alloc, fields, null_text, row)
+    field_cells(alloc, fields, form, row)
 }
 
 fn record_row(
     alloc: Global,
     schema: &Schema,
     limited: bool,
-    null_text: &[u8],
+    form: &FieldForm<'_>,
     row: &ByteRecord,
 ) -> Result<Row, CellError>
     requires { limited ≡ is_any_limited (columns_of (schema_of schema.now).columns) }
-    ensures { Gives refusal_of row_of result (record_row (schema_of schema.now) null_text.now (fields_of row.now)) }
+    ensures { Gives refusal_of row_of result (record_row (schema_of schema.now) (field_form form.now) (fields_of row.now)) }
 {
-    let cells = record_cells(alloc, &schema.fields, null_text, row)?;
+    let cells = record_cells(alloc, &schema.fields, form, row)?;
     accepted(alloc, schema, limited, cells)
 }
 
@@ -170,27 +172,27 @@ pub fn numbered_row(
     alloc: Global,
     schema: &Schema,
     limited: bool,
-    null_text: &[u8],
+    form: &FieldForm<'_>,
     row: &ByteRecord,
     number: u64,
 ) -> Result<Row, TextError>
     requires { limited ≡ is_any_limited (columns_of (schema_of schema.now).columns) }
-    ensures { Gives refused_by row_of result (numbered number (record_row (schema_of schema.now) null_text.now (fields_of row.now))) }
+    ensures { Gives refused_by row_of result (numbered number (record_row (schema_of schema.now) (field_form form.now) (fields_of row.now))) }
 {
-    numbered(number, record_row(alloc, schema, limited, null_text, row))
+    numbered(number, record_row(alloc, schema, limited, form, row))
 }
 
 // Reads the rows of the remaining records, of which there are at most `most`, through one reused record.
 fn record_rows(
     alloc: Global,
     schema: &Schema,
-    null_text: &[u8],
+    form: &FieldForm<'_>,
     reader: &mut Reader<&[u8]>,
     row: &mut ByteRecord,
     most: usize,
 ) -> Result<Vec<Row>, TextError>
     ensures { (records : List (List (List ℕ))) → HasLeft reader.old records → length records ≤ most
-        → Gives refused_by (λ v. map row_of v.items) result (rows_from (record_row (schema_of schema.now) null_text.now) 1 records) }
+        → Gives refused_by (λ v. map row_of v.items) result (rows_from (record_row (schema_of schema.now) (field_form form.now)) 1 records) }
 {
     let limited = has_limits(schema);
     let mut rows = Vec::new(alloc);
@@ -199,7 +201,7 @@ fn record_rows(
             return Ok(rows);
         }
         let number = index as u64 + 1;
-        let read = match numbered_row(alloc, schema, limited, null_text, row, number) {
+        let read = match numbered_row(alloc, schema, limited, form, row, number) {
             Ok(read) => read,
             Err(error) => return Err(error),
         };
@@ -216,10 +218,10 @@ fn pass_header(
 ) -> Result<(), TextError>
     ensures behind { IfOk result (λ _. (all : List (List (List ℕ))) → HasLeft reader.old all
         → (header : List (List ℕ)) × (records : List (List (List ℕ))) × (all ≡ header ∷ records) × HasLeft reader.new records
-        × ((null_text : List ℕ) → rows_behind_header (schema_of schema.now) null_text all
-        ≡ rows_from (record_row (schema_of schema.now) null_text) 1 records)) }
+        × ((form : PlainFieldForm) → rows_behind_header (schema_of schema.now) form all
+        ≡ rows_from (record_row (schema_of schema.now) form) 1 records)) }
     ensures refused { IfErr result (λ e. (all : List (List (List ℕ))) → HasLeft reader.old all
-        → (null_text : List ℕ) → Reports (refused_by e) (rows_behind_header (schema_of schema.now) null_text all)) }
+        → (form : PlainFieldForm) → Reports (refused_by e) (rows_behind_header (schema_of schema.now) form all)) }
 {
     if !read_next(reader, row)? {
         return Err(whole(Refusal::Header));
@@ -243,9 +245,9 @@ pub fn csv_records<'a>(
 ) -> Result<Reader<&'a [u8]>, TextError>
     ensures behind { IfOk result (λ reader. (records : List (List (List ℕ))) × HasLeft reader records × (length records ≤ length text.now)
         × ((header : List (List ℕ)) × (records_of text.now ≡ header ∷ records))
-        × ((null_text : List ℕ) → csv_rows_of (schema_of schema.now) null_text text.now
-        ≡ rows_from (record_row (schema_of schema.now) null_text) 1 records)) }
-    ensures refused { IfErr result (λ e. (null_text : List ℕ) → Reports (refused_by e) (csv_rows_of (schema_of schema.now) null_text text.now)) }
+        × ((form : PlainFieldForm) → csv_rows_of (schema_of schema.now) form text.now
+        ≡ rows_from (record_row (schema_of schema.now) form) 1 records)) }
+    ensures refused { IfErr result (λ e. (form : PlainFieldForm) → Reports (refused_by e) (csv_rows_of (schema_of schema.now) form text.now)) }
 {
     if has_nested(&schema.fields) {
         return Err(whole(Refusal::Nested));
@@ -290,7 +292,8 @@ pub(crate) fn record_at(
 /// is nullable.
 ///
 /// ```
-/// let rows = csv_rows(alloc, &schema, b"a,s\n1,x\n,\n", "")?;
+/// let form = FieldForm { null_text: b"", dates: DateForm::Numbers };
+/// let rows = csv_rows(alloc, &schema, b"a,s\n1,x\n,\n", &form)?;
 /// ```
 ///
 /// # Errors
@@ -299,21 +302,14 @@ pub fn csv_rows(
     alloc: Global,
     schema: &Schema,
     text: &[u8],
-    null_text: &str,
+    form: &FieldForm<'_>,
 ) -> Result<Vec<Row>, TextError>
-    ensures exact { Gives refused_by (λ v. map row_of v.items) result (csv_rows_of (schema_of schema.now) null_text.now text.now) }
+    ensures exact { Gives refused_by (λ v. map row_of v.items) result (csv_rows_of (schema_of schema.now) (field_form form.now) text.now) }
 {
     match csv_records(alloc, schema, text) {
         Ok(mut reader) => {
             let mut row = ByteRecord::new(alloc);
-            record_rows(
-                alloc,
-                schema,
-                null_text.as_bytes(),
-                &mut reader,
-                &mut row,
-                text.len(),
-            )
+            record_rows(alloc, schema, form, &mut reader, &mut row, text.len())
         }
         Err(error) => Err(error),
     }

@@ -45,6 +45,10 @@ pub enum Refusal {
     DictionaryFull,
     /// X17: a kind of JSON value that the type does not accept.
     WrongKind,
+    /// X18: no date or time of its type.
+    NotADate,
+    /// X19: an offset in a column without a time zone, or none in a column of a time zone other than UTC.
+    WrongOffset,
 }
 
 /// A refusal, and the number of its record: counted from 1 after the header, and 0 if it has no record.
@@ -124,6 +128,8 @@ fn refusal_text(refusal: Refusal) -> &'static str
         Refusal::TooHeavy => "X15 TooHeavy",
         Refusal::DictionaryFull => "X16 DictionaryFull",
         Refusal::WrongKind => "X17 WrongKind",
+        Refusal::NotADate => "X18 NotADate",
+        Refusal::WrongOffset => "X19 WrongOffset",
     }
 }
 

@@ -19,6 +19,7 @@ use crate::refusal::CellError;
 use crate::texts::name_of;
 use arrow_schema::{DataType, Field};
 use cells::Value;
+use civil_days::DateForm;
 use serde_json::{Map, Value as Json};
 use std::alloc::{AllocError, Global};
 
@@ -122,10 +123,11 @@ fn below_name(
 #[cycle(parts)]
 pub(crate) fn cell_part(
     alloc: Global,
+    date_form: DateForm,
     field: &Field,
     value: &Json,
 ) -> Result<Option<ValuePart>, AllocError>
-    ensures { IfOk result (λ part. option_map value_part_of part ≡ cell_part (column_of field.now) (view value.now)) }
+    ensures { IfOk result (λ part. option_map value_part_of part ≡ cell_part date_form (column_of field.now) (view value.now)) }
 {
     match value {
         Json::Null => {
@@ -135,28 +137,40 @@ pub(crate) fn cell_part(
                 Ok(Some(itself(alloc, Reason::Value)))
             }
         }
-        _ => kind_part(alloc, field, value),
+        _ => kind_part(alloc, date_form, field, value),
     }
 }
 
 #[tactic(auto, unfolding(crate::specs::ValuePart::kind_part))]
 #[cycle(parts)]
-fn kind_part(alloc: Global, field: &Field, value: &Json) -> Result<Option<ValuePart>, AllocError>
-    ensures { IfOk result (λ part. option_map value_part_of part ≡ kind_part (kind_of_column (column_of field.now)) (view value.now)) }
+fn kind_part(
+    alloc: Global,
+    date_form: DateForm,
+    field: &Field,
+    value: &Json,
+) -> Result<Option<ValuePart>, AllocError>
+    ensures { IfOk result (λ part. option_map value_part_of part ≡ kind_part date_form (kind_of_column (column_of field.now)) (view value.now)) }
 {
     match &field.data_type {
-        DataType::List(item) => list_part(alloc, item, value),
-        DataType::LargeList(item) => list_part(alloc, item, value),
-        DataType::FixedSizeList(size, item) => fixed_list_part(alloc, *size, item, value),
-        DataType::Struct(fields) => struct_part(alloc, fields, value),
-        _ => flat_part(alloc, field, value),
+        DataType::List(item) => list_part(alloc, date_form, item, value),
+        DataType::LargeList(item) => list_part(alloc, date_form, item, value),
+        DataType::FixedSizeList(size, item) => fixed_list_part(
+            alloc, date_form, *size, item, value,
+        ),
+        DataType::Struct(fields) => struct_part(alloc, date_form, fields, value),
+        _ => flat_part(alloc, date_form, field, value),
     }
 }
 
-fn flat_part(alloc: Global, field: &Field, value: &Json) -> Result<Option<ValuePart>, AllocError>
-    ensures { IfOk result (λ part. option_map value_part_of part ≡ flat_part (kind_in (kind_of_column (column_of field.now)) (view value.now))) }
+fn flat_part(
+    alloc: Global,
+    date_form: DateForm,
+    field: &Field,
+    value: &Json,
+) -> Result<Option<ValuePart>, AllocError>
+    ensures { IfOk result (λ part. option_map value_part_of part ≡ flat_part (kind_in date_form (kind_of_column (column_of field.now)) (view value.now))) }
 {
-    if is_refused(typed_in(alloc, field, value))? {
+    if is_refused(typed_in(alloc, date_form, field, value))? {
         Ok(Some(itself(alloc, Reason::Value)))
     } else {
         Ok(None)
@@ -164,11 +178,16 @@ fn flat_part(alloc: Global, field: &Field, value: &Json) -> Result<Option<ValueP
 }
 
 #[cycle(parts)]
-fn list_part(alloc: Global, item: &Field, value: &Json) -> Result<Option<ValuePart>, AllocError>
-    ensures { IfOk result (λ part. option_map value_part_of part ≡ list_part (cell_part (column_of item.now)) (view value.now)) }
+fn list_part(
+    alloc: Global,
+    date_form: DateForm,
+    item: &Field,
+    value: &Json,
+) -> Result<Option<ValuePart>, AllocError>
+    ensures { IfOk result (λ part. option_map value_part_of part ≡ list_part (cell_part date_form (column_of item.now)) (view value.now)) }
 {
     match value {
-        Json::Array(values) => items_part(alloc, item, values),
+        Json::Array(values) => items_part(alloc, date_form, item, values),
         _ => Ok(Some(itself(alloc, Reason::Value))),
     }
 }
@@ -176,14 +195,15 @@ fn list_part(alloc: Global, item: &Field, value: &Json) -> Result<Option<ValuePa
 #[cycle(parts)]
 fn fixed_list_part(
     alloc: Global,
+    date_form: DateForm,
     size: u32,
     item: &Field,
     value: &Json,
 ) -> Result<Option<ValuePart>, AllocError>
-    ensures { IfOk result (λ part. option_map value_part_of part ≡ fixed_list_part size (cell_part (column_of item.now)) (view value.now)) }
+    ensures { IfOk result (λ part. option_map value_part_of part ≡ fixed_list_part size (cell_part date_form (column_of item.now)) (view value.now)) }
 {
     match value {
-        Json::Array(values) => sized_part(alloc, size, item, values),
+        Json::Array(values) => sized_part(alloc, date_form, size, item, values),
         _ => Ok(Some(itself(alloc, Reason::Value))),
     }
 }
@@ -192,26 +212,32 @@ fn fixed_list_part(
 #[cycle(parts)]
 fn sized_part(
     alloc: Global,
+    date_form: DateForm,
     size: u32,
     item: &Field,
     values: &[Json],
 ) -> Result<Option<ValuePart>, AllocError>
-    ensures { IfOk result (λ part. option_map value_part_of part ≡ sized_part size (items_part 0 (cell_part (column_of item.now))) (items_view values.now)) }
+    ensures { IfOk result (λ part. option_map value_part_of part ≡ sized_part size (items_part 0 (cell_part date_form (column_of item.now))) (items_view values.now)) }
 {
     let wanted = size as usize;
     if values.len() != wanted {
         let items = values.len();
         return Ok(Some(itself(alloc, Reason::Count { items, wanted })));
     }
-    items_part(alloc, item, values)
+    items_part(alloc, date_form, item, values)
 }
 
 #[cycle(parts)]
-fn items_part(alloc: Global, item: &Field, values: &[Json]) -> Result<Option<ValuePart>, AllocError>
-    ensures { IfOk result (λ part. option_map value_part_of part ≡ items_part 0 (cell_part (column_of item.now)) (items_view values.now)) }
+fn items_part(
+    alloc: Global,
+    date_form: DateForm,
+    item: &Field,
+    values: &[Json],
+) -> Result<Option<ValuePart>, AllocError>
+    ensures { IfOk result (λ part. option_map value_part_of part ≡ items_part 0 (cell_part date_form (column_of item.now)) (items_view values.now)) }
 {
     for (place, value) in values.iter().enumerate() {
-        if let Some(part) = cell_part(alloc, item, value)? {
+        if let Some(part) = cell_part(alloc, date_form, item, value)? {
             return Ok(Some(below_item(alloc, place, &part)?));
         }
     }
@@ -221,17 +247,18 @@ fn items_part(alloc: Global, item: &Field, values: &[Json]) -> Result<Option<Val
 #[cycle(parts)]
 fn struct_part(
     alloc: Global,
+    date_form: DateForm,
     fields: &[Field],
     value: &Json,
 ) -> Result<Option<ValuePart>, AllocError>
     ensures { IfOk result (λ part. option_map value_part_of part
-        ≡ struct_part (sized_part (column_count (columns_of (map column_of fields.now))) (part_by_place dot 0 (columns_of (map column_of fields.now))))
-        (λ ms. option_or (names_part (names_of (columns_of (map column_of fields.now))) ms) (part_by_name dot 0 (columns_of (map column_of fields.now)) ms))
+        ≡ struct_part (sized_part (column_count (columns_of (map column_of fields.now))) (part_by_place date_form dot 0 (columns_of (map column_of fields.now))))
+        (λ ms. option_or (names_part (names_of (columns_of (map column_of fields.now))) ms) (part_by_name date_form dot 0 (columns_of (map column_of fields.now)) ms))
         (view value.now)) }
 {
     match value {
-        Json::Array(values) => placed_part(alloc, fields, values),
-        Json::Object(members) => named_part(alloc, fields, members),
+        Json::Array(values) => placed_part(alloc, date_form, fields, values),
+        Json::Object(members) => named_part(alloc, date_form, fields, members),
         _ => Ok(Some(itself(alloc, Reason::Value))),
     }
 }
@@ -240,33 +267,35 @@ fn struct_part(
 #[cycle(parts)]
 fn placed_part(
     alloc: Global,
+    date_form: DateForm,
     fields: &[Field],
     values: &[Json],
 ) -> Result<Option<ValuePart>, AllocError>
     ensures { IfOk result (λ part. option_map value_part_of part
-        ≡ sized_part (column_count (columns_of (map column_of fields.now))) (part_by_place dot 0 (columns_of (map column_of fields.now))) (items_view values.now)) }
+        ≡ sized_part (column_count (columns_of (map column_of fields.now))) (part_by_place date_form dot 0 (columns_of (map column_of fields.now))) (items_view values.now)) }
 {
     if values.len() != fields.len() {
         let (items, wanted) = (values.len(), fields.len());
         return Ok(Some(itself(alloc, Reason::Count { items, wanted })));
     }
-    part_by_place(alloc, ".", fields, values)
+    part_by_place(alloc, date_form, ".", fields, values)
 }
 
 #[cycle(parts)]
 fn named_part(
     alloc: Global,
+    date_form: DateForm,
     fields: &[Field],
     members: &Map<String, Json>,
 ) -> Result<Option<ValuePart>, AllocError>
     ensures { IfOk result (λ part. option_map value_part_of part
         ≡ option_or (names_part (names_of (columns_of (map column_of fields.now))) (members_view members.now.entries))
-        (part_by_name dot 0 (columns_of (map column_of fields.now)) (members_view members.now.entries))) }
+        (part_by_name date_form dot 0 (columns_of (map column_of fields.now)) (members_view members.now.entries))) }
 {
     if let Some(part) = names_part(alloc, fields, members)? {
         return Ok(Some(part));
     }
-    part_by_name(alloc, ".", fields, members)
+    part_by_name(alloc, date_form, ".", fields, members)
 }
 
 // Returns what is refused of the names of an object's members. This is fast if nothing is.
@@ -306,15 +335,16 @@ fn refused_names_part(
 #[cycle(parts)]
 pub(crate) fn part_by_place(
     alloc: Global,
+    date_form: DateForm,
     before: &str,
     fields: &[Field],
     values: &[Json],
 ) -> Result<Option<ValuePart>, AllocError>
     requires { length values.now ≡ length fields.now }
-    ensures { IfOk result (λ part. option_map value_part_of part ≡ part_by_place before.now 0 (columns_of (map column_of fields.now)) (items_view values.now)) }
+    ensures { IfOk result (λ part. option_map value_part_of part ≡ part_by_place date_form before.now 0 (columns_of (map column_of fields.now)) (items_view values.now)) }
 {
     for (i, field) in fields.iter().enumerate() {
-        if let Some(part) = cell_part(alloc, field, &values[i])? {
+        if let Some(part) = cell_part(alloc, date_form, field, &values[i])? {
             return Ok(Some(below_name(alloc, before, name_of(field), i, &part)?));
         }
     }
@@ -325,15 +355,16 @@ pub(crate) fn part_by_place(
 #[cycle(parts)]
 pub(crate) fn part_by_name(
     alloc: Global,
+    date_form: DateForm,
     before: &str,
     fields: &[Field],
     members: &Map<String, Json>,
 ) -> Result<Option<ValuePart>, AllocError>
     ensures { IfOk result (λ part. option_map value_part_of part
-        ≡ part_by_name before.now 0 (columns_of (map column_of fields.now)) (members_view members.now.entries)) }
+        ≡ part_by_name date_form before.now 0 (columns_of (map column_of fields.now)) (members_view members.now.entries)) }
 {
     for (i, field) in fields.iter().enumerate() {
-        if let Some(part) = member_part(alloc, field, members)? {
+        if let Some(part) = member_part(alloc, date_form, field, members)? {
             return Ok(Some(below_name(alloc, before, name_of(field), i, &part)?));
         }
     }
@@ -343,13 +374,14 @@ pub(crate) fn part_by_name(
 #[cycle(parts)]
 fn member_part(
     alloc: Global,
+    date_form: DateForm,
     field: &Field,
     members: &Map<String, Json>,
 ) -> Result<Option<ValuePart>, AllocError>
-    ensures { IfOk result (λ part. option_map value_part_of part ≡ member_part_of (column_of field.now) (members_view members.now.entries)) }
+    ensures { IfOk result (λ part. option_map value_part_of part ≡ member_part_of date_form (column_of field.now) (members_view members.now.entries)) }
 {
     match member(members, name_of(field)) {
-        Some(value) => cell_part(alloc, field, value),
+        Some(value) => cell_part(alloc, date_form, field, value),
         None => {
             if field.nullable {
                 Ok(None)

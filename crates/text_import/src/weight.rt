@@ -13,8 +13,9 @@ ghost use Rattle.text_import.specs.Refusals.{refused_by};
 ghost use Rattle.text_import.specs.Rows.{rows_from};
 ghost use Rattle.text_import.specs.Stands.{HasLeft};
 ghost use Rattle.text_import.specs.inner.Weight.{Weighs};
+ghost use Rattle.text_import.specs.FieldForm.{field_form};
 
-use crate::form::TextForm;
+use crate::form::{FieldForm, TextForm};
 use crate::jsonl::{is_blank, line_row};
 use crate::lines::{FirstLine, first_line};
 use crate::records::{csv_records, numbered_row, read_next};
@@ -22,6 +23,7 @@ use crate::refusal::TextError;
 use crate::rows::numbered;
 use arrow_schema::Schema;
 use cells::{MAX_TABLE_WEIGHT, Row, add_weights, has_limits, row_weight};
+use civil_days::DateForm;
 use csv::{ByteRecord, Reader};
 use std::alloc::Global;
 
@@ -37,13 +39,13 @@ fn weight_with(schema: &Schema, weight: u64, row: &Row) -> u64
 fn records_weight(
     alloc: Global,
     schema: &Schema,
-    null_text: &[u8],
+    form: &FieldForm<'_>,
     reader: &mut Reader<&[u8]>,
     row: &mut ByteRecord,
     most: usize,
 ) -> Result<u64, TextError>
     ensures { (records : List (List (List ℕ))) → HasLeft reader.old records → length records ≤ most
-        → Weighs (schema_of schema.now) (rows_from (record_row (schema_of schema.now) null_text.now) 1 records) result }
+        → Weighs (schema_of schema.now) (rows_from (record_row (schema_of schema.now) (field_form form.now)) 1 records) result }
 {
     let limited = has_limits(schema);
     let mut weight = 0;
@@ -52,7 +54,7 @@ fn records_weight(
             return Ok(weight);
         }
         let number = index as u64 + 1;
-        match numbered_row(alloc, schema, limited, null_text, row, number) {
+        match numbered_row(alloc, schema, limited, form, row, number) {
             Ok(read) => weight = weight_with(schema, weight, &read),
             Err(error) => return Err(error),
         }
@@ -64,28 +66,26 @@ fn csv_weight(
     alloc: Global,
     schema: &Schema,
     text: &[u8],
-    null_text: &str,
+    form: &FieldForm<'_>,
 ) -> Result<u64, TextError>
-    ensures { Weighs (schema_of schema.now) (csv_rows_of (schema_of schema.now) null_text.now text.now) result }
+    ensures { Weighs (schema_of schema.now) (csv_rows_of (schema_of schema.now) (field_form form.now) text.now) result }
 {
     match csv_records(alloc, schema, text) {
         Ok(mut reader) => {
             let mut row = ByteRecord::new(alloc);
-            records_weight(
-                alloc,
-                schema,
-                null_text.as_bytes(),
-                &mut reader,
-                &mut row,
-                text.len(),
-            )
+            records_weight(alloc, schema, form, &mut reader, &mut row, text.len())
         }
         Err(error) => Err(error),
     }
 }
 
-fn jsonl_weight(alloc: Global, schema: &Schema, text: &[u8]) -> Result<u64, TextError>
-    ensures { Weighs (schema_of schema.now) (jsonl_rows_of (schema_of schema.now) text.now) result }
+fn jsonl_weight(
+    alloc: Global,
+    date_form: DateForm,
+    schema: &Schema,
+    text: &[u8],
+) -> Result<u64, TextError>
+    ensures { Weighs (schema_of schema.now) (jsonl_rows_of date_form (schema_of schema.now) text.now) result }
 {
     let limited = has_limits(schema);
     let mut count = 0;
@@ -98,7 +98,7 @@ fn jsonl_weight(alloc: Global, schema: &Schema, text: &[u8]) -> Result<u64, Text
             continue;
         }
         count += 1;
-        match numbered(count, line_row(alloc, schema, limited, line)) {
+        match numbered(count, line_row(alloc, date_form, schema, limited, line)) {
             Ok(row) => weight = weight_with(schema, weight, &row),
             Err(error) => return Err(error),
         }
@@ -115,8 +115,8 @@ fn text_weight(
     ensures { Weighs (schema_of schema.now) (rows_of_text form.now (schema_of schema.now) text.now) result }
 {
     match form {
-        TextForm::Csv { null_text } => csv_weight(alloc, schema, text, null_text),
-        TextForm::JsonLines => jsonl_weight(alloc, schema, text),
+        TextForm::Csv(form) => csv_weight(alloc, schema, text, form),
+        TextForm::JsonLines(date_form) => jsonl_weight(alloc, *date_form, schema, text),
     }
 }
 

@@ -4,20 +4,23 @@ use arrowstore::{Failures, NotedFile};
 use sector_dev::LockFile;
 use std::alloc::{Allocator, Global};
 use std::fs::{Metadata, OpenFile, OpenOptions, Permissions};
-use std::io::{self, PipeReader, PipeWriter, Read, Seek, SeekFrom, Write};
+use std::io::{self, ErrorKind, PipeReader, PipeWriter, Read, Seek, SeekFrom, Write};
 use std::os::fd::BorrowedFd;
+use std::os::unix::fs::MetadataExt;
 use std::os::unix::net::SocketAddr;
 use std::path::PathBuf;
 use std::rt::Files;
 use std::time::Clock;
 
-/// The files of `files`, except that of `output`. While one is read or written, the line shows how much; a failed call is noted in `failures`.
+/// The files of `files`, except that of `output`. While one is read or written, the line shows how much; a failed call is noted in `failures`. If it
+/// `waits`, the lock of a file is waited for.
 #[derive(Drop)]
 pub struct ProgressFiles<'a, C: Clock, T, H> {
     files: &'a H,
     line: Option<&'a ProgressLine<'a, C, T>>,
     failures: Option<&'a Failures>,
     output: Target,
+    waits: bool,
 }
 
 impl<'a, C: Clock, T, H> ProgressFiles<'a, C, T, H> {
@@ -26,24 +29,27 @@ impl<'a, C: Clock, T, H> ProgressFiles<'a, C, T, H> {
         line: Option<&'a ProgressLine<'a, C, T>>,
         failures: Option<&'a Failures>,
         output: Target,
+        waits: bool,
     ) -> ProgressFiles<'a, C, T, H> {
         ProgressFiles {
             files,
             line,
             failures,
             output,
+            waits,
         }
     }
 }
 
 impl<C: Clock, T, H: Files> ProgressFiles<'_, C, T, H> {
-    // Opens a file, unless the output is written to it: that would spoil a store.
-    fn open_unless_output(&self, how: &OpenOptions, path: &str) -> io::Result<H::File> {
+    // Opens a file, unless the output is written to it: that would spoil a store. Returns it with the number of its names.
+    fn open_unless_output(&self, how: &OpenOptions, path: &str) -> io::Result<(H::File, u64)> {
         let file = self.files.open_file(how, path)?;
-        if self.output.is_file(&file.metadata()?) {
+        let found = file.metadata()?;
+        if self.output.is_file(&found) {
             return Err(io::Error::other("it is the output"));
         }
-        Ok(file)
+        Ok((file, found.nlink()))
     }
 }
 
@@ -66,9 +72,12 @@ impl<'a, C: Clock, T: Write + Copy, H: Files + AllocGlobal> Files for ProgressFi
         if let Some(failures) = self.failures {
             failures.note_opening(self.files.alloc(), path, &opened);
         }
+        let (file, names) = opened?;
         let file = ProgressFile {
-            file: opened?,
+            file,
             line: self.line,
+            waits: self.waits,
+            names,
             bytes_read: 0,
             bytes_written: 0,
         };
@@ -152,11 +161,14 @@ impl<'a, C: Clock, T: Write + Copy, H: Files + AllocGlobal> Files for ProgressFi
     }
 }
 
-/// A file whose reads and writes are shown.
+/// A file whose reads and writes are shown, and that waits for its lock if it is to.
 #[derive(Drop)]
 pub struct ProgressFile<'a, C: Clock, T, F> {
     file: F,
     line: Option<&'a ProgressLine<'a, C, T>>,
+    waits: bool,
+    // how many it had when it was opened
+    names: u64,
     bytes_read: u64,
     bytes_written: u64,
 }
@@ -236,12 +248,61 @@ impl<C: Clock, T, F: OpenFile> OpenFile for ProgressFile<'_, C, T, F> {
     }
 }
 
-impl<C: Clock, T, F: LockFile> LockFile for ProgressFile<'_, C, T, F> {
+impl<C: Clock, T: Write + Copy, F: OpenFile> ProgressFile<'_, C, T, F> {
+    // Returns whether to wait for a lock that was refused so, and says that.
+    fn is_to_wait(&self, refused: &io::Result<()>) -> bool {
+        if !self.waits || !is_held(refused) {
+            return false;
+        }
+        if let Some(line) = self.line {
+            line.say_waiting();
+        }
+        true
+    }
+
+    // The lock that was waited for may be that of a file which another one has replaced since, so that it lost a name: what is done to it would be lost.
+    fn unless_replaced(&self, locked: io::Result<()>) -> io::Result<()> {
+        locked?;
+        let found = self.file.metadata()?;
+        if found.nlink() < self.names {
+            return Err(io::Error::other("it was replaced or removed meanwhile"));
+        }
+        Ok(())
+    }
+}
+
+// Returns whether a lock was refused since another open file has one.
+fn is_held(refused: &io::Result<()>) -> bool {
+    match refused {
+        Err(error) => error.kind() == ErrorKind::WouldBlock,
+        Ok(()) => false,
+    }
+}
+
+impl<C: Clock, T: Write + Copy, F: LockFile + OpenFile> LockFile for ProgressFile<'_, C, T, F> {
     fn lock_to_write(&self) -> io::Result<()> {
-        self.file.lock_to_write()
+        let locked = self.file.lock_to_write();
+        if self.is_to_wait(&locked) {
+            self.wait_to_write()
+        } else {
+            locked
+        }
     }
 
     fn lock_to_read(&self) -> io::Result<()> {
-        self.file.lock_to_read()
+        let locked = self.file.lock_to_read();
+        if self.is_to_wait(&locked) {
+            self.wait_to_read()
+        } else {
+            locked
+        }
+    }
+
+    fn wait_to_write(&self) -> io::Result<()> {
+        self.unless_replaced(self.file.wait_to_write())
+    }
+
+    fn wait_to_read(&self) -> io::Result<()> {
+        self.unless_replaced(self.file.wait_to_read())
     }
 }

@@ -1,8 +1,9 @@
 -- The columns of a batch for printing.
-use Rattle.std.specs.Prelude.{◌≡◌, ◌<◌, ℕ, ◌/◌, suc, true, false, List, [], ◌∷◌, map, drop}
+use Rattle.std.specs.Prelude.{◌≡◌, ◌<◌, ℕ, ◌/◌, suc, true, false, List, [], ◌∷◌, map, drop, Some, None}
 use Rattle.std.specs.List.{AllByRecursion}
 use Rattle.json.specs.Print.{escape}
 use Rattle.arrow_schema.specs.Column.{Kind, Column, columns_of}
+use Rattle.arrow_schema.specs.Parts.{kind_of_column}
 use Rattle.arrow_schema.specs.View.{column_of, bits_of}
 use Rattle.arrow_schema.specs.declared.types.Field.{Field}
 use Rattle.cells.specs.Cell.{Cell, Cells, text, cell_list}
@@ -12,10 +13,13 @@ use Rattle.columns.specs.Sound.{is_sound, are_sound}
 use Rattle.columns.specs.Tests.{has_short_validity, has_short_buffer, are_few_offsets}
 use Rattle.columns.specs.Texts.{have_utf8_texts}
 use Rattle.columns.specs.View.{view_array, placed_arrays}
+use Rattle.civil_days.specs.declared.date_form.DateForm.{DateForm}
+use Rattle.query.specs.Shown.{dated}
 use Rattle.query.specs.declared.batch_arrays.BatchArrays.{BatchArrays}
 use Rattle.query.specs.declared.column_slots.ColumnSlots.{ColumnSlots}
 use Rattle.query.specs.declared.column_slots.Buffers.{Buffers}
-use Rattle.query.specs.declared.column_slots.Buffers.TheVariants.{Integers, Texts, Others}
+use Rattle.query.specs.declared.column_slots.Buffers.TheVariants.{Integers, Dates, Texts, Others}
+use Rattle.query.specs.declared.column_slots.IntegerBuffers.{IntegerBuffers}
 use Rattle.query.specs.declared.column_slots.TextBuffers.{TextBuffers}
 use Rattle.query.specs.inner.Contents.{span_in}
 use Rattle.query.specs.inner.Slots.{IsIntegerColumn, is_valid_in}
@@ -31,29 +35,34 @@ pub record IsTextColumn (c : Column) (width : ℕ) : Type 0 where
   pub validity : (a : Array) → is_sound c a ≡ true → has_short_validity a ≡ false
   pub offsets : (a : Array) → is_sound c a ≡ true → are_few_offsets width a ≡ false
 
--- these are the buffers of an array of a column
-abbrev pub AreBuffers : Column → Array → Buffers → Type 0
-AreBuffers c a (Integers b) = IsIntegerColumn c b.integer × (b.validity.now ≡ validity_in a) × (b.values.now ≡ values_in a)
-AreBuffers c a (Texts b) =
+-- these are the buffers of integers of an array
+abbrev pub AreIntegers : Column → Array → IntegerBuffers → Type 0
+AreIntegers c a b = IsIntegerColumn c b.integer × (b.validity.now ≡ validity_in a) × (b.values.now ≡ values_in a)
+
+-- these are the buffers of an array of a column, for printing dates in this form
+abbrev pub AreBuffers : DateForm → Column → Array → Buffers → Type 0
+AreBuffers form c a (Integers b) = AreIntegers c a b × (dated form (kind_of_column c) ≡ None)
+AreBuffers form c a (Dates column b) = AreIntegers c a b × (dated form (kind_of_column c) ≡ Some column)
+AreBuffers form c a (Texts b) =
     IsTextColumn c (bits_of b.width / 8) × (b.validity.now ≡ validity_in a) × (b.offsets.now ≡ offsets_in a) × (b.contents.now ≡ contents_in a)
-AreBuffers c a Others = Unit {0}
+AreBuffers form c a Others = Unit {0}
 
 -- this is the column of a field with this array
-pub record IsColumn (f : Field) (a : Array) (s : ColumnSlots) : Type 0 where
+pub record IsColumn (form : DateForm) (f : Field) (a : Array) (s : ColumnSlots) : Type 0 where
   pub column : column_of s.field.now ≡ column_of f
   pub array : view_array s.view ≡ a
-  pub buffers : AreBuffers (column_of s.field.now) (view_array s.view) s.buffers
+  pub buffers : AreBuffers form (column_of s.field.now) (view_array s.view) s.buffers
 
 -- the array of a column in a batch
 abbrev pub array_at : ℕ → BatchArrays → Array
 array_at place b = first_array (placed_arrays b.bytes.now b.dictionaries.now (drop place b.arrays.now))
 
 -- these are the columns of fields, whose arrays begin at a place
-abbrev pub AreColumns : BatchArrays → (place : ℕ) → List Field → List ColumnSlots → Type 0
-AreColumns b place [] [] = Unit {0}
-AreColumns b place [] (s ∷ ss) = ⊥
-AreColumns b place (f ∷ fs) [] = ⊥
-AreColumns b place (f ∷ fs) (s ∷ ss) = IsColumn f (array_at place b) s × AreColumns b (suc place) fs ss
+abbrev pub AreColumns : DateForm → BatchArrays → (place : ℕ) → List Field → List ColumnSlots → Type 0
+AreColumns form b place [] [] = Unit {0}
+AreColumns form b place [] (s ∷ ss) = ⊥
+AreColumns form b place (f ∷ fs) [] = ⊥
+AreColumns form b place (f ∷ fs) (s ∷ ss) = IsColumn form f (array_at place b) s × AreColumns form b (suc place) fs ss
 
 -- ---- their slots
 
@@ -70,12 +79,12 @@ slot_cells ss slot = part_cells (columns_of (slot_columns ss)) (slot_arrays ss) 
 abbrev pub slot_row : List ColumnSlots → ℕ → List Cell
 slot_row ss slot = cell_list (slot_cells ss slot)
 
-abbrev pub HasBuffers : ColumnSlots → Type 0
-HasBuffers s = AreBuffers (column_of s.field.now) (view_array s.view) s.buffers
+abbrev pub HasBuffers : DateForm → ColumnSlots → Type 0
+HasBuffers form s = AreBuffers form (column_of s.field.now) (view_array s.view) s.buffers
 
 -- the first slots can be looked up, and their texts are UTF-8
-pub record AreReadable (ss : List ColumnSlots) (slots : ℕ) : Type 0 where
-  pub buffers : AllByRecursion HasBuffers ss
+pub record AreReadable (form : DateForm) (ss : List ColumnSlots) (slots : ℕ) : Type 0 where
+  pub buffers : AllByRecursion (HasBuffers form) ss
   pub sound : are_sound (columns_of (slot_columns ss)) slots (slot_arrays ss) ≡ true
   pub texts : (slot : ℕ) → slot < slots → have_utf8_texts (slot_cells ss slot) ≡ true
 

@@ -13,6 +13,8 @@ use Rattle.columns.specs.Tests.{has_short_validity, has_short_buffer, are_few}
 use Rattle.columns.specs.View.{placed_arrays}
 use Rattle.values.specs.declared.table_part.Batch.{Batch}
 use Rattle.values.specs.declared.table_part.TablePart.{TablePart}
+use Rattle.civil_days.specs.declared.date_column.DateColumn.{DateColumn}
+use Rattle.query.specs.Shown.{shown_number}
 use Rattle.query.specs.declared.integer_slots.IntegerComparison.{IntegerComparison}
 use Rattle.query.specs.Bound.{Bound, accepts, compares}
 
@@ -25,6 +27,10 @@ integer_cell t a i = number (integer_at (width_of t) t.signed (values_in a) i)
 abbrev pub number_or_null : Option ℤ → Cell
 number_or_null (Some n) = number n
 number_or_null None = null
+
+abbrev pub date_or_null : DateColumn → Option ℤ → Cell
+date_or_null column (Some n) = shown_number (Some column) n
+date_or_null column None = null
 
 -- the values of a type are integers
 pub record IsIntegerKind (kind : Kind) (t : IntegerType) : Type 0 where

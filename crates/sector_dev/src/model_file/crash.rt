@@ -33,6 +33,7 @@ impl ModelFile {
             log: Vec::new(alloc),
             stored,
             sound: true,
+            changed: Vec::new(alloc),
             fail: 0,
         })
     }

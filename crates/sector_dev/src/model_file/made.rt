@@ -28,6 +28,7 @@ impl ModelFile {
             log: Vec::new(alloc),
             stored: Vec::new(alloc),
             sound: true,
+            changed: Vec::new(alloc),
             fail: 0,
         })
     }

@@ -1,30 +1,30 @@
 // Makes the sectors of a file of the system.
 ghost use Rattle.std.specs.Prelude.{◌≡◌, ◌≤◌};
-ghost use Rattle.sector_dev.specs.View.{opened_file};
-ghost use Rattle.sector_dev.specs.declared.file.TheConstants.{MOST_SECTORS};
+ghost use Rattle.sector_dev.specs.Confirming.{is_in_doubt};
+ghost use Rattle.sector_dev.specs.View.{opened_file, sectors_in};
+ghost use Rattle.sector_dev.specs.declared.file.TheConstants.{LEAST_SECTORS, MOST_SECTORS};
 
-use super::{RulingSectors, SystemFile};
+use super::PlainFile;
+use crate::ConfirmedFile;
 use std::fs::OpenFile;
 use std::io::{Read, Seek, Write};
 
-impl<F: Read + Write + Seek + OpenFile + Drop> SystemFile<F> {
+impl<F: Read + Write + Seek + OpenFile + Drop> ConfirmedFile<PlainFile<F>> {
     // A file with this number of sectors. It is in doubt if another program may have left it so, and it can be written.
-    pub(crate) fn over(file: F, sectors: u64, in_doubt: bool) -> SystemFile<F>
-        requires { sectors ≤ MOST_SECTORS }
-        ensures sectors { result.sectors ≡ sectors }
+    pub(crate) fn of_system(file: F, sectors: u64, in_doubt: bool) -> ConfirmedFile<PlainFile<F>>
+        requires least { LEAST_SECTORS ≤ sectors }
+        requires most { sectors ≤ MOST_SECTORS }
+        ensures sectors { sectors_in result ≡ sectors }
         ensures file { opened_file result ≡ file }
+        ensures doubt { is_in_doubt result ≡ in_doubt }
     {
-        SystemFile {
-            file,
-            sectors,
-            ruling: in_doubt.then(RulingSectors::unread),
-        }
+        ConfirmedFile::over(PlainFile { file, sectors }, in_doubt)
     }
 
     /// Gives back the open file.
     pub fn into_file(self) -> F
         ensures { result ≡ opened_file self }
     {
-        self.file
+        self.into_inner().file
     }
 }

@@ -89,7 +89,7 @@ less_apart a b less same = let tie : order a a ≡ Equal = tied_itself nat_list_
 tied_same : (a b : List ℕ) → order a b ≡ Equal → a ≡ b
 tied_same a b = maps.slice_cmp-IsAntisymmetric maps.nat_cmp-IsAntisymmetric a b
 
-bytes_same : (a b : List ℕ) → bytes_eq a b ≡ true → a ≡ b
+pub bytes_same : (a b : List ℕ) → bytes_eq a b ≡ true → a ≡ b
 bytes_same a b = (bytes_eq-Decides a b).0
 
 bytes_differ : (a b : List ℕ) → bytes_eq a b ≡ false → a ≢ b

@@ -1,5 +1,6 @@
 -- What is decided by the catalogue, as its tests go.
-use Rattle.std.proofs.Common.{◌≡◌, ◌++◌, ℕ, Bool, true, List, Option, Some, None, Result, Ok, Err, inl, inr, refl, sym, ap, subst}
+use Rattle.std.specs.List.{Contains}
+use Rattle.std.proofs.Common.{◌≡◌, ◌++◌, arith, ℕ, Bool, true, List, [], ◌∷◌, Option, Some, None, Result, Ok, Err, inl, inr, refl, sym, ap, subst}
 use Rattle.facts.specs.Checks.{unless}
 use Rattle.sector_dev.specs.Disk.{Image}
 use Rattle.arrow_schema.specs.Column.{PlainSchema}
@@ -14,7 +15,7 @@ use Rattle.catalogue.specs.Entries.{PlainCatalogue}
 use Rattle.tables.specs.declared.refusal.Refusal.{Refusal}
 use Rattle.tables.specs.declared.refusal.Refusal.TheVariants as refusals
 use Rattle.tables.specs.declared.refusal.Limit.TheVariants as limits
-use Rattle.tables.specs.Commands.{PlainCommand, create, import_stream, rename, append_stream, append_rows, save_as, drop_table, all_of, PlainCommands, no_command, and_command}
+use Rattle.tables.specs.Commands.{PlainCommand, create, import_stream, rename, append_stream, append_rows, save_as, drop_table, all_of, PlainCommands, no_command, and_command, changed_names}
 use Rattle.tables.specs.Refusals.{import_refusal}
 use Rattle.tables.specs.Verdict.{of_meaning, of_query, import_tests, too_heavy}
 use Rattle.store_runs.specs.Changes.{PlainEdit, put, extend, move, remove, rebuild, PlainChange, rows_under, IsOfCatalogue}
@@ -23,6 +24,7 @@ use Rattle.catalogue.specs.Entries.{PlainEntry}
 use Rattle.query.specs.Bound.{SelectionRefusal}
 use Rattle.query.specs.Query.{PlainQuery}
 use Rattle.query.specs.Selection.{selection}
+use Rattle.store_runs.specs.Steps.{IsNoList}
 use Rattle.store_runs.specs.Deciding.{missing_in, full_in, create_tests, rename_tests, names_changed, pieces_put, decided_table, of_entry, Addition, given_rows, streamed_rows, selected_entry, IsAdded, IsSaved, Leaves, IsDecided, IsDecidedInTurn, Stops, StopsInTurn, IsAnswered}
 
 -- ---- commands that bring no rows
@@ -59,14 +61,15 @@ module _ (tells : Bool) (image : Image) (c : PlainCatalogue) (name bytes : List 
 -- what ends a decision before it is made is a refusal
 mutual
   pub stops_refused : (tells : Bool) (image : Image) (c : PlainCatalogue) (command : PlainCommand) (answer : Result PlainChange Refusal) → Stops tells image c command answer → (r : Refusal) × (answer ≡ Err r)
-  stops_refused tells image c (all_of cs) answer stops = in_turn_refused tells stops.0 image c cs answer stops.2
+  stops_refused tells image c (all_of cs) answer stops = in_turn_refused tells stops.0 stops.0 image c cs answer stops.2
   stops_refused tells image c _ answer stops = (stops.refusal, stops.told)
 
-  in_turn_refused : (tells : Bool) (next : ℕ) (image : Image) (c : PlainCatalogue) (cs : PlainCommands) (answer : Result PlainChange Refusal) → StopsInTurn tells next image c cs answer → (r : Refusal) × (answer ≡ Err r)
-  in_turn_refused tells next image c no_command answer stops = absurd stops
-  in_turn_refused tells next image c (and_command x xs) answer (inl stops) = stops_refused tells image c x answer stops
-  in_turn_refused tells next image c (and_command x xs) answer (inr (change, is, inl told)) = (refusals.TooMany limits.Segments, told.0)
-  in_turn_refused tells next image c (and_command x xs) answer (inr (change, is, inr (next', image', c', leaves, more))) = in_turn_refused tells next' image' c' xs answer more
+  in_turn_refused : (tells : Bool) (from next : ℕ) (image : Image) (c : PlainCatalogue) (cs : PlainCommands) (answer : Result PlainChange Refusal) → StopsInTurn tells from next image c cs answer → (r : Refusal) × (answer ≡ Err r)
+  in_turn_refused tells from next image c no_command answer stops = absurd stops
+  in_turn_refused tells from next image c (and_command x xs) answer (inl stops) = stops_refused tells image c x answer stops
+  in_turn_refused tells from next image c (and_command x xs) answer (inr (inl (e, read, new, is))) = (refusals.RowsUnwritten, is)
+  in_turn_refused tells from next image c (and_command x xs) answer (inr (inr (change, is, inl told))) = (refusals.TooMany limits.Segments, told.0)
+  in_turn_refused tells from next image c (and_command x xs) answer (inr (inr (change, is, inr (next', image', c', leaves, more)))) = in_turn_refused tells from next' image' c' xs answer more
 
 -- an answer that is a change is what is decided
 pub is_change : (tells : Bool) (image : Image) (c : PlainCatalogue) (command : PlainCommand) (change : PlainChange) → tells ≡ true → IsAnswered tells image c command (Ok change)
@@ -77,41 +80,63 @@ is_change tells image c command change told (inr (inr decided)) = subst (λ (b :
 
 -- ---- the catalogue of an edit
 
--- an edit that does not rebuild the catalogue
-abbrev IsPlainEdit : PlainEdit → Type 0
-IsPlainEdit (rebuild old from made gone) = ⊥
-IsPlainEdit _ = Unit {0}
+-- the edit of a command that is no list changes tables of these names alone
+abbrev pub EditsNames : List (List ℕ) → PlainEdit → Type 0
+EditsNames names (put name schema) = Contains names name
+EditsNames names (extend name) = Contains names name
+EditsNames names (move from to) = Contains names to
+EditsNames names (remove name) = Unit {0}
+EditsNames names _ = ⊥
 
-plain_of : (c : PlainCatalogue) (edit : PlainEdit) → IsPlainEdit edit → IsOfCatalogue c edit
-plain_of c (rebuild old from made gone) plain = absurd plain
-plain_of c _ plain = tt
+of_names : (names : List (List ℕ)) (c : PlainCatalogue) (edit : PlainEdit) → EditsNames names edit → IsOfCatalogue c edit
+of_names names c (rebuild old from made gone) edits = absurd edits
+of_names names c _ edits = tt
 
--- the change behind a test
-tested_plain : (o : Option Refusal) (r : Result PlainChange Refusal) (change : PlainChange) → (r ≡ Ok change → IsPlainEdit change.edit) → unless o r ≡ Ok change → IsPlainEdit change.edit
-tested_plain None r change plain is = plain is
-tested_plain (Some e) r change plain is = absurd (cc is)
+its_own : (name : List ℕ) → Contains (name ∷ []) name
+its_own name = (0, omega arith, refl)
 
-same_plain : (made change : PlainChange) → IsPlainEdit made.edit → ◌≡◌ {A = Result PlainChange Refusal} (Ok made) (Ok change) → IsPlainEdit change.edit
-same_plain made change plain is = let same : made ≡ change = cc is in subst (λ (x : PlainChange). IsPlainEdit x.edit) same plain
+module _ (names : List (List ℕ)) where
+  -- the change behind a test
+  tested_edits : (o : Option Refusal) (r : Result PlainChange Refusal) (change : PlainChange) → (r ≡ Ok change → EditsNames names change.edit) → unless o r ≡ Ok change → EditsNames names change.edit
+  tested_edits None r change edits is = edits is
+  tested_edits (Some e) r change edits is = absurd (cc is)
 
-means_plain : (c : PlainCatalogue) (name : List ℕ) (m : Result PlainTable Fault) (change : PlainChange) → of_meaning m (decided_table c name) ≡ Ok change → IsPlainEdit change.edit
-means_plain c name (Err fault) change is = absurd (cc is)
-means_plain c name (Ok table) change is = tested_plain (full_in c name) (Ok (pieces_put (put name table.schema) table)) change (same_plain (pieces_put (put name table.schema) table) change tt) is
+  same_edits : (made change : PlainChange) → EditsNames names made.edit → ◌≡◌ {A = Result PlainChange Refusal} (Ok made) (Ok change) → EditsNames names change.edit
+  same_edits made change edits is = let same : made ≡ change = cc is in subst (λ (x : PlainChange). EditsNames names x.edit) same edits
 
-added_plain : (image : Image) (name : List ℕ) (tested : Result Addition Refusal) (change : PlainChange) → IsAdded true image name tested (Ok change) → IsPlainEdit change.edit
-added_plain image name (Err r) change is = absurd (cc is)
-added_plain image name (Ok a) change (inr (light, is)) = same_plain (pieces_put (extend name) (rows_under a.entry.schema a.rows)) change tt (sym is)
-added_plain image name (Ok a) change (inl (standing, read, is)) =
-    let made = pieces_put (extend name) (rows_under a.entry.schema a.rows) in
-    tested_plain (too_heavy a.entry.schema (standing.rows ++ a.rows)) (Ok made) change (same_plain made change tt) (sym is)
+  means_edits : (c : PlainCatalogue) (name : List ℕ) (m : Result PlainTable Fault) (change : PlainChange) → Contains names name → of_meaning m (decided_table c name) ≡ Ok change → EditsNames names change.edit
+  means_edits c name (Err fault) change own is = absurd (cc is)
+  means_edits c name (Ok table) change own is = tested_edits (full_in c name) (Ok (pieces_put (put name table.schema) table)) change (same_edits (pieces_put (put name table.schema) table) change own) is
 
-selected_plain : (to : List ℕ) (s : Result PlainTable SelectionRefusal) (change : PlainChange) → of_query s (λ (table : PlainTable). Ok (pieces_put (put to table.schema) table)) ≡ Ok change → IsPlainEdit change.edit
-selected_plain to (Err r) change is = absurd (cc is)
-selected_plain to (Ok table) change is = same_plain (pieces_put (put to table.schema) table) change tt is
+  added_edits : (tells : Bool) (image : Image) (name : List ℕ) (tested : Result Addition Refusal) (change : PlainChange) → Contains names name → IsAdded tells image name tested (Ok change) → EditsNames names change.edit
+  added_edits tells image name (Err r) change own is = absurd (cc is)
+  added_edits tells image name (Ok a) change own (inr (light, is)) = same_edits (pieces_put (extend name) (rows_under a.entry.schema a.rows)) change own (sym is)
+  added_edits tells image name (Ok a) change own (inl (standing, read, is)) =
+      let made = pieces_put (extend name) (rows_under a.entry.schema a.rows) in
+      tested_edits (too_heavy a.entry.schema (standing.rows ++ a.rows)) (Ok made) change (same_edits made change own) (sym is)
 
-saved_plain : (image : Image) (to : List ℕ) (query : PlainQuery) (tested : Result PlainEntry Refusal) (change : PlainChange) → IsSaved true image to query tested (Ok change) → IsPlainEdit change.edit
-saved_plain image to query (Err r) change is = absurd (cc is)
-saved_plain image to query (Ok e) change (standing, read, is) = selected_plain to (selection standing query) change (sym is)
+  selected_edits : (to : List ℕ) (s : Result PlainTable SelectionRefusal) (change : PlainChange) → Contains names to → of_query s (λ (table : PlainTable). Ok (pieces_put (put to table.schema) table)) ≡ Ok change → EditsNames names change.edit
+  selected_edits to (Err r) change own is = absurd (cc is)
+  selected_edits to (Ok table) change own is = same_edits (pieces_put (put to table.schema) table) change own is
+
+  saved_edits : (tells : Bool) (image : Image) (to : List ℕ) (query : PlainQuery) (tested : Result PlainEntry Refusal) (change : PlainChange) → Contains names to → IsSaved tells image to query tested (Ok change) → EditsNames names change.edit
+  saved_edits tells image to query (Err r) change own is = absurd (cc is)
+  saved_edits tells image to query (Ok e) change own (standing, read, is) = selected_edits to (selection standing query) change own (sym is)
+
+-- a command that is no list edits its own names
+pub names_edited : (tells : Bool) (image : Image) (c : PlainCatalogue) (command : PlainCommand) (change : PlainChange) → IsNoList command → IsDecided tells image c command (Ok change) → EditsNames (changed_names command) change.edit
+names_edited tells image c (create name schema) change single is =
+    tested_edits (name ∷ []) (create_tests c name) (Ok (names_changed (put name schema))) change (same_edits (name ∷ []) (names_changed (put name schema)) change (its_own name)) (sym is)
+names_edited tells image c (import_stream name bytes) change single is =
+    tested_edits (name ∷ []) (import_tests name bytes) (of_meaning (meaning supported_codes bytes) (decided_table c name)) change (means_edits (name ∷ []) c name (meaning supported_codes bytes) change (its_own name)) (sym is)
+names_edited tells image c (append_stream name bytes) change single is = added_edits (name ∷ []) tells image name (of_entry (entry_of c name) (streamed_rows bytes)) change (its_own name) is
+names_edited tells image c (append_rows name rows) change single is = added_edits (name ∷ []) tells image name (of_entry (entry_of c name) (given_rows rows)) change (its_own name) is
+names_edited tells image c (save_as from to query) change single is = saved_edits (to ∷ []) tells image to query (of_entry (entry_of c from) (selected_entry c to query)) change (its_own to) is
+names_edited tells image c (rename from to) change single is =
+    tested_edits (from ∷ to ∷ []) (rename_tests c from to) (Ok (names_changed (move from to))) change (same_edits (from ∷ to ∷ []) (names_changed (move from to)) change (1, omega arith, refl)) (sym is)
+names_edited tells image c (drop_table name) change single is =
+    tested_edits (name ∷ []) (missing_in c name) (Ok (names_changed (remove name))) change (same_edits (name ∷ []) (names_changed (remove name)) change tt) (sym is)
+names_edited tells image c (all_of cs) change single is = absurd single
 
 -- what is decided behind the first command of a list
 abbrev Following : (tells : Bool) (from : ℕ) (old : PlainCatalogue) (next : ℕ) → Image → PlainCatalogue → PlainCommands → Result PlainChange Refusal → Result PlainChange Refusal → Type 0
@@ -134,15 +159,11 @@ in_turn_of tells from old next image c (and_command x xs) change (one, decides, 
 
 -- a change that was decided was decided for this catalogue
 pub of_decided : (image : Image) (c : PlainCatalogue) (command : PlainCommand) (change : PlainChange) → IsDecided true image c command (Ok change) → IsOfCatalogue c change.edit
-of_decided image c (create name schema) change is =
-    plain_of c change.edit (tested_plain (create_tests c name) (Ok (names_changed (put name schema))) change (same_plain (names_changed (put name schema)) change tt) (sym is))
-of_decided image c (import_stream name bytes) change is =
-    plain_of c change.edit (tested_plain (import_tests name bytes) (of_meaning (meaning supported_codes bytes) (decided_table c name)) change (means_plain c name (meaning supported_codes bytes) change) (sym is))
-of_decided image c (append_stream name bytes) change is = plain_of c change.edit (added_plain image name (of_entry (entry_of c name) (streamed_rows bytes)) change is)
-of_decided image c (append_rows name rows) change is = plain_of c change.edit (added_plain image name (of_entry (entry_of c name) (given_rows rows)) change is)
-of_decided image c (save_as from to query) change is = plain_of c change.edit (saved_plain image to query (of_entry (entry_of c from) (selected_entry c to query)) change is)
-of_decided image c (rename from to) change is =
-    plain_of c change.edit (tested_plain (rename_tests c from to) (Ok (names_changed (move from to))) change (same_plain (names_changed (move from to)) change tt) (sym is))
-of_decided image c (drop_table name) change is =
-    plain_of c change.edit (tested_plain (missing_in c name) (Ok (names_changed (remove name))) change (same_plain (names_changed (remove name)) change tt) (sym is))
 of_decided image c (all_of cs) change is = in_turn_of true is.0 c is.0 image c cs change is.2
+of_decided image c (create name schema) change is = of_names (changed_names (create name schema)) c change.edit (names_edited true image c (create name schema) change tt is)
+of_decided image c (import_stream name bytes) change is = of_names (changed_names (import_stream name bytes)) c change.edit (names_edited true image c (import_stream name bytes) change tt is)
+of_decided image c (append_stream name bytes) change is = of_names (changed_names (append_stream name bytes)) c change.edit (names_edited true image c (append_stream name bytes) change tt is)
+of_decided image c (append_rows name rows) change is = of_names (changed_names (append_rows name rows)) c change.edit (names_edited true image c (append_rows name rows) change tt is)
+of_decided image c (save_as from to query) change is = of_names (changed_names (save_as from to query)) c change.edit (names_edited true image c (save_as from to query) change tt is)
+of_decided image c (rename from to) change is = of_names (changed_names (rename from to)) c change.edit (names_edited true image c (rename from to) change tt is)
+of_decided image c (drop_table name) change is = of_names (changed_names (drop_table name)) c change.edit (names_edited true image c (drop_table name) change tt is)

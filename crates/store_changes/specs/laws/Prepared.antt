@@ -75,6 +75,13 @@ unplaced_count v pieces change n count same each =
     let streams = length-map pieces.parts.items (λ (v : Vec Buffer). pieces.schema_message.items ++ joined_parts v.items) in
     omega (arith, unplaced_number v change.streams change.counts each, streams, ap (λ (xs : List (List ℕ)). length xs) same, count, whole)
 
+-- as many streams as pieces
+pub streams_count : (pieces : EncodedPieces) (change : PlainChange) (n : ℕ) → n ≡ vec_len pieces.parts → streams_in pieces ≡ change.streams → length change.streams ≡ n
+streams_count pieces change n count same =
+    let whole = pieces.parts.ok in
+    let streams = length-map pieces.parts.items (λ (v : Vec Buffer). pieces.schema_message.items ++ joined_parts v.items) in
+    omega (arith, streams, ap (λ (xs : List (List ℕ)). length xs) same, count, whole)
+
 -- as many numbers of rows as streams
 pub as_many_rows : (streams : List (Vec PiecePart)) (rows : List ℕ) (change : PlainChange) → plain_contents streams ≡ change.streams → rows ≡ change.counts → length change.streams ≡ length change.counts → length streams ≡ length rows
 as_many_rows streams rows change contents counts each =

@@ -25,7 +25,7 @@ use Rattle.store_runs.specs.Calls.{is_failure}
 use Rattle.store_changes.specs.declared.change.Change.{Change}
 use Rattle.store_runs.specs.Changes.{PlainChange, put, move, remove}
 use Rattle.store_runs.specs.Deciding.{Addition, given_rows, rows_of_table, IsAdded, has_entry, missing_in, taken_in, full_in, create_tests, rename_tests, names_changed, pieces_put, decided_table, reads_device, entry_added, entry_read, IsNotRead, IsDecided, Stops, IsAnswered}
-use Rattle.store_changes.specs.Verdicts.{IsSingle}
+use Rattle.store_runs.specs.Steps.{IsNoList}
 use Rattle.store_changes.specs.declared.new_rows.NewRows.{NewRows}
 use Rattle.store_changes.specs.declared.new_rows.NewRows.TheVariants.{Stream, Given, OfTable}
 use Rattle.store_runs.specs.Reading.{Unreads}
@@ -127,7 +127,7 @@ module _ (tells : Bool) (image : Image) (c : PlainCatalogue) where
   no_entry (save_as from to query) e still read = cc still
   no_entry _ e still read = cc read
 
-  by_decision : (command : PlainCommand) (d : Result PlainChange Refusal) → IsSingle command → reads_device command ≡ false → IsDecided tells image c command d → IfErr d IsQuiet
+  by_decision : (command : PlainCommand) (d : Result PlainChange Refusal) → IsNoList command → reads_device command ≡ false → IsDecided tells image c command d → IfErr d IsQuiet
   by_decision (create name schema) d single still is =
       subst (λ (x : Result PlainChange Refusal). IfErr x IsQuiet) (sym is)
       (quietly (create_tests c name) (Ok (names_changed (put name schema))) (first_quiet (bad_name name ∷ taken_in c name ∷ full_in c name ∷ []) (bad_quiet name, (taken_quiet c name, (full_quiet c name, tt)))) tt)
@@ -143,15 +143,15 @@ module _ (tells : Bool) (image : Image) (c : PlainCatalogue) where
   by_decision (all_of cs) d single still is = absurd single
   by_decision _ d single still is = absurd (cc still)
 
-  pub single_stops : (command : PlainCommand) (d : Result PlainChange Refusal) → IsSingle command → Stops tells image c command d → IsNotRead tells image (entry_read c command) d
+  pub single_stops : (command : PlainCommand) (d : Result PlainChange Refusal) → IsNoList command → Stops tells image c command d → IsNotRead tells image (entry_read c command) d
   single_stops (all_of cs) d single stops = absurd single
   single_stops _ d single stops = stops
 
-  answered : (command : PlainCommand) (d : Result PlainChange Refusal) → IsSingle command → reads_device command ≡ false → IsAnswered tells image c command d → IfErr d IsQuiet
+  answered : (command : PlainCommand) (d : Result PlainChange Refusal) → IsNoList command → reads_device command ≡ false → IsAnswered tells image c command d → IfErr d IsQuiet
   answered command d single still (inl memory) = subst (λ (x : Result PlainChange Refusal). IfErr x IsQuiet) (sym memory) memory_quiet
   answered command d single still (inr (inl stops)) = let unread = single_stops command d single stops in absurd (no_entry command unread.entry still unread.tested)
   answered command d single still (inr (inr is)) = by_decision command d single still is
 
-  pub answers_quiet : (command : PlainCommand) (r : Result Change Refusal) → IsSingle command → reads_device command ≡ false → IsAnswered tells image c command (decision_of r) → IfErr r IsQuiet
+  pub answers_quiet : (command : PlainCommand) (r : Result Change Refusal) → IsNoList command → reads_device command ≡ false → IsAnswered tells image c command (decision_of r) → IfErr r IsQuiet
   answers_quiet command (Ok change) single still is = tt
   answers_quiet command (Err e) single still is = answered command (Err e) single still is

@@ -43,7 +43,7 @@ digest_has : (version : FormatVersion) (stream : List ℕ) → has_digest (form_
 digest_has One stream = refl
 digest_has Two stream = refl
 
-segment_is : (s : Segment) → s.place.run.start < 2 ^ 64 → s.place.bytes < 2 ^ 64 → 1 ≤ s.place.bytes → s.place.run.count ≡ sector_count s.place.bytes → is_between 1 MAX_SEGMENT_ROWS s.rows ≡ true → is_digest s.digest ≡ true → is_segment s ≡ true
+pub segment_is : (s : Segment) → s.place.run.start < 2 ^ 64 → s.place.bytes < 2 ^ 64 → 1 ≤ s.place.bytes → s.place.run.count ≡ sector_count s.place.bytes → is_between 1 MAX_SEGMENT_ROWS s.rows ≡ true → is_digest s.digest ≡ true → is_segment s ≡ true
 segment_is s start bytes some sectors rows digest =
     and_from (is_filled 1 s.place) (is_between 1 MAX_SEGMENT_ROWS s.rows && is_digest s.digest)
     (and_from (nat_lt s.place.run.start (2 ^ 64) && nat_lt s.place.bytes (2 ^ 64)) (nat_le 1 s.place.bytes && (s.place.run.count == sector_count s.place.bytes))

@@ -30,6 +30,8 @@ use Rattle.text_columns.specs.declared.builder.ColumnBuilder.TheOpen as builders
 use Rattle.text_columns.specs.declared.builder.Names.{Names}
 use Rattle.text_columns.specs.declared.builder.ListOffsets.{ListOffsets}
 use Rattle.text_columns.specs.declared.builder.Slots.{Slots}
+use Rattle.civil_days.specs.declared.date_form.DateForm.TheVariants.{Numbers}
+use Rattle.text_import.specs.FieldForm.{with_numbers}
 
 -- the bytes of an integer that fits the type come after others
 abbrev pub AppendsInteger : (bits : ℕ) → (signed : Bool) → ℤ → List ℕ → List ℕ → Type 0
@@ -119,7 +121,7 @@ TakesNull old new = (kind : Kind) (cells : List Cell) → Takes kind cells old �
 -- the cell of a text comes after the cells of a type
 pub record HasTaken (kind : Kind) (text : List ℕ) (weight : ℕ) (cells : List Cell) (new : ColumnValues) : Type 0 where
   pub taken : Cell
-  pub read : cell_of_text kind text ≡ Ok taken
+  pub read : cell_of_text Numbers kind text ≡ Ok taken
   pub there : is_there taken ≡ true
   pub weighs : kind_weight kind taken ≡ weight
   pub takes : Takes kind (cells ++ taken ∷ []) new
@@ -236,11 +238,11 @@ TakesNullCell old o new o2 =
 
 abbrev pub TakesCodedText : List ℕ → ℕ → Coding → ColumnValues → Coding → ColumnValues → Type 0
 TakesCodedText text weight old values new values2 =
-    (index : Index) (kind : Kind) (cells : List Cell) → IsCoded index kind cells values old → HasCell (Some index) kind (cell_of_text kind text) weight cells values2 (Some new)
+    (index : Index) (kind : Kind) (cells : List Cell) → IsCoded index kind cells values old → HasCell (Some index) kind (cell_of_text Numbers kind text) weight cells values2 (Some new)
 
 abbrev pub TakesField : List ℕ → ℕ → ColumnValues → Option Coding → ColumnValues → Option Coding → Type 0
 TakesField text weight old o new o2 =
-    (dictionary : Option Index) (kind : Kind) (cells : List Cell) → HoldsCells dictionary kind cells old o → HasCell dictionary kind (cell_of_text kind text) weight cells new o2
+    (dictionary : Option Index) (kind : Kind) (cells : List Cell) → HoldsCells dictionary kind cells old o → HasCell dictionary kind (cell_of_text Numbers kind text) weight cells new o2
 
 -- ---- columns with parts: their slots, and the cells below them
 
@@ -427,7 +429,7 @@ StartsBinaries width values = (offsets : Vec ℕ) × (contents : Vec ℕ) × (va
 -- the cell of a field comes after the cells of a column
 pub record HasKept (c : Column) (null_text text : List ℕ) (weight : ℕ) (cells : List Cell) (new : ColumnBuilder) : Type 0 where
   pub kept : Cell
-  pub read : field_cell null_text c text ≡ Ok kept
+  pub read : field_cell (with_numbers null_text) c text ≡ Ok kept
   pub weighs : cell_weight c kept ≡ weight
   pub keeps : Keeps c (cells ++ kept ∷ []) new
 
@@ -439,7 +441,7 @@ KeepsField null_text text weight old new = (c : Column) (cells : List Cell) → 
 -- the cells of fields come after the rows
 pub record HasRow (cs : List Column) (null_text : List ℕ) (ts : List (List ℕ)) (weight : ℕ) (rows : List (List Cell)) (new : List ColumnBuilder) : Type 0 where
   pub row : List Cell
-  pub read : field_cells null_text cs ts ≡ Ok row
+  pub read : field_cells (with_numbers null_text) cs ts ≡ Ok row
   pub weighs : 1 + parts_weight (columns_of cs) (cells_of row) ≡ weight
   pub keeps : KeepAll cs (rows ++ row ∷ []) new
 

@@ -29,6 +29,7 @@ use Rattle.text_columns.specs.declared.builder.ListOffsets.{ListOffsets}
 use Rattle.text_columns.specs.declared.builder.Slots.{Slots}
 use Rattle.text_columns.specs.declared.next.ItemsTaken.{ItemsTaken}
 use Rattle.text_columns.specs.inner.Kept.{AppendsBytes, AppendsFixed, HasCell, HoldsCells, IsCoded, KeepAll, Keeps, PushesEnd, PushesThere, Takes, column_at}
+use Rattle.civil_days.specs.declared.date_form.DateForm.TheVariants.{Numbers}
 
 -- ---- one value
 
@@ -95,7 +96,7 @@ pub record AppendsFixedBinary (width : ℕ) (t : Token) (weight : ℕ) (old new 
 -- the cell of a value comes after the cells of a type
 pub record HasTakenValue (kind : Kind) (d : Data) (weight : ℕ) (so : List Cell) (new : ColumnValues) : Type 0 where
   pub taken : Cell
-  pub read : kind_in kind d ≡ Ok taken
+  pub read : kind_in Numbers kind d ≡ Ok taken
   pub there : is_there taken ≡ true
   pub weighs : kind_weight kind taken ≡ weight
   pub takes : Takes kind (so ++ taken ∷ []) new
@@ -115,18 +116,18 @@ pub record TakesCellToken (t : Token) (weight : ℕ) (old : ColumnValues) (o : O
   pub data_is : Data
   pub read : token_data t ≡ Some data_is
   pub there : data_is ≡ null → ⊥
-  pub takes : (dictionary : Option Index) (kind : Kind) (so : List Cell) → HoldsCells dictionary kind so old o → HasCell dictionary kind (kind_in kind data_is) weight so new o2
+  pub takes : (dictionary : Option Index) (kind : Kind) (so : List Cell) → HoldsCells dictionary kind so old o → HasCell dictionary kind (kind_in Numbers kind data_is) weight so new o2
 
 pub record TakesCodedToken (t : Token) (weight : ℕ) (old : Coding) (values : ColumnValues) (new : Coding) (values2 : ColumnValues) : Type 0 where
   pub data_is : Data
   pub read : token_data t ≡ Some data_is
   pub there : data_is ≡ null → ⊥
-  pub takes : (index : Index) (kind : Kind) (so : List Cell) → IsCoded index kind so values old → HasCell (Some index) kind (kind_in kind data_is) weight so values2 (Some new)
+  pub takes : (index : Index) (kind : Kind) (so : List Cell) → IsCoded index kind so values old → HasCell (Some index) kind (kind_in Numbers kind data_is) weight so values2 (Some new)
 
 -- the cell of a value comes after the cells of a column
 pub record HasKeptValue (c : Column) (d : Data) (weight : ℕ) (so : List Cell) (new : ColumnBuilder) : Type 0 where
   pub kept : Cell
-  pub read : cell_in c d ≡ Ok kept
+  pub read : cell_in Numbers c d ≡ Ok kept
   pub weighs : cell_weight c kept ≡ weight
   pub keeps : Keeps c (so ++ kept ∷ []) new
 
@@ -154,7 +155,7 @@ KeepsNull weight old new = (c : Column) (so : List Cell) → Keeps c so old → 
 pub record HasItems (c : Column) (found : Items) (weight : ℕ) (so : List Cell) (new : ColumnBuilder) : Type 0 where
   pub kept : List Cell
   pub many : length kept ≡ item_count found
-  pub read : each_item (cell_in c) found ≡ Ok (cells_of kept)
+  pub read : each_item (cell_in Numbers c) found ≡ Ok (cells_of kept)
   pub weighs : 1 + sum_of (cell_weight c) (cells_of kept) ≡ weight
   pub keeps : Keeps c (so ++ kept) new
 
@@ -236,7 +237,7 @@ pub record PushesMembers (depth : ℕ) (names : List (List ℕ)) (old new : List
 -- the cell of a member comes after the cells of a column, or a null if there is none
 pub record HasMember (c : Column) (o : Option Data) (weight : ℕ) (so : List Cell) (new : ColumnBuilder) : Type 0 where
   pub kept : Cell
-  pub read : member_in (is_nullable_column c) (cell_in c) o ≡ Ok kept
+  pub read : member_in (is_nullable_column c) (cell_in Numbers c) o ≡ Ok kept
   pub weighs : cell_weight c kept ≡ weight
   pub keeps : Keeps c (so ++ kept ∷ []) new
 
@@ -246,7 +247,7 @@ Completes w weight old new = (c : Column) (so : List Cell) (o : Option Data) →
 -- the cells of members come after the rows
 pub record HasNamedRow (cs : List Column) (found : Members) (weight : ℕ) (rows : List (List Cell)) (new : List ColumnBuilder) : Type 0 where
   pub row : List Cell
-  pub read : cells_by_name (columns_of cs) found ≡ Ok (cells_of row)
+  pub read : cells_by_name Numbers (columns_of cs) found ≡ Ok (cells_of row)
   pub weighs : 1 + parts_weight (columns_of cs) (cells_of row) ≡ weight
   pub keeps : KeepAll cs (rows ++ row ∷ []) new
 
@@ -257,7 +258,7 @@ CompletesRow weights weight old new =
 -- the cells of a value come after the rows
 pub record HasValueRow (cs : List Column) (d : Data) (weight : ℕ) (rows : List (List Cell)) (new : List ColumnBuilder) : Type 0 where
   pub row : List Cell
-  pub read : cells_in (columns_of cs) d ≡ Ok (cells_of row)
+  pub read : cells_in Numbers (columns_of cs) d ≡ Ok (cells_of row)
   pub weighs : 1 + parts_weight (columns_of cs) (cells_of row) ≡ weight
   pub keeps : KeepAll cs (rows ++ row ∷ []) new
 
@@ -275,7 +276,7 @@ pub record KeepsFields (depth : ℕ) (names : List (List ℕ)) (old new : List T
 -- the cells of items come after the rows
 pub record HasItemRow (cs : List Column) (found : Items) (weight : ℕ) (rows : List (List Cell)) (new : List ColumnBuilder) : Type 0 where
   pub row : List Cell
-  pub read : cells_by_place (columns_of cs) found ≡ Ok (cells_of row)
+  pub read : cells_by_place Numbers (columns_of cs) found ≡ Ok (cells_of row)
   pub weighs : 1 + parts_weight (columns_of cs) (cells_of row) ≡ weight
   pub keeps : KeepAll cs (rows ++ row ∷ []) new
 

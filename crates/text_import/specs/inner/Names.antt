@@ -11,6 +11,7 @@ use Rattle.arrow_schema.specs.Parts.{name_of_column, is_nullable_column}
 use Rattle.text_import.specs.declared.refusal.Refusal.TheVariants.{AmbiguousNames, UnknownName}
 use Rattle.text_import.specs.Objects.{member_in, cell_in, repeats, has_unknown, keys_of}
 use Rattle.text_import.specs.ValuePart.{PlainValuePart, member_part, cell_part}
+use Rattle.civil_days.specs.declared.date_form.DateForm.{DateForm}
 
 -- the text, if there is one
 abbrev pub IsText : Option (List ℕ) → Option (Bor (List ℕ)) → Type 0
@@ -20,12 +21,12 @@ abbrev pub text_where_utf8 : List ℕ → Option (List ℕ)
 text_where_utf8 t = if is_utf8 t then Some t else None
 
 -- the cell of a column from an object's members
-abbrev pub member_of : Column → Members → Result Cell Refusal
-member_of c ms = member_in (is_nullable_column c) (cell_in c) (get_member (name_of_column c) ms)
+abbrev pub member_of : DateForm → Column → Members → Result Cell Refusal
+member_of date_form c ms = member_in (is_nullable_column c) (cell_in date_form c) (get_member (name_of_column c) ms)
 
 -- the refused part of the same member
-abbrev pub member_part_of : Column → Members → Option PlainValuePart
-member_part_of c ms = member_part (is_nullable_column c) (cell_part c) (get_member (name_of_column c) ms)
+abbrev pub member_part_of : DateForm → Column → Members → Option PlainValuePart
+member_part_of date_form c ms = member_part (is_nullable_column c) (cell_part date_form c) (get_member (name_of_column c) ms)
 
 -- the refusal of the test of names
 abbrev pub tested : List (List ℕ) → Members → Result Members Refusal

@@ -15,6 +15,7 @@ use Rattle.text_import.specs.Records.{field_cells}
 use Rattle.text_import.specs.Refusals.{given, numbered}
 use Rattle.text_import.specs.Rows.{rows_from}
 use Rattle.text_import.specs.Stands.{HasLeft, TakesNext}
+use Rattle.text_import.specs.FieldForm.{PlainFieldForm}
 
 -- the result of reading, with these before it
 abbrev pub behind : {X E : Type 0} → List X → Result (List X) E → Result (List X) E
@@ -48,14 +49,14 @@ unfolding rows_from
 rows_end read n so = behind_end so
 
 -- another cell of a record was read, and the end
-pub field_more : (null_text : List ℕ) (so : List Cell) (c : Column) (cs : List Column) (t : List ℕ) (ts : List (List ℕ)) (x : Cell) → field_cell null_text c t ≡ Ok x
-    → behind so (field_cells null_text (c ∷ cs) (t ∷ ts)) ≡ behind (so ++ x ∷ []) (field_cells null_text cs ts)
+pub field_more : (form : PlainFieldForm) (so : List Cell) (c : Column) (cs : List Column) (t : List ℕ) (ts : List (List ℕ)) (x : Cell) → field_cell form c t ≡ Ok x
+    → behind so (field_cells form (c ∷ cs) (t ∷ ts)) ≡ behind (so ++ x ∷ []) (field_cells form cs ts)
 unfolding field_cells
-field_more null_text so c cs t ts x e = rw e (behind_more so x (field_cells null_text cs ts))
+field_more form so c cs t ts x e = rw e (behind_more so x (field_cells form cs ts))
 
-pub fields_end : (null_text : List ℕ) (so : List Cell) (ts : List (List ℕ)) → behind so (field_cells null_text [] ts) ≡ Ok so
+pub fields_end : (form : PlainFieldForm) (so : List Cell) (ts : List (List ℕ)) → behind so (field_cells form [] ts) ≡ Ok so
 unfolding field_cells
-fields_end null_text so ts = behind_end so
+fields_end form so ts = behind_end so
 
 -- reading the next record: there was one, or there was none
 pub taken_some : (records : List (List (List ℕ))) (found : Bool) (fields : List (List ℕ)) (r : Reader (Bor (List ℕ))) → TakesNext records found fields r → found ≡ true

@@ -1,7 +1,7 @@
 use Rattle.std.proofs.Common.{List, take, ◌+◌, sym, subst}
 use Rattle.std.specs.declared.io.impls.Empty.{Empty}
 use Rattle.store.specs.declared.call.Call.{Call}
-use Rattle.cli_replay.specs.Plain.{plain_lines}
+use Rattle.cli_scripts.specs.Plain.{plain_lines}
 use Rattle.cli_replay.specs.Replay.{AreCallsOfLines}
 use Rattle.cli_replay.proofs.LineCalls.{calls_kept}
 use Rattle.cli_replay.proofs.calls.calls_of.Goals as goal

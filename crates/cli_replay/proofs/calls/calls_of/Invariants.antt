@@ -1,5 +1,5 @@
 use Rattle.std.proofs.Common.{take}
-use Rattle.cli_replay.specs.Plain.{plain_lines}
+use Rattle.cli_scripts.specs.Plain.{plain_lines}
 use Rattle.cli_replay.specs.Replay.{AreCallsOfLines}
 use Rattle.cli_replay.proofs.calls.calls_of.Given as goal
 

@@ -12,10 +12,10 @@ returns-in_err-predicate-clause-refused c =
     let found = rw c.as_str.ensures.value at (sym c.place_of.ensures ∙ c.in-Some.is) in
     let there = sym c.field_at.ensures ∙ ap (option_map (λ f. column_of f.now)) c.in-Some-field_at.is in
     let p = err_from_is_err_and c.from_residual.result c.from_residual.ensures.1 in
-    rw (p.1, p.2) (bound_reports (map column_of c.args.fields.now) (condition_in c.args.condition.now) c.in-Some.place c.in-Some-field_at.field.now found there _ c.in_err-predicate.ensures.refused)
+    rw (p.1, p.2) (bound_reports c.args.dates (map column_of c.args.fields.now) (condition_in c.args.condition.now) c.in-Some.place c.in-Some-field_at.field.now found there _ c.in_err-predicate.ensures.refused)
 
 pub returns-clause-ok : goal.returns-clause-ok
 returns-clause-ok c =
     let found = rw c.as_str.ensures.value at (sym c.place_of.ensures ∙ c.in-Some.is) in
     let there = sym c.field_at.ensures ∙ ap (option_map (λ f. column_of f.now)) c.in-Some-field_at.is in
-    bound_is (map column_of c.args.fields.now) (condition_in c.args.condition.now) c.in-Some.place c.in-Some-field_at.field.now found there ∙ ap (bound_at c.in-Some.place) c.in_ok-predicate.ensures.ok
+    bound_is c.args.dates (map column_of c.args.fields.now) (condition_in c.args.condition.now) c.in-Some.place c.in-Some-field_at.field.now found there ∙ ap (bound_at c.in-Some.place) c.in_ok-predicate.ensures.ok

@@ -24,10 +24,10 @@ loop-place-preserved c =
     let more = take_more fields k f c.loop-place-test.true ∙ ap (λ (x : Field). take k fields ++ x ∷ []) (sym c.index-fields-place.is) in
     let size : length (take k fields) ≡ k = length-take-le k fields (omega (arith, c.loop-place-test.true)) in
     let place : k ≡ 0 + length (take k fields) = omega (arith, size) in
-    let own = subst (λ (n : ℕ). IsColumn f (array_at n batch) s) place c.column_at.ensures in
+    let own = subst (λ (n : ℕ). IsColumn c.args.dates f (array_at n batch) s) place c.column_at.ensures in
     record {
-      columns = subst (λ (ss : List ColumnSlots). AreColumns batch 0 (take (k + 1) fields) ss) (sym c.push_reserved.ensures.items)
-          (subst (λ (fs : List Field). AreColumns batch 0 fs (before ++ s ∷ [])) (sym more) (column_more batch 0 (take k fields) before f s c.loop-place.invariant.columns own));
+      columns = subst (λ (ss : List ColumnSlots). AreColumns c.args.dates batch 0 (take (k + 1) fields) ss) (sym c.push_reserved.ensures.items)
+          (subst (λ (fs : List Field). AreColumns c.args.dates batch 0 fs (before ++ s ∷ [])) (sym more) (column_more c.args.dates batch 0 (take k fields) before f s c.loop-place.invariant.columns own));
       len = omega (arith, c.push_reserved.ensures.len, c.loop-place.invariant.len);
       room = omega (arith, c.push_reserved.ensures.capacity, c.loop-place.invariant.room);
     }
@@ -35,4 +35,4 @@ loop-place-preserved c =
 pub returns : goal.returns
 returns c =
     let all = take_all c.loop-place.place c.args.fields.now (omega (arith, c.loop-place-test.false)) in
-    subst (λ (fs : List Field). AreColumns c.args.batch 0 fs c.loop-place.columns.items) all c.loop-place.invariant.columns
+    subst (λ (fs : List Field). AreColumns c.args.dates c.args.batch 0 fs c.loop-place.columns.items) all c.loop-place.invariant.columns

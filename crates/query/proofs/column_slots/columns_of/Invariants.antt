@@ -4,7 +4,7 @@ use Rattle.query.proofs.column_slots.columns_of.Given as goal
 
 abbrev pub invariant-loop-place : goal.invariant-loop-place
 invariant-loop-place l = record {
-  columns : AreColumns l.batch 0 (take l.place l.fields) l.columns.items;
+  columns : AreColumns l.dates l.batch 0 (take l.place l.fields) l.columns.items;
   len : vec_len l.columns ≡ l.place;
   room : length l.fields ≤ vec_capacity l.columns;
 }

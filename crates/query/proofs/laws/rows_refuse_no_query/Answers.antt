@@ -15,7 +15,7 @@ refused_by_schema : (t u : PlainTable) (q : PlainQuery) (r : SelectionRefusal) �
 unfolding selection
 refused_by_schema t u q r same h =
     let places : PlainSchema → Option (List ℕ) = λ s. chosen s.columns q.columns in
-    let bounds : PlainSchema → Result (List Bound) SelectionRefusal = λ s. all_ok (map (bound s.columns) q.conditions) in
+    let bounds : PlainSchema → Result (List Bound) SelectionRefusal = λ s. all_ok (map (bound q.dates s.columns) q.conditions) in
     sym (λ i. selected_where (places (same i)) (bounds (same i)) q.limit u) ∙ refused_alike (places t.schema) (bounds t.schema) q.limit t u r h
 
 pub returns : goal.returns

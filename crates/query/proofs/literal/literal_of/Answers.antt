@@ -23,12 +23,12 @@ returns-in-Int c =
 pub returns-in-Date : goal.returns-in-Date
 returns-in-Date c =
     let kind : kind_of c.args.data_type.now ≡ dates (date_kind c.in-Date.field-0) = rw c.in-Date.is (search (rules, field_lemmas)) in
-    rw kind c.number_literal-in-Date.ensures
+    rw kind (rw kind at c.number_or_date.ensures)
 
 pub returns-in-Timestamp : goal.returns-in-Timestamp
 returns-in-Timestamp c =
     let kind : kind_of c.args.data_type.now ≡ timestamps (time_kind c.in-Timestamp.field-0) (string_bytes c.in-Timestamp.field-1) = rw c.in-Timestamp.is (search (rules, field_lemmas)) in
-    rw kind c.number_literal-in-Timestamp.ensures
+    rw kind (rw kind at c.number_or_date-in-Timestamp.ensures)
 
 pub returns-in-Binary : goal.returns-in-Binary
 returns-in-Binary c =

@@ -16,8 +16,8 @@ loop-i-preserved c =
     let cs = map column_of c.args.fields.now in
     let item = drop-item c.args.conditions.now i x c.loop-i-test.true c.index-conditions-i.is in
     let kept = rw item at c.loop-i.invariant in
-    let no : is_refused (bound cs (condition_in x)) ≡ false = sym c.in_ok-is_refused.ensures ∙ c.if-branch.false in
-    sym (passed_here cs i (condition_in x) (map condition_in (drop (i + 1) c.args.conditions.now)) no) ∙ kept
+    let no : is_refused (bound c.args.dates cs (condition_in x)) ≡ false = sym c.in_ok-is_refused.ensures ∙ c.if-branch.false in
+    sym (passed_here c.args.dates cs i (condition_in x) (map condition_in (drop (i + 1) c.args.conditions.now)) no) ∙ kept
 
 pub returns-then-branch : goal.returns-then-branch
 returns-then-branch c =
@@ -26,10 +26,10 @@ returns-then-branch c =
     let cs = map column_of c.args.fields.now in
     let item = drop-item c.args.conditions.now i x c.loop-i-test.true c.index-conditions-i.is in
     let kept = rw item at c.loop-i.invariant in
-    let yes : is_refused (bound cs (condition_in x)) ≡ true = sym c.in_ok-is_refused.ensures ∙ c.if-branch.true in
-    sym (refused_here cs i (condition_in x) (map condition_in (drop (i + 1) c.args.conditions.now)) yes) ∙ kept
+    let yes : is_refused (bound c.args.dates cs (condition_in x)) ≡ true = sym c.in_ok-is_refused.ensures ∙ c.if-branch.true in
+    sym (refused_here c.args.dates cs i (condition_in x) (map condition_in (drop (i + 1) c.args.conditions.now)) yes) ∙ kept
 
 pub returns : goal.returns
 returns c =
     let none : drop c.loop-i.i c.args.conditions.now ≡ [] = drop_all c.loop-i.i c.args.conditions.now (omega arith) in
-    sym (none_here (map column_of c.args.fields.now) c.loop-i.i) ∙ rw none at c.loop-i.invariant
+    sym (none_here c.args.dates (map column_of c.args.fields.now) c.loop-i.i) ∙ rw none at c.loop-i.invariant

@@ -8,7 +8,7 @@ use Rattle.query.proofs.selecting.bind_all.Given as goal
 -- each condition so far is one on these columns, and there is room for the others
 abbrev pub invariant-loop-condition : goal.invariant-loop-condition
 invariant-loop-condition l = record {
-  bound : map (bound (map column_of l.fields)) (map condition_in (take l.condition-index l.conditions)) ≡ map (λ b. Ok (bound_in b)) l.bounds.items;
+  bound : map (bound l.dates (map column_of l.fields)) (map condition_in (take l.condition-index l.conditions)) ≡ map (λ b. Ok (bound_in b)) l.bounds.items;
   len : vec_len l.bounds ≡ l.condition-index;
   room : length l.conditions ≤ vec_capacity l.bounds;
 }

@@ -19,12 +19,12 @@ returns-in_err-bounds-clause-refused c =
     rw (p.1, p.2)
     (λ t same.
     let choice = same_choice c.args.schema.now t c.deref.result.now c.deref-2.result.now c.args.query.now.columns.items same c.deref.ensures.value c.deref-2.ensures.value in
-    let bounds = same_bounds c.args.schema.now t c.deref-3.result.now c.deref-4.result.now c.args.query.now.conditions.items same c.deref-3.ensures.value c.deref-4.ensures.value in
+    let bounds = same_bounds c.args.query.now.dates c.args.schema.now t c.deref-3.result.now c.deref-4.result.now c.args.query.now.conditions.items same c.deref-3.ensures.value c.deref-4.ensures.value in
     conditions_report _ t (query_in c.args.query.now) c.in_ok-places.places.items (sym choice ∙ c.in_ok-places.ensures.ok) (rw bounds at c.in_err-bounds.ensures.refused))
 
 pub returns-clause-ok : goal.returns-clause-ok
 returns-clause-ok c t same =
     let choice = same_choice c.args.schema.now t c.deref.result.now c.deref-2.result.now c.args.query.now.columns.items same c.deref.ensures.value c.deref-2.ensures.value in
-    let bounds = same_bounds c.args.schema.now t c.deref-3.result.now c.deref-4.result.now c.args.query.now.conditions.items same c.deref-3.ensures.value c.deref-4.ensures.value in
+    let bounds = same_bounds c.args.query.now.dates c.args.schema.now t c.deref-3.result.now c.deref-4.result.now c.args.query.now.conditions.items same c.deref-3.ensures.value c.deref-4.ensures.value in
     selection_is t (query_in c.args.query.now) c.in_ok-places.places.items (map bound_in c.in_ok-bounds.bounds.items) (sym choice ∙ c.in_ok-places.ensures.ok)
     (sym bounds ∙ c.in_ok-bounds.ensures.ok)

@@ -25,7 +25,7 @@ loop-next-init c =
 
 pub push_slot_lines-requires-clause-readable : goal.push_slot_lines-requires-clause-readable
 push_slot_lines-requires-clause-readable c =
-    fewer_readable c.args.columns.now c.args.slots _ (omega (arith, c.run_end-stop.ensures.ends, c.run_end-stop.ensures.begins, c.loop-next.invariant.begins)) c.requires.readable
+    fewer_readable c.args.form.dates c.args.columns.now c.args.slots _ (omega (arith, c.run_end-stop.ensures.ends, c.run_end-stop.ensures.begins, c.loop-next.invariant.begins)) c.requires.readable
 
 pub loop-next-preserved : goal.loop-next-preserved
 loop-next-preserved c =

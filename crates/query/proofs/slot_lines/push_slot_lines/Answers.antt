@@ -9,7 +9,7 @@ pub loop-slot-init : goal.loop-slot-init
 loop-slot-init c = no_line c.args.form (slot_columns c.args.columns.now) (slot_row c.args.columns.now) c.args.from _ c.args.out.now.items (omega arith)
 
 pub push_slot_line-requires : goal.push_slot_line-requires
-push_slot_line-requires c = fewer_readable c.args.columns.now (c.args.from + c.args.len) _ (omega (arith, c.loop-slot-test.true)) c.requires.readable
+push_slot_line-requires c = fewer_readable c.args.form.dates c.args.columns.now (c.args.from + c.args.len) _ (omega (arith, c.loop-slot-test.true)) c.requires.readable
 
 pub loop-slot-preserved : goal.loop-slot-preserved
 loop-slot-preserved c =

@@ -8,5 +8,5 @@ abbrev pub invariant-loop-place : goal.invariant-loop-place
 invariant-loop-place l = record {
   text : l.out.items ++ rest_of_line l.form l.place (slot_columns (drop l.place l.columns)) (slot_cells (drop l.place l.columns) l.slot)
       ≡ l.initial.out.items ++ rest_of_line l.form 0 (slot_columns l.columns) (slot_cells l.columns l.slot);
-  readable : AreReadable (drop l.place l.columns) (l.slot + 1);
+  readable : AreReadable l.form.dates (drop l.place l.columns) (l.slot + 1);
 }

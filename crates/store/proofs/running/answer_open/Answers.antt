@@ -1,6 +1,6 @@
 use Rattle.std.proofs.Common.{refl, sym, ap, ◌∙◌, subst}
 use Rattle.tables.specs.Commands.{import_stream, append_stream}
-use Rattle.tables.specs.View.{command_of}
+use Rattle.tables.specs.View.{command_of, list_of}
 use Rattle.store.specs.declared.call.StoreOrDevice.TheVariants as places
 use Rattle.store_runs.specs.Calls.{apply_call, format_call, open_call, close_call, tables_call, schema_call, read_call, export_call, open_export_call, export_next_call, close_export_call, compact_call, upgrade_call, done, counted}
 use Rattle.store.specs.Fits.{DeviceFits}
@@ -12,6 +12,10 @@ use Rattle.store.proofs.running.answer_open.Goals as goal
 pub returns-in-Apply : goal.returns-in-Apply
 returns-in-Apply g c =
     record { plain = apply_call (command_of c.in-Apply.command); is = rw c.in-Apply.is refl; goes = c.apply_in.ensures.goes; answers = c.apply_in.ensures.answers }
+
+pub returns-in-ApplyAll : goal.returns-in-ApplyAll
+returns-in-ApplyAll g c =
+    record { plain = apply_call (list_of c.in-ApplyAll.commands.items); is = rw c.in-ApplyAll.is refl; goes = c.apply_all_in.ensures.goes; answers = c.apply_all_in.ensures.answers }
 
 pub returns-in-ImportFrom : goal.returns-in-ImportFrom
 returns-in-ImportFrom g c =

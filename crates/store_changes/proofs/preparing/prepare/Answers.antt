@@ -9,7 +9,7 @@ use Rattle.tables.specs.declared.refusal.Refusal.TheVariants as refusals
 use Rattle.store_runs.specs.Changes.{PlainChange}
 use Rattle.store_changes.specs.Change.{change_of}
 use Rattle.store_runs.specs.Carrying.{HasNext, IsCarried, outline, unplaced}
-use Rattle.store_changes.specs.laws.Prepared.{taking_other, taking_carried, unplaced_count}
+use Rattle.store_changes.specs.laws.Prepared.{taking_other, taking_carried, unplaced_count, streams_count}
 use Rattle.store_changes.proofs.preparing.prepare.Goals as goal
 
 pub returns-then-segments_after-gt-MAX_SEGMENTS-clause-why : goal.returns-then-segments_after-gt-MAX_SEGMENTS-clause-why
@@ -59,7 +59,7 @@ pub returns-in-Err-clause-err : goal.returns-in-Err-clause-err
 returns-in-Err-clause-err c = c.in-Err.ensures.err
 
 pub segments_after-requires-clause-edit : goal.segments_after-requires-clause-edit
-segments_after-requires-clause-edit c = let change : PlainChange = change_of c.args.change.now in (change.streams, c.requires.sound.edit)
+segments_after-requires-clause-edit c = let change : PlainChange = change_of c.args.change.now in (change.streams, c.requires.sound.edit, streams_count c.args.pieces.now change c.len-count.result c.len-count.ensures c.requires.streams)
 
 pub returns-in-Err-clause-device : goal.returns-in-Err-clause-device
 returns-in-Err-clause-device c = subst (λ (r : Refusal). r ≢ refusals.Device) (sym c.taking_refusal.ensures) (taking_other c.in-Err.error).0

@@ -7,6 +7,7 @@ use Rattle.text_import.specs.Rows.{rows_from}
 use Rattle.text_import.specs.laws.Behind.{taken_none, taken_some}
 use Rattle.text_columns.proofs.Rows.{ByReader, left_behind, none_left, read_more, read_none, read_refused, read_rows, read_same, refused_step}
 use Rattle.text_columns.proofs.records.push_records.Goals as goal
+use Rattle.text_import.specs.FieldForm.{with_numbers}
 
 pub loop-index-init : goal.loop-index-init
 loop-index-init c = record {
@@ -30,7 +31,7 @@ returns-in_default c =
     let s = schema_of c.args.schema.now in
     let i = c.loop-index.index in
     let fields = fields_of c.read_next.new.row in
-    let read = record_row s c.args.null_text.now in
+    let read = record_row s (with_numbers c.args.null_text.now) in
     let (others, whole, left) = taken_some h.left c.in_ok-read_next.field-0 fields c.read_next.new.reader (c.in_ok-read_next.ensures h.left h.stands.0) c.if-not-branch.false in
     refused_step s (numbered (i + 1) (read fields)) (rows_from read 1 records) c.refuse.result c.push_row.new.batches c.refuse.ensures
     (λ o own. read_refused (ByReader c.loop-index.reader i c.args.most) s c.args.null_text.now records others i c.loop-index.weight c.loop-index.batches fields o h whole own)

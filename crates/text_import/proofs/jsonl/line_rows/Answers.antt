@@ -11,14 +11,14 @@ use Rattle.text_import.proofs.jsonl.line_rows.Goals as goal
 pub loop-line-preserved-then-is_blank : goal.loop-line-preserved-then-is_blank
 loop-line-preserved-then-is_blank c =
     let skipped =
-    line_skipped (schema_of c.args.schema.now) c.args.lines.now c.loop-line.line-index _ (vec_len c.loop-line.rows + 1) c.loop-line-test.true (sym c.is_blank.ensures ∙ c.if-is_blank.true) in
+    line_skipped c.args.date_form (schema_of c.args.schema.now) c.args.lines.now c.loop-line.line-index _ (vec_len c.loop-line.rows + 1) c.loop-line-test.true (sym c.is_blank.ensures ∙ c.if-is_blank.true) in
     ap (behind (map row_of c.loop-line.rows.items)) (sym skipped) ∙ c.loop-line.invariant
 
 pub loop-line-preserved : goal.loop-line-preserved
 loop-line-preserved c =
     let number = ap (λ k. k + 1) c.len.ensures in
     let more =
-    line_more
+    line_more c.args.date_form
     (schema_of c.args.schema.now)
     c.args.lines.now
     c.loop-line.line-index
@@ -39,7 +39,7 @@ pub returns-in-Err : goal.returns-in-Err
 returns-in-Err c =
     let number = ap (λ k. k + 1) c.len.ensures in
     let reported =
-    line_refused
+    line_refused c.args.date_form
     (schema_of c.args.schema.now)
     c.args.lines.now
     c.loop-line.line-index
@@ -59,4 +59,4 @@ returns-in-Err c =
 pub returns : goal.returns
 returns c =
     let none : drop c.loop-line.line-index c.args.lines.now ≡ [] = drop_all c.loop-line.line-index c.args.lines.now (omega arith) in
-    sym (rw none at c.loop-line.invariant) ∙ lines_end (schema_of c.args.schema.now) (vec_len c.loop-line.rows + 1) (map row_of c.loop-line.rows.items)
+    sym (rw none at c.loop-line.invariant) ∙ lines_end c.args.date_form (schema_of c.args.schema.now) (vec_len c.loop-line.rows + 1) (map row_of c.loop-line.rows.items)

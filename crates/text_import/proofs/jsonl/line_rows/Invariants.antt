@@ -13,5 +13,5 @@ use Rattle.text_import.proofs.jsonl.line_rows.Given as goal
 abbrev pub invariant-loop-line : goal.invariant-loop-line
 invariant-loop-line l =
     behind (map row_of l.rows.items)
-    (rows_from (line_row (schema_of l.schema)) (vec_len l.rows + 1) (filter (λ line. not (is_blank line)) (text_list (drop l.line-index l.lines))))
-    ≡ rows_from (line_row (schema_of l.schema)) 1 (filter (λ line. not (is_blank line)) (text_list l.lines))
+    (rows_from (line_row l.date_form (schema_of l.schema)) (vec_len l.rows + 1) (filter (λ line. not (is_blank line)) (text_list (drop l.line-index l.lines))))
+    ≡ rows_from (line_row l.date_form (schema_of l.schema)) 1 (filter (λ line. not (is_blank line)) (text_list l.lines))

@@ -24,7 +24,7 @@ each_item-loop-value-preserved t c =
     let item = drop-item c.args.values.now i c.value-item.result c.loop-value-test.true c.value-item.is in
     let kept = rw item at c.loop-value.invariant.cells in
     let more =
-    item_more (cell_in (column_of c.args.item.now)) (map cell c.loop-value.cells.items) c.value-item.result (drop (i + 1) c.args.values.now) (cell c.in_ok-cell_in.field-0) c.in_ok-cell_in.ensures in
+    item_more (cell_in c.args.date_form (column_of c.args.item.now)) (map cell c.loop-value.cells.items) c.value-item.result (drop (i + 1) c.args.values.now) (cell c.in_ok-cell_in.field-0) c.in_ok-cell_in.ensures in
     record {
       cells = rw (c.push_reserved.ensures.items, map-append cell c.loop-value.cells.items (c.in_ok-cell_in.field-0 ∷ [])) (sym more ∙ kept);
       len = omega (arith, c.push_reserved.ensures.len, c.loop-value.invariant.len);
@@ -44,7 +44,7 @@ cells_by_place-loop-i-preserved t c =
     let value = drop-item c.args.values.now i c.index-values-i.result (omega arith) c.index-values-i.is in
     let kept = rw (item, value) at c.loop-i.invariant.cells in
     let more =
-    place_more
+    place_more c.args.date_form
     (map cell c.loop-i.cells.items)
     (column_of f)
     (columns_of (map column_of (drop (i + 1) c.args.fields.now)))
@@ -61,7 +61,7 @@ cells_by_place-loop-i-preserved t c =
 pub cells_by_place-returns : goal.cells_by_place-returns
 cells_by_place-returns t c =
     let none : drop c.loop-i.i c.args.fields.now ≡ [] = drop_all c.loop-i.i c.args.fields.now (omega arith) in
-    sym (rw none at c.loop-i.invariant.cells) ∙ places_end (map cell c.loop-i.cells.items) (items_view (drop c.loop-i.i c.args.values.now))
+    sym (rw none at c.loop-i.invariant.cells) ∙ places_end c.args.date_form (map cell c.loop-i.cells.items) (items_view (drop c.loop-i.i c.args.values.now))
 
 pub cells_by_name-loop-field-preserved : goal.cells_by_name-loop-field-preserved
 cells_by_name-loop-field-preserved t c =
@@ -69,7 +69,7 @@ cells_by_name-loop-field-preserved t c =
     let item = drop-item c.args.fields.now i c.field-item.result c.loop-field-test.true c.field-item.is in
     let kept = rw item at c.loop-field.invariant.cells in
     let more =
-    name_more
+    name_more c.args.date_form
     (map cell c.loop-field.cells.items)
     (column_of c.field-item.result)
     (columns_of (map column_of (drop (i + 1) c.args.fields.now)))
@@ -85,13 +85,13 @@ cells_by_name-loop-field-preserved t c =
 pub cells_by_name-returns : goal.cells_by_name-returns
 cells_by_name-returns t c =
     let none : drop c.loop-field.field-index c.args.fields.now ≡ [] = drop_all c.loop-field.field-index c.args.fields.now (omega arith) in
-    sym (rw none at c.loop-field.invariant.cells) ∙ names_end (map cell c.loop-field.cells.items) (members_view c.args.members.now.entries)
+    sym (rw none at c.loop-field.invariant.cells) ∙ names_end c.args.date_form (map cell c.loop-field.cells.items) (members_view c.args.members.now.entries)
 
 pub sized_items-returns-then-values-size : goal.sized_items-returns-then-values-size
-sized_items-returns-then-values-size t c = sized_no c.args.size (each_item (cell_in (column_of c.args.item.now))) c.args.values.now c.if-values-size.true
+sized_items-returns-then-values-size t c = sized_no c.args.size (each_item (cell_in c.args.date_form (column_of c.args.item.now))) c.args.values.now c.if-values-size.true
 
 pub sized_items-returns : goal.sized_items-returns
-sized_items-returns t c = rw (sized_yes c.args.size (each_item (cell_in (column_of c.args.item.now))) c.args.values.now c.if-values-size.false) c.each_item.ensures
+sized_items-returns t c = rw (sized_yes c.args.size (each_item (cell_in c.args.date_form (column_of c.args.item.now))) c.args.values.now c.if-values-size.false) c.each_item.ensures
 
 pub cells_in-returns-in-Array : goal.cells_in-returns-in-Array
 cells_in-returns-in-Array t c =
@@ -103,7 +103,7 @@ cells_in-returns-in_ok-test_names-in-Object t c =
     let columns = columns_of (map column_of c.args.fields.now) in
     let members = members_view c.in-Object.members.entries in
     let whole : view c.args.value.now ≡ object members = rw c.in-Object.is (search (rules, json_lemmas)) in
-    let f = cells_by_name columns in
+    let f = cells_by_name c.args.date_form columns in
     let first : named_parts (names_of columns) f members ≡ f members = named_first (names_of columns) f members ∙ ap (λ (r : Result Members Refusal). and_then r f) c.in_ok-test_names-in-Object.ensures in
     rw whole (rw first c.cells_by_name.ensures)
 
@@ -112,7 +112,7 @@ cells_in-returns-in_err-test_names-in-Object t c =
     let columns = columns_of (map column_of c.args.fields.now) in
     let members = members_view c.in-Object.members.entries in
     let whole : view c.args.value.now ≡ object members = rw c.in-Object.is (search (rules, json_lemmas)) in
-    let f = cells_by_name columns in
+    let f = cells_by_name c.args.date_form columns in
     let p = err_from_is_err_and c.from_residual.result c.from_residual.ensures.1 in
     rw (p.1, p.2) (rw whole (
     told
@@ -125,7 +125,7 @@ cells_in-returns-in_err-test_names-in-Object t c =
 
 pub each_item-returns-in_err-cell_in : goal.each_item-returns-in_err-cell_in
 each_item-returns-in_err-cell_in t c =
-    let f = cell_in (column_of c.args.item.now) in
+    let f = cell_in c.args.date_form (column_of c.args.item.now) in
     let i = c.loop-value.value-index in
     let item = drop-item c.args.values.now i c.value-item.result c.loop-value-test.true c.value-item.is in
     let kept = rw item at c.loop-value.invariant.cells in
@@ -150,11 +150,11 @@ cells_by_place-returns-in_err-cell_in t c =
     rw (p.1, p.2) (
     told
     (refusal_of c.in_err-cell_in.field-0.0)
-    (cell_in (column_of f) (view c.index-values-i.result))
-    (cells_by_place (columns_of (map column_of c.args.fields.now)) (items_view c.args.values.now))
+    (cell_in c.args.date_form (column_of f) (view c.index-values-i.result))
+    (cells_by_place c.args.date_form (columns_of (map column_of c.args.fields.now)) (items_view c.args.values.now))
     c.in_err-cell_in.ensures
     (λ r e. sym kept
-    ∙ place_refused
+    ∙ place_refused c.args.date_form
     (map cell c.loop-i.cells.items)
     (column_of f)
     (columns_of (map column_of (drop (i + 1) c.args.fields.now)))
@@ -175,10 +175,10 @@ cells_by_name-returns-in_err-member_in t c =
     rw (p.1, p.2) (
     told
     (refusal_of c.in_err-member_in.field-0.0)
-    (member_of (column_of f) ms)
-    (cells_by_name (columns_of (map column_of c.args.fields.now)) ms)
+    (member_of c.args.date_form (column_of f) ms)
+    (cells_by_name c.args.date_form (columns_of (map column_of c.args.fields.now)) ms)
     c.in_err-member_in.ensures
-    (λ r e. sym kept ∙ name_refused (map cell c.loop-field.cells.items) (column_of f) (columns_of (map column_of (drop (i + 1) c.args.fields.now))) ms r e)
+    (λ r e. sym kept ∙ name_refused c.args.date_form (map cell c.loop-field.cells.items) (column_of f) (columns_of (map column_of (drop (i + 1) c.args.fields.now))) ms r e)
     )
 
 pub list_in-returns-in-Array : goal.list_in-returns-in-Array

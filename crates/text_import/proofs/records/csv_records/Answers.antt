@@ -7,7 +7,7 @@ use Rattle.text_import.proofs.records.csv_records.Goals as goal
 pub returns-then-has_nested : goal.returns-then-has_nested
 returns-then-has_nested c =
     let nested = rw c.deref.ensures.value at (sym c.has_nested.ensures ∙ c.if-has_nested.true) in
-    record { behind = tt; refused = λ null_text. rw c.whole.ensures (nested_refused (schema_of c.args.schema.now) null_text c.args.text.now nested) }
+    record { behind = tt; refused = λ form. rw c.whole.ensures (nested_refused (schema_of c.args.schema.now) form c.args.text.now nested) }
 
 pub returns-in-Ok : goal.returns-in-Ok
 returns-in-Ok c =
@@ -15,11 +15,11 @@ returns-in-Ok c =
     let s = schema_of c.args.schema.now in
     let (header, records, whole, has, rows) = c.in-Ok.ensures.behind (records_of t) c.reader_of-reader.ensures in
     let flat = rw c.deref.ensures.value at (sym c.has_nested.ensures ∙ c.if-has_nested.false) in
-    record { behind = (records, has, few_behind t header records whole, (header, whole), λ null_text. unnested s null_text t flat ∙ rows null_text); refused = tt }
+    record { behind = (records, has, few_behind t header records whole, (header, whole), λ form. unnested s form t flat ∙ rows form); refused = tt }
 
 pub returns : goal.returns
 returns c =
     let t = c.args.text.now in
     let s = schema_of c.args.schema.now in
     let flat = rw c.deref.ensures.value at (sym c.has_nested.ensures ∙ c.if-has_nested.false) in
-    record { behind = tt; refused = λ null_text. rw (unnested s null_text t flat) (c.in-Err.ensures.refused (records_of t) c.reader_of-reader.ensures null_text) }
+    record { behind = tt; refused = λ form. rw (unnested s form t flat) (c.in-Err.ensures.refused (records_of t) c.reader_of-reader.ensures form) }

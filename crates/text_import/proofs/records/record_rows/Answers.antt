@@ -9,6 +9,7 @@ use Rattle.text_import.specs.Records.{record_row}
 use Rattle.text_import.specs.laws.Behind.{taken_none, taken_some}
 use Rattle.text_import.specs.laws.Behind.{told, row_more, row_refused, rows_end}
 use Rattle.text_import.proofs.records.record_rows.Goals as goal
+use Rattle.text_import.specs.FieldForm.{field_form}
 
 pub loop-index-preserved : goal.loop-index-preserved
 loop-index-preserved c =
@@ -16,7 +17,7 @@ loop-index-preserved c =
     let (left, has, size, kept) = c.loop-index.invariant records stands few in
     let fields = fields_of c.read_next.new.row in
     let (others, whole, more) = taken_some left c.in_ok-read_next.field-0 fields c.read_next.new.reader (c.in_ok-read_next.ensures left has) c.if-not-branch.false in
-    let read = record_row (schema_of c.args.schema.now) c.args.null_text.now in
+    let read = record_row (schema_of c.args.schema.now) (field_form c.args.form.now) in
     let i = c.loop-index.index in
     let len = ap length whole in
     let next = row_more read (i + 1) (map row_of c.loop-index.rows.items) fields others (row_of c.in-Ok.read) c.in-Ok.ensures in
@@ -27,7 +28,7 @@ returns c =
     λ records stands few.
     let (left, has, size, kept) = c.loop-index.invariant records stands few in
     let none : left ≡ [] = none_of left (omega (arith, size)) in
-    sym (rw none at kept) ∙ rows_end (record_row (schema_of c.args.schema.now) c.args.null_text.now) (c.loop-index.index + 1) (map row_of c.loop-index.rows.items)
+    sym (rw none at kept) ∙ rows_end (record_row (schema_of c.args.schema.now) (field_form c.args.form.now)) (c.loop-index.index + 1) (map row_of c.loop-index.rows.items)
   where
     none_of : (xs : List (List (List ℕ))) → length xs ≤ 0 → xs ≡ []
     none_of [] h = cc
@@ -38,7 +39,7 @@ returns-then-not-branch c =
     λ records stands few.
     let (left, has, size, kept) = c.loop-index.invariant records stands few in
     let none = taken_none left c.in_ok-read_next.field-0 (fields_of c.read_next.new.row) c.read_next.new.reader (c.in_ok-read_next.ensures left has) c.if-not-branch.true in
-    sym (rw none at kept) ∙ rows_end (record_row (schema_of c.args.schema.now) c.args.null_text.now) (c.loop-index.index + 1) (map row_of c.loop-index.rows.items)
+    sym (rw none at kept) ∙ rows_end (record_row (schema_of c.args.schema.now) (field_form c.args.form.now)) (c.loop-index.index + 1) (map row_of c.loop-index.rows.items)
 
 pub returns-in-Err : goal.returns-in-Err
 returns-in-Err c =
@@ -46,7 +47,7 @@ returns-in-Err c =
     let (left, has, size, kept) = c.loop-index.invariant records stands few in
     let fields = fields_of c.read_next.new.row in
     let (others, whole, more) = taken_some left c.in_ok-read_next.field-0 fields c.read_next.new.reader (c.in_ok-read_next.ensures left has) c.if-not-branch.false in
-    let read = record_row (schema_of c.args.schema.now) c.args.null_text.now in
+    let read = record_row (schema_of c.args.schema.now) (field_form c.args.form.now) in
     let i = c.loop-index.index in
     told
     (refused_by c.in-Err.error)

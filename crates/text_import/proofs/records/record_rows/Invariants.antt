@@ -6,6 +6,7 @@ use Rattle.text_import.specs.Records.{record_row}
 use Rattle.text_import.specs.Stands.{HasLeft}
 use Rattle.text_import.specs.laws.Behind.{behind}
 use Rattle.text_import.proofs.records.record_rows.Given as goal
+use Rattle.text_import.specs.FieldForm.{field_form}
 
 -- the rows so far, and the records that are left
 abbrev pub invariant-loop-index : goal.invariant-loop-index
@@ -16,4 +17,4 @@ invariant-loop-index l =
     → (left : List (List (List ℕ)))
     × HasLeft l.reader left
     × (length left ≤ l.most - l.index)
-    × (behind (map row_of l.rows.items) (rows_from (record_row (schema_of l.schema) l.null_text) (l.index + 1) left) ≡ rows_from (record_row (schema_of l.schema) l.null_text) 1 records)
+    × (behind (map row_of l.rows.items) (rows_from (record_row (schema_of l.schema) (field_form l.form)) (l.index + 1) left) ≡ rows_from (record_row (schema_of l.schema) (field_form l.form)) 1 records)

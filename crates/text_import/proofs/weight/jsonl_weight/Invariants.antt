@@ -10,7 +10,7 @@ use Rattle.text_import.proofs.weight.jsonl_weight.Given as goal
 abbrev pub invariant-loop-left : goal.invariant-loop-left
 invariant-loop-left l = record {
   few : l.count + size_left l.left ≤ 1 + length l.text;
-  weighed : RowsWeighed (schema_of l.schema) (line_row (schema_of l.schema)) (jsonl_rows_of (schema_of l.schema) l.text) (l.count + 1) (filled_lines (lines_left l.left)) l.weight;
+  weighed : RowsWeighed (schema_of l.schema) (line_row l.date_form (schema_of l.schema)) (jsonl_rows_of l.date_form (schema_of l.schema) l.text) (l.count + 1) (filled_lines (lines_left l.left)) l.weight;
 }
 
 abbrev pub decreases-loop-left : goal.decreases-loop-left

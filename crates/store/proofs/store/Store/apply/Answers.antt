@@ -76,7 +76,7 @@ returns-in-Err-clause-goes g c = λ told base m fits.
     let image = shown_image (now (D.story old.device)) in
     let held : tables_held image (listed_in old) ≡ Some t = ap (λ i. tables_held i (listed_in old)) (shown D.size D.story D.failed base m D.tells told old mid fits runs) ∙ sound.tables in
     let answers = subst (λ (b : Bool). IsAnswered b image (listed_in old) cmd (Err c.in-Err.refusal)) told c.in-Err.ensures.answers in
-    refuses_first D.size D.story D.failed base m cmd D.tells told c.in-Err.refusal old mid c.if-self.false fits c.in-Err.ensures.reads
+    refuses_first D.size D.story D.failed base m cmd D.tells told (single_command c.args.command) c.in-Err.refusal old mid c.if-self.false fits c.in-Err.ensures.reads
     (c.decisions_are_verdicts.ensures.answered image (listed_in old) t cmd (Err c.in-Err.refusal) (single_command c.args.command) (catalogue_is (listed_in old) old.opened.catalogue.list.kept) held c.commands_bring_tables.ensures answers)
 
 pub returns-in-Ok-clause-applied : goal.returns-in-Ok-clause-applied

@@ -56,7 +56,7 @@ returns-clause-goes g c = λ told base m fits rows heavy.
     let image = shown_image (now (D.story old.device)) in
     let held : tables_held image (listed_in old) ≡ Some t = ap (λ i. tables_held i (listed_in old)) (shown D.size D.story D.failed base m D.tells told old after.new.self fits runs) ∙ (fits.sound runs).tables in
     let answers = subst (λ (b : Bool). IsAnswered b image (listed_in old) cmd (Err after.result)) told (after.ensures.answers rows heavy) in
-    refuses_first D.size D.story D.failed base m cmd D.tells told after.result old after.new.self c.if-self.false fits after.ensures.reads
+    refuses_first D.size D.story D.failed base m cmd D.tells told tt after.result old after.new.self c.if-self.false fits after.ensures.reads
     (c.decisions_are_verdicts.ensures.answered image (listed_in old) t cmd (Err after.result) tt (catalogue_is (listed_in old) old.opened.catalogue.list.kept) held tt answers)
 
 pub returns-clause-applied : goal.returns-clause-applied

@@ -1,0 +1,9 @@
+use Rattle.std.proofs.Common.{map}
+use Rattle.cli_scripts.specs.Plain.{plain_words}
+use Rattle.cli_replay.proofs.replaying.lines_of.Goals as goal
+
+pub returns-in-Ok-clause-lines : goal.returns-in-Ok-clause-lines
+returns-in-Ok-clause-lines c = λ script have. (map plain_words c.args.words.now, have, c.in-Ok.ensures)
+
+pub returns-in-Err-BadLine-clause-told : goal.returns-in-Err-BadLine-clause-told
+returns-in-Err-BadLine-clause-told c = λ script have. (map plain_words c.args.words.now, have, c.in-Err-BadLine.ensures)

@@ -1,0 +1,3 @@
+pub mod Words
+pub mod Script
+pub mod Plain

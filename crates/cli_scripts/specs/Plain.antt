@@ -1,0 +1,29 @@
+-- The words and lines of a script, wherever they lie in memory.
+use Rattle.std.specs.Prelude.{ℕ, List, [], map, Option, option_map, string_bytes, String}
+use Rattle.std.specs.Global.{Global, Vec}
+use Rattle.std.specs.Option.{option_copied}
+use Rattle.facts.specs.Texts.{text_list}
+use Rattle.cli_scripts.specs.declared.line.SavedRows.{SavedRows}
+use Rattle.cli_scripts.specs.declared.line.ScriptLine.{ScriptLine}
+use Rattle.cli_scripts.specs.declared.line.ScriptLine.TheVariants.{Create, Import, Append, Save, Rename, Drop, Compact, Upgrade, Reopen}
+use Rattle.cli_scripts.specs.Script.{PlainRows, PlainLine, create, import_file, append_file, save, rename, drop, compact, upgrade, reopen}
+
+abbrev pub plain_words : Option (Vec (String Global)) → Option (List (List ℕ))
+plain_words words = option_map (λ v. map string_bytes v.items) words
+
+abbrev pub plain_rows : SavedRows → PlainRows
+plain_rows rows = record { columns = option_copied rows.columns; conditions = text_list rows.conditions.items }
+
+abbrev pub plain_line : ScriptLine → PlainLine
+plain_line (Create name fields) = create name.now (text_list fields.items)
+plain_line (Import name file) = import_file name.now file.now
+plain_line (Append name file) = append_file name.now file.now
+plain_line (Save from to rows) = save from.now to.now (plain_rows rows)
+plain_line (Rename from to) = rename from.now to.now
+plain_line (Drop name) = drop name.now
+plain_line Compact = compact
+plain_line Upgrade = upgrade
+plain_line Reopen = reopen
+
+abbrev pub plain_lines : List ScriptLine → List PlainLine
+plain_lines lines = map plain_line lines

@@ -1,0 +1,147 @@
+-- Scripts: one command on each line (`docs/using.md`).
+use Rattle.std.specs.Prelude.{◌≡◌, ◌≢◌, ◌<◌, ◌+◌, ℕ, Bool, true, false, if◌then◌else◌, List, [], ◌∷◌, length, take, get_or, codes, Option, Some, None, is_some, Result, Ok, Err}
+use Rattle.std.specs.List.{list_all}
+use Rattle.std.specs.Str.{bytes_eq}
+use Rattle.arrow_schema.specs.Column.{Column}
+use Rattle.field_texts.specs.Reported.{IsReported}
+use Rattle.field_texts.specs.declared.parse.ParseError.{ParseError}
+use Rattle.field_texts.specs.declared.parse.ParseError.TheVariants as fields
+use Rattle.query.specs.ConditionText.{condition_of}
+use Rattle.cli_scripts.specs.declared.script.ScriptError.{ScriptError}
+use Rattle.cli_scripts.specs.declared.script.ScriptError.TheVariants.{BadLine, OutOfMemory}
+use Rattle.cli_scripts.specs.Words.{lines_of, HaveWords}
+
+-- the texts of a command that saves selected rows
+pub record PlainRows : Type 0 where
+  pub columns : Option (List ℕ)
+  pub conditions : List (List ℕ)
+
+-- a command of a script; `create` has the texts of its fields
+pub data PlainLine : Type 0 where
+  create : (name : List ℕ) → (texts : List (List ℕ)) → PlainLine
+  import_file : (name file : List ℕ) → PlainLine
+  append_file : (name file : List ℕ) → PlainLine
+  save : (from to : List ℕ) → (rows : PlainRows) → PlainLine
+  rename : (from to : List ℕ) → PlainLine
+  drop : (name : List ℕ) → PlainLine
+  compact : PlainLine
+  upgrade : PlainLine
+  reopen : PlainLine
+
+-- ---- what the words ask for
+
+unfoldable pub alone : List ℕ → Option PlainLine
+alone word =
+    if bytes_eq (codes "compact") word then Some compact
+    else if bytes_eq (codes "upgrade") word then Some upgrade
+    else if bytes_eq (codes "reopen") word then Some reopen else None
+
+unfoldable pub with_name : List ℕ → List ℕ → Option PlainLine
+with_name word name = if bytes_eq (codes "drop") word then Some (drop name) else None
+
+unfoldable pub with_two : List ℕ → List ℕ → List ℕ → Option PlainLine
+with_two word first second =
+    if bytes_eq (codes "import") word then Some (import_file first second)
+    else if bytes_eq (codes "append") word then Some (append_file first second)
+    else if bytes_eq (codes "rename") word then Some (rename first second) else None
+
+unfoldable pub other_of : List ℕ → List (List ℕ) → Option PlainLine
+other_of word [] = alone word
+other_of word (name ∷ []) = with_name word name
+other_of word (first ∷ second ∷ []) = with_two word first second
+other_of word (first ∷ second ∷ third ∷ more) = None
+
+unfoldable pub create_of : List (List ℕ) → Option PlainLine
+create_of [] = None
+create_of (name ∷ texts) = Some (create name texts)
+
+-- ---- the rows to be saved: `--columns` and a word, then `--`, if these are there, and then the conditions
+
+-- the columns that the first words name, and the words after these; or the words as they are
+unfoldable pub columns_at : List (List ℕ) → Option (List ℕ) × List (List ℕ)
+columns_at [] = (None, [])
+columns_at (word ∷ []) = (None, word ∷ [])
+columns_at (word ∷ columns ∷ more) = if bytes_eq (codes "--columns") word then (Some columns, more) else (None, word ∷ columns ∷ more)
+
+unfoldable pub after_dashes : List (List ℕ) → List (List ℕ)
+after_dashes [] = []
+after_dashes (word ∷ more) = if bytes_eq (codes "--") word then more else word ∷ more
+
+unfoldable pub rows_of : List (List ℕ) → PlainRows
+rows_of words = let found = columns_at words in record { columns = found.0; conditions = after_dashes found.1 }
+
+unfoldable pub save_of : List (List ℕ) → Option PlainLine
+save_of (from ∷ to ∷ words) = Some (save from to (rows_of words))
+save_of (word ∷ []) = None
+save_of [] = None
+
+unfoldable pub line_of : List (List ℕ) → Option PlainLine
+line_of [] = None
+line_of (word ∷ arguments) =
+    if bytes_eq (codes "create") word then create_of arguments
+    else if bytes_eq (codes "save") word then save_of arguments else other_of word arguments
+
+-- ---- the texts of fields and conditions
+
+-- whether they state columns or are refused
+abbrev pub StateFields : Bool → List (List ℕ) → Type 0
+StateFields true texts = (columns : List Column) × IsReported texts (Ok columns)
+StateFields false texts = (e : ParseError) × (e ≢ fields.OutOfMemory) × IsReported texts (Err e)
+
+-- each text has the form of a condition
+abbrev pub are_conditions : List (List ℕ) → Bool
+are_conditions texts = list_all (λ text. is_some (condition_of text)) texts
+
+-- whether the texts of a line can be parsed
+abbrev pub AreTested : Bool → PlainLine → Type 0
+AreTested tested (create name texts) = StateFields tested texts
+AreTested tested (save from to rows) = are_conditions rows.conditions ≡ tested
+AreTested true _ = Unit {0}
+AreTested false _ = ⊥
+
+-- ---- a line
+
+-- these words are those of a line
+abbrev pub HasLine : Option (List (List ℕ)) → PlainLine → Type 0
+HasLine None line = ⊥
+HasLine (Some words) line = (line_of words ≡ Some line) × AreTested true line
+
+-- why a line has no command: it has no words, or these ask for nothing, or a text of its fields or conditions is refused
+abbrev pub IsRefused : Option PlainLine → Type 0
+IsRefused None = Unit {0}
+IsRefused (Some line) = AreTested false line
+
+abbrev pub HasNone : Option (List (List ℕ)) → Type 0
+HasNone None = Unit {0}
+HasNone (Some words) = IsRefused (line_of words)
+
+abbrev pub ReadsLine : Option (List (List ℕ)) → Option PlainLine → Type 0
+ReadsLine words (Some line) = HasLine words line
+ReadsLine words None = HasNone words
+
+-- ---- a script
+
+abbrev pub HaveLines : List (Option (List (List ℕ))) → List PlainLine → Type 0
+HaveLines [] [] = Unit {0}
+HaveLines (words ∷ more) (line ∷ lines) = HasLine words line × HaveLines more lines
+HaveLines [] (line ∷ lines) = ⊥
+HaveLines (words ∷ more) [] = ⊥
+
+-- the first invalid line; its number counts from 1
+pub record IsBadLine (texts : List (Option (List (List ℕ)))) (number : ℕ) : Type 0 where
+  pub index : ℕ
+  pub counted : number ≡ index + 1
+  pub among : index < length texts
+  pub front : List PlainLine
+  pub before : HaveLines (take index texts) front
+  pub bad : HasNone (get_or texts index None)
+
+-- the lines that words have, or the first line without a command
+abbrev pub AreParsed : List (Option (List (List ℕ))) → Result (List PlainLine) ScriptError → Type 0
+AreParsed texts (Ok lines) = HaveLines texts lines
+AreParsed texts (Err (BadLine number)) = IsBadLine texts number
+AreParsed texts (Err OutOfMemory) = Unit {0}
+
+-- the lines of a script, or its first invalid line
+abbrev pub IsScript : List ℕ → Result (List PlainLine) ScriptError → Type 0
+IsScript script parsed = (texts : List (Option (List (List ℕ)))) × HaveWords (lines_of script) texts × AreParsed texts parsed

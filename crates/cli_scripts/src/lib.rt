@@ -1,0 +1,17 @@
+//! The commands of a script, one on each line.
+//!
+//! ```
+//! let words = script_words(alloc, b"create t a:int32?\nsave t kept \"a >= 1\"\n")?;
+//! let lines = parse_script(alloc, &words)?;
+//! ```
+#![tactic(auto)]
+
+mod laws;
+mod line;
+mod script;
+mod words;
+
+pub use laws::{a_line_has_one_list_of_words, written_words_are_read};
+pub use line::{SavedRows, ScriptLine, line_of};
+pub use script::{ScriptError, parse_script};
+pub use words::script_words;

@@ -1,0 +1,200 @@
+// The commands that the words of a line ask for.
+ghost use Rattle.std.specs.Prelude.{◌≡◌, IfOk, option_map};
+ghost use Rattle.std.specs.Option.{option_copied};
+ghost use Rattle.facts.specs.Texts.{text_list};
+ghost use Rattle.cli_scripts.specs.Plain.{plain_line, plain_rows};
+ghost use Rattle.cli_scripts.specs.Script.{alone, with_name, with_two, other_of, create_of, columns_at, after_dashes, rows_of, save_of, line_of};
+
+use std::alloc::{AllocError, Global};
+
+/// The texts that say which rows are saved.
+#[derive(Drop)]
+pub struct SavedRows<'a> {
+    /// The names of the columns, with commas between them.
+    pub columns: Option<&'a str>,
+    pub conditions: Vec<&'a str>,
+}
+
+/// A line of a script: one command.
+#[derive(Drop)]
+pub enum ScriptLine<'a> {
+    /// Makes an empty table with the fields that the texts state.
+    Create {
+        name: &'a str,
+        fields: Vec<&'a str>,
+    },
+    /// Makes the table of the stream in a file, in place of one of this name.
+    Import {
+        name: &'a str,
+        file: &'a str,
+    },
+    /// Appends the rows of the stream in a file to the table.
+    Append {
+        name: &'a str,
+        file: &'a str,
+    },
+    /// Saves selected rows of a table as another table.
+    Save {
+        from: &'a str,
+        to: &'a str,
+        rows: SavedRows<'a>,
+    },
+    Rename {
+        from: &'a str,
+        to: &'a str,
+    },
+    Drop {
+        name: &'a str,
+    },
+    /// Takes one step of a compaction.
+    Compact,
+    /// Gives all segments digests.
+    Upgrade,
+    /// Closes the store and opens it again.
+    Reopen,
+}
+
+#[tactic(auto, unfolding(crate::specs::Script::alone))]
+fn alone<'a>(word: &str) -> Option<ScriptLine<'a>>
+    ensures { option_map plain_line result ≡ alone word.now }
+{
+    if word == "compact" {
+        Some(ScriptLine::Compact)
+    } else if word == "upgrade" {
+        Some(ScriptLine::Upgrade)
+    } else if word == "reopen" {
+        Some(ScriptLine::Reopen)
+    } else {
+        None
+    }
+}
+
+#[tactic(auto, unfolding(crate::specs::Script::with_name))]
+fn with_name<'a>(word: &str, name: &'a str) -> Option<ScriptLine<'a>>
+    ensures { option_map plain_line result ≡ with_name word.now name.now }
+{
+    if word == "drop" {
+        Some(ScriptLine::Drop { name })
+    } else {
+        None
+    }
+}
+
+#[tactic(auto, unfolding(crate::specs::Script::with_two))]
+fn with_two<'a>(word: &str, name: &'a str, other: &'a str) -> Option<ScriptLine<'a>>
+    ensures { option_map plain_line result ≡ with_two word.now name.now other.now }
+{
+    if word == "import" {
+        Some(ScriptLine::Import { name, file: other })
+    } else if word == "append" {
+        Some(ScriptLine::Append { name, file: other })
+    } else if word == "rename" {
+        Some(ScriptLine::Rename {
+            from: name,
+            to: other,
+        })
+    } else {
+        None
+    }
+}
+
+#[tactic(auto, unfolding(crate::specs::Script::other_of))]
+fn other_of<'a>(word: &str, arguments: &[&'a str]) -> Option<ScriptLine<'a>>
+    ensures { option_map plain_line result ≡ other_of word.now (text_list arguments.now) }
+{
+    match arguments {
+        [] => alone(word),
+        [name] => with_name(word, name),
+        [name, other] => with_two(word, name, other),
+        _ => None,
+    }
+}
+
+#[tactic(auto, unfolding(crate::specs::Script::create_of))]
+fn create_of<'a>(alloc: Global, arguments: &[&'a str]) -> Result<Option<ScriptLine<'a>>, AllocError>
+    ensures { IfOk result (λ line. option_map plain_line line ≡ create_of (text_list arguments.now)) }
+{
+    match arguments {
+        [name, texts @ ..] => {
+            let fields = Vec::from_slice(alloc, texts)?;
+            Ok(Some(ScriptLine::Create { name, fields }))
+        }
+        [] => Ok(None),
+    }
+}
+
+// Returns the columns that the first words name, and the words after these; or `None` and the words as they are.
+#[tactic(auto, unfolding(crate::specs::Script::columns_at))]
+fn columns_at<'r, 'a>(words: &'r [&'a str]) -> (Option<&'a str>, &'r [&'a str])
+    ensures { (option_copied result.0, text_list result.1.now) ≡ columns_at (text_list words.now) }
+{
+    match words {
+        [word, columns, more @ ..] => {
+            if *word == "--columns" {
+                (Some(*columns), more)
+            } else {
+                (None, words)
+            }
+        }
+        [_] => (None, words),
+        [] => (None, words),
+    }
+}
+
+#[tactic(auto, unfolding(crate::specs::Script::after_dashes))]
+fn after_dashes<'r, 'a>(words: &'r [&'a str]) -> &'r [&'a str]
+    ensures { text_list result.now ≡ after_dashes (text_list words.now) }
+{
+    match words {
+        [word, more @ ..] => { if *word == "--" { more } else { words } }
+        [] => words,
+    }
+}
+
+#[tactic(auto, unfolding(crate::specs::Script::rows_of))]
+fn rows_of<'a>(alloc: Global, words: &[&'a str]) -> Result<SavedRows<'a>, AllocError>
+    ensures { IfOk result (λ rows. plain_rows rows ≡ rows_of (text_list words.now)) }
+{
+    let (columns, others) = columns_at(words);
+    let conditions = Vec::from_slice(alloc, after_dashes(others))?;
+    Ok(SavedRows {
+        columns,
+        conditions,
+    })
+}
+
+#[tactic(auto, unfolding(crate::specs::Script::save_of))]
+fn save_of<'a>(alloc: Global, arguments: &[&'a str]) -> Result<Option<ScriptLine<'a>>, AllocError>
+    ensures { IfOk result (λ line. option_map plain_line line ≡ save_of (text_list arguments.now)) }
+{
+    match arguments {
+        [from, to, words @ ..] => {
+            let rows = rows_of(alloc, words)?;
+            Ok(Some(ScriptLine::Save { from, to, rows }))
+        }
+        [_] => Ok(None),
+        [] => Ok(None),
+    }
+}
+
+/// Returns the command that the words of a line ask for, whatever the texts of its fields or conditions are.
+///
+/// # Errors
+/// `AllocError` if memory is refused.
+#[tactic(auto, unfolding(crate::specs::Script::line_of))]
+pub fn line_of<'a>(alloc: Global, words: &[&'a str]) -> Result<Option<ScriptLine<'a>>, AllocError>
+    ensures { IfOk result (λ line. option_map plain_line line ≡ line_of (text_list words.now)) }
+{
+    match words {
+        [word, arguments @ ..] => {
+            if *word == "create" {
+                create_of(alloc, arguments)
+            } else if *word == "save" {
+                save_of(alloc, arguments)
+            } else {
+                Ok(other_of(word, arguments))
+            }
+        }
+        [] => Ok(None),
+    }
+}

@@ -1,0 +1,108 @@
+// Several commands as one: what is answered, and what the tables are then.
+use crate::inputs::{INT, Input};
+use crate::made::{NotMade, assert_no_row};
+use crate::playing::{Slot, answer, is_played, new_slot, shut};
+use crate::shown::contents;
+use crate::steps::{Step, Steps, commands_of, says};
+use Input::Ints;
+use Step::{Append, Create, Format, Import, Remove, Rename, Save};
+use std::alloc::Global;
+use store::Reply;
+
+// The commands, the reply, and the values of the tables after it.
+type Row = (&'static [Step], &'static str, &'static str);
+
+const BEFORE: Steps = &[
+    (Format, "ok"),
+    (Import("t", Ints(&[7, -1])), "ok"),
+    (Create("u", INT), "ok"),
+];
+
+const DONE: &[Row] = &[
+    (&[], "ok", "t: 7 -1, u:"),
+    (
+        &[
+            Save("t", "kept", (&[], &["a >= 0"], None)),
+            Remove("t"),
+            Rename("kept", "t"),
+        ],
+        "ok",
+        "t: 7, u:",
+    ),
+    (
+        &[
+            Append("u", Ints(&[5])),
+            Append("u", Ints(&[6])),
+            Import("s", Ints(&[1])),
+            Append("s", Ints(&[2])),
+        ],
+        "ok",
+        "s: 1 2, t: 7 -1, u: 5 6",
+    ),
+    (
+        &[Import("s", Ints(&[1])), Remove("s"), Remove("t")],
+        "ok",
+        "u:",
+    ),
+    (
+        &[Remove("u"), Rename("t", "u"), Create("t", INT)],
+        "ok",
+        "t:, u: 7 -1",
+    ),
+];
+
+const REFUSED: &[Row] = &[
+    (
+        &[Remove("x"), Remove("t")],
+        "S1 NoTable of 0",
+        "t: 7 -1, u:",
+    ),
+    (
+        &[Remove("t"), Remove("t")],
+        "S1 NoTable of 1",
+        "t: 7 -1, u:",
+    ),
+    (
+        &[Append("u", Ints(&[5])), Remove("t"), Create("u", INT)],
+        "S2 NameTaken of 2",
+        "t: 7 -1, u:",
+    ),
+    (
+        &[Import("s", Ints(&[1])), Save("s", "w", (&[], &[], None))],
+        "S16 RowsUnwritten of 1",
+        "t: 7 -1, u:",
+    ),
+];
+
+fn reply_of(alloc: Global, slot: &mut Slot, steps: &[Step]) -> Result<Reply, NotMade> {
+    let call = store::Call::ApplyAll(commands_of(alloc, steps)?);
+    answer(alloc, slot, call).ok_or(NotMade)
+}
+
+fn is_well_on(alloc: Global, slot: &mut Slot, row: &Row) -> Result<bool, NotMade> {
+    let (steps, want, after) = *row;
+    if !is_played(alloc, slot, BEFORE)? {
+        return Err(NotMade);
+    }
+    let told = says(alloc, &reply_of(alloc, slot, steps)?, want)?;
+    Ok(told && contents(alloc, &mut shut(slot)?)?.as_str() == after)
+}
+
+fn wrong_row(alloc: Global, rows: &[Row]) -> Result<Option<usize>, NotMade> {
+    for (place, row) in rows.iter().enumerate() {
+        if !is_well_on(alloc, &mut new_slot(alloc, 32)?, row)? {
+            return Ok(Some(place));
+        }
+    }
+    Ok(None)
+}
+
+#[test]
+fn several_commands_are_done_as_one(rt: HostRuntime) {
+    assert_no_row(&rt, wrong_row(rt.alloc(), DONE));
+}
+
+#[test]
+fn the_first_refused_command_refuses_all(rt: HostRuntime) {
+    assert_no_row(&rt, wrong_row(rt.alloc(), REFUSED));
+}
