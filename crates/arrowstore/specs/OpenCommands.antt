@@ -36,6 +36,7 @@ States (words.Create name fields) (opened.Change c) = StatesTable name.now (map 
 States (words.SaveAs from to query) (opened.Change c) = StatesSaving from.now to.now (query_stated query) (command_of c)
 States (words.Rename from to) (opened.Change c) = command_of c ≡ plain.rename from.now to.now
 States (words.Drop name) (opened.Change c) = command_of c ≡ plain.drop_table name.now
+States (words.CreateLike name like) (opened.CreateLike n l) = (n.now ≡ name.now) × (l.now ≡ like.now)
 States (words.Import name) (opened.Import n) = n.now ≡ name.now
 States (words.ImportNew name) (opened.ImportNew n) = n.now ≡ name.now
 States (words.Append name) (opened.Append n) = n.now ≡ name.now

@@ -11,7 +11,7 @@ use Rattle.catalogue.specs.Entries.{PlainEntry, is_name}
 use Rattle.catalogue.specs.Edits.{entry_of, tables_of}
 use Rattle.ipc_canonical.specs.Canonical.{canonical}
 use Rattle.tables.specs.Tables.{Tables}
-use Rattle.tables.specs.Commands.{PlainCommand, import_stream, append_stream, append_rows}
+use Rattle.tables.specs.Commands.{PlainCommand, create, import_stream, append_stream, append_rows}
 use Rattle.tables.specs.View.{command_of}
 use Rattle.tables.specs.declared.refusal.Refusal as tables
 use Rattle.tables.specs.declared.refusal.Refusal.TheVariants.{BadName, NoTable}
@@ -32,7 +32,7 @@ use Rattle.cli_refusals.specs.declared.hint.Hinted.{Hinted}
 use Rattle.cli_refusals.specs.declared.refusal.Refusal.{Refusal}
 use Rattle.cli_refusals.specs.declared.refusal.Refusal.TheVariants.{Io}
 use Rattle.cli_refusals.specs.declared.refusal.Side.TheVariants.{Output}
-use Rattle.cli_commands.specs.Changing.{Answered, AnswersCommand, AnswersInput, RefusesTaken, is_listed}
+use Rattle.cli_commands.specs.Changing.{Answered, AnswersCommand, AnswersInput, HandsSchema, RefusesHanding, RefusesTaken, is_listed}
 use Rattle.cli_commands.specs.Compacting.{Compacts}
 use Rattle.cli_commands.specs.Upgrading.{AnsweredUpgrade, AnswersUpgrade}
 use Rattle.cli_commands.specs.Printed.{tables_text, schema_text, summary_text, RefusesPrinting, RefusesSummary}
@@ -58,6 +58,18 @@ pub record Carries {D : Type 0} {g : Ghosts D} {R W : Type 0} (contents : W → 
   pub goes : g.tells ≡ true → (base : Tables) (m : Machine) → StoreFits g.size g.story base m old
       → Answered (λ answer. GoesOn g.size g.story g.failed base m (apply_call command) (ended answer) old new) result
   pub told : Answered (λ answer. AnswersCommand g.size g.story g.failed g.tells command answer old new) result
+  pub written : OnOk result (Appends (contents before.output) (contents after.output) (codes "ok\n"))
+  pub unhinted : after.hint ≡ before.hint
+
+-- a table of this name is made so too, with the schema of the table `like` (`create_like`)
+pub record CarriesLike {D : Type 0} {g : Ghosts D} {R W : Type 0} (contents : W → Option (List ℕ)) (name like : List ℕ)
+    (old new : Store D g) (before after : Channels R W) (result : Result (Unit {0}) Refusal) : Type 0 where
+  pub goes : g.tells ≡ true → (base : Tables) (m : Machine) → StoreFits g.size g.story base m old
+      → HandsSchema (entry_of (listed_in old) like)
+      (λ schema answer. GoesOn g.size g.story g.failed base m (apply_call (create name schema)) (ended answer) old new) (λ refusal. new ≡ old) result
+  pub told : HandsSchema (entry_of (listed_in old) like)
+      (λ schema answer. AnswersCommand g.size g.story g.failed g.tells (create name schema) answer old new)
+      (λ refusal. RefusesHanding (is_halted old) (entry_of (listed_in old) like) refusal × (new ≡ old) × (after.output ≡ before.output)) result
   pub written : OnOk result (Appends (contents before.output) (contents after.output) (codes "ok\n"))
   pub unhinted : after.hint ≡ before.hint
 
@@ -141,6 +153,7 @@ pub record Checks {D : Type 0} {g : Ghosts D} {R W : Type 0} (contents : W → O
 unfoldable pub Serves : {D : Type 0} {g : Ghosts D} {R W : Type 0} → (remaining : R → Option (List ℕ)) → (contents : W → Option (List ℕ)) → OpenCommand
     → (old new : Store D g) → (before after : Channels R W) → Result (Unit {0}) Refusal → Type 0
 Serves remaining contents (opened.Change c) old new before after result = Carries contents (command_of c) old new before after result
+Serves remaining contents (opened.CreateLike name like) old new before after result = CarriesLike contents name.now like.now old new before after result
 Serves remaining contents (opened.Import name) old new before after result =
     CarriesInput remaining contents (import_stream name.now) (is_name name.now) BadName old new before after result
 Serves remaining contents (opened.ImportNew name) old new before after result = CarriesNew remaining contents name.now old new before after result

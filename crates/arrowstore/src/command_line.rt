@@ -6,8 +6,9 @@ ghost use Rattle.arrowstore.specs.Arguments.{asks_topic, program_command, have_e
 ghost use Rattle.cli_texts.specs.Ending.{GivesSome, IsOfOutput};
 ghost use Rattle.cli_texts.specs.Reported.{IsRequest};
 
+use crate::other_topic::{help_command, unknown_topic};
 use clap::error::ErrorKind;
-use clap::{Arg, ArgMatches, Command, Error};
+use clap::{ArgMatches, Command, Error};
 use cli_refusals::{Refusal, Side, has_entry};
 use cli_requests::{ask_help_of_command, cli_commands, help_of_command};
 use cli_texts::{abouts, help_page, is_version_word, write_entry};
@@ -100,12 +101,6 @@ fn version_command<'a>(alloc: Global) -> Result<Command<'a>, AllocError> {
     Command::new(alloc, "version").bin_name("arrowstore --version")
 }
 
-fn help_command<'a>(alloc: Global) -> Result<Command<'a>, AllocError> {
-    Command::new(alloc, "help")
-        .arg(Arg::new(alloc, "COMMAND"))?
-        .bin_name("arrowstore help")
-}
-
 fn unexpected(alloc: Global, mut command: Command<'_>, word: &str) -> Result<Error, AllocError>
     ensures { IfOk result (λ error. kind_of error ≡ UnknownArgument) }
 {
@@ -131,17 +126,25 @@ fn action_of_few<S: AsStr>(alloc: Global, arguments: &[S]) -> Result<Action, Err
     }
 }
 
-// Reports a missing or unknown command against all commands, so that the message lists them or suggests a similar one.
+// Reports a missing or unknown command against all commands, so that the message lists them or suggests a similar one, and an unknown topic of help
+// with all that there are.
 fn with_all_commands<S: AsStr>(alloc: Global, arguments: &[S], error: Error) -> Error
     ensures { kind_of result ≡ kind_of error }
 {
-    let Some(other) = error_of_all(alloc, arguments) else {
+    let Some(other) = error_with_all(alloc, arguments) else {
         return error;
     };
     match (error.kind(), other.kind()) {
         (ErrorKind::InvalidSubcommand, ErrorKind::InvalidSubcommand)
         | (ErrorKind::MissingSubcommand, ErrorKind::MissingSubcommand) => other,
         _ => error,
+    }
+}
+
+fn error_with_all<S: AsStr>(alloc: Global, arguments: &[S]) -> Option<Error> {
+    match arguments {
+        [_, word, topic] if word.as_str() == "help" => unknown_topic(alloc, topic.as_str()).ok(),
+        _ => error_of_all(alloc, arguments),
     }
 }
 

@@ -26,6 +26,7 @@ mod nearest_type;
 mod noted;
 mod open_command;
 mod other_length;
+mod other_topic;
 mod record_line;
 mod replaying;
 mod running;

@@ -21,6 +21,11 @@ use text_import::TextForm;
 pub enum OpenCommand<'a> {
     /// Changes the tables.
     Change(Command),
+    /// Makes an empty table with the schema of another one.
+    CreateLike {
+        name: &'a str,
+        like: &'a str,
+    },
     /// Makes the table of the stream that the whole input is, in place of one of this name.
     Import {
         name: &'a str,
@@ -112,6 +117,7 @@ pub fn stated<'a>(alloc: Global, command: &StoreCommand<'a>) -> Result<OpenComma
         StoreCommand::Create { name, fields } => {
             Ok(OpenCommand::Change(create(alloc, name, fields)?))
         }
+        StoreCommand::CreateLike { name, like } => Ok(OpenCommand::CreateLike { name, like }),
         StoreCommand::Import { name } => Ok(OpenCommand::Import { name }),
         StoreCommand::ImportNew { name } => Ok(OpenCommand::ImportNew { name }),
         StoreCommand::Append { name } => Ok(OpenCommand::Append { name }),

@@ -5,9 +5,9 @@ ghost use Rattle.arrowstore.specs.Serving.{channels, Serves};
 
 use crate::OpenCommand;
 use cli_commands::{
-    append_input, append_text, apply_command, check_tables, compact_tables, export_table,
-    import_input, import_new, print_schema, print_selection, print_summary, print_tables,
-    upgrade_store,
+    append_input, append_text, apply_command, check_tables, compact_tables, create_like,
+    export_table, import_input, import_new, print_schema, print_selection, print_summary,
+    print_tables, upgrade_store,
 };
 use cli_refusals::{Hinted, Refusal, Side};
 use sector_dev::SectorDevice;
@@ -38,6 +38,7 @@ pub fn serve_open<D: SectorDevice, R: Read, W: Write>(
 {
     match command {
         OpenCommand::Change(command) => apply_command(alloc, store, command, output),
+        OpenCommand::CreateLike { name, like } => create_like(alloc, store, name, like, output),
         OpenCommand::Import { name } => import_input(alloc, store, name, input, output),
         OpenCommand::ImportNew { name } => import_new(alloc, store, name, input, output),
         OpenCommand::Append { name } => append_input(alloc, store, name, input, output),

@@ -1,5 +1,5 @@
 -- What the program answers to commands that change the tables of a store.
-use Rattle.std.specs.Prelude.{◌≡◌, ◌≢◌, ◌↔◌, ◌⊎◌, ◌&&◌, ℕ, Bool, true, false, not, List, [], Option, IsSome, Result, Ok, Err, IfErr, OnOk}
+use Rattle.std.specs.Prelude.{◌≡◌, ◌≢◌, ◌↔◌, ◌⊎◌, ◌&&◌, ℕ, Bool, true, false, not, List, [], Option, Some, IsSome, IsErrAnd, Result, Ok, Err, IfErr, OnOk}
 use Rattle.sector_dev.specs.Disk.{Story}
 use Rattle.sector_dev.specs.Time.{OnlyReads}
 use Rattle.sector_dev.specs.declared.device.SectorDevice.{Ghosts}
@@ -71,6 +71,16 @@ is_listed halted c name = not halted && has_entry c name
 -- why a table that must be new is refused if one has its name: for that, or memory was refused
 abbrev pub RefusesTaken : Refusal → Type 0
 RefusesTaken refusal = (refusal ≡ Store refusals.NameTaken) ⊎ (refusal ≡ Store refusals.OutOfMemory)
+
+-- the schema of a table that is there was handed on, with an answer of the store; or there is a reason why not
+abbrev pub HandsSchema : Option PlainEntry → (PlainSchema → Result (Unit {0}) tables.Refusal → Type 0) → (Refusal → Type 0) → Result (Unit {0}) Refusal → Type 0
+HandsSchema found P Q result = IsErrAnd result Q ⊎ ((e : PlainEntry) × (found ≡ Some e) × Answered (P e.schema) result)
+
+-- why the schema of a table with this entry is not handed on: the store does not give it, or memory was refused after that
+abbrev pub RefusesHanding : (halted : Bool) → Option PlainEntry → Refusal → Type 0
+RefusesHanding halted found (Store refusal) = RefusesSchema halted found refusal
+RefusesHanding halted found OutOfMemory = (halted ≡ false) × IsSome found
+RefusesHanding halted found _ = ⊥
 
 -- the store does not give the schema of a table of this name, with this entry if there is one, and nothing was read; or the input is refused
 abbrev pub RefusesAppend : {R : Type 0} → (remaining : R → Option (List ℕ)) → (halted : Bool) → (found : Option PlainEntry) → (old new : R) → Refusal → Type 0

@@ -1,8 +1,9 @@
 // Commands that change the tables of an open store.
 ghost use Rattle.std.specs.Prelude.{◌≡◌, ◌≢◌, true, false, codes, IfErr, IsErrAnd, MatchResult, OnOk};
 ghost use Rattle.std.specs.Io.KnownBytes.{Appends};
+ghost use Rattle.catalogue.specs.Edits.{entry_of};
 ghost use Rattle.catalogue.specs.Entries.{is_name};
-ghost use Rattle.tables.specs.Commands.{import_stream, append_stream};
+ghost use Rattle.tables.specs.Commands.{create, import_stream, append_stream};
 ghost use Rattle.tables.specs.Tables.{Tables};
 ghost use Rattle.tables.specs.declared.refusal.Refusal.TheVariants.{BadName, NoTable, OutOfMemory};
 ghost use Rattle.tables.specs.View.{command_of};
@@ -12,14 +13,14 @@ ghost use Rattle.store_runs.specs.Deciding.{has_entry};
 ghost use Rattle.store.specs.Fits.{StoreFits, is_halted, listed_in};
 ghost use Rattle.store_runs.specs.Machine.{Machine};
 ghost use Rattle.store_runs.specs.Reading.{ended};
-ghost use Rattle.cli_commands.specs.Changing.{Answered, AnswersCommand, AnswersInput, RefusesTaken, is_listed};
+ghost use Rattle.cli_commands.specs.Changing.{Answered, AnswersCommand, AnswersInput, HandsSchema, RefusesHanding, RefusesTaken, is_listed};
 
 use cli_refusals::{Refusal, Side, write_whole};
 use sector_dev::SectorDevice;
 use std::alloc::Global;
 use std::io::{Read, Write};
 use store::Store;
-use tables::Command;
+use tables::{Command, NewTable};
 
 /// Executes a command and writes `ok` once it is done.
 ///
@@ -42,6 +43,42 @@ pub fn apply_command<D: SectorDevice, W: Write>(
 {
     store.apply(alloc, command)?;
     write_whole(output, b"ok\n")
+}
+
+/// Makes a table without rows, with the schema of the table `like` of the same store, and writes `ok`.
+///
+/// # Errors
+/// `Store`, as [`Store::schema`] refuses for the table `like`, and then as the command to create a table is refused; `OutOfMemory`. Nothing is written
+/// then, and the tables are unchanged; after `Store(Device)` the store is halted, and the command may or may not be done. `Io` if the output fails: the
+/// command is done all the same.
+pub fn create_like<D: SectorDevice, W: Write>(
+    alloc: Global,
+    store: &mut Store<D>,
+    name: &str,
+    like: &str,
+    output: &mut W,
+) -> Result<(), Refusal>
+    // The store was given the command that creates a table of this name with the schema that it has for the other one.
+    ensures goes { D.tells ≡ true → (base : Tables) (m : Machine) → StoreFits D.size D.story base m store.old
+        → HandsSchema (entry_of (listed_in store.old) like.now)
+        (λ schema answer. GoesOn D.size D.story D.failed base m (apply_call (create name.now schema)) (ended answer) store.old store.new)
+        (λ _. store.new ≡ store.old) result }
+    // On any store, its answer is reported; or there was a reason before that, and nothing is changed or written.
+    ensures told { HandsSchema (entry_of (listed_in store.old) like.now)
+        (λ schema answer. AnswersCommand D.size D.story D.failed D.tells (create name.now schema) answer store.old store.new)
+        (λ refusal. RefusesHanding (is_halted store.old) (entry_of (listed_in store.old) like.now) refusal × (store.new ≡ store.old)
+        × (output.new ≡ output.old)) result }
+    ensures written { OnOk result (Appends (W.contents output.old) (W.contents output.new) (codes "ok\n")) }
+    ensures silent { IfErr result (λ refusal. refusal ≢ Refusal.Io Side.Output → output.new ≡ output.old) }
+{
+    let schema = store.schema(alloc, like)?;
+    let name = String::from_str(alloc, name)?;
+    apply_command(
+        alloc,
+        store,
+        Command::Create(NewTable { name, schema }),
+        output,
+    )
 }
 
 /// Reads the whole input as a stream, makes its table in place of one of this name, and writes `ok`.

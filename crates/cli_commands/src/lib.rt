@@ -1,7 +1,7 @@
 //! The commands of an open store on any device, over any reader and writer, and [`recode`].
 //!
-//! [`apply_command`], [`import_input`], [`import_new`], [`append_input`] and [`append_text`] change the tables; [`print_tables`], [`print_schema`],
-//! [`print_selection`], [`print_summary`], [`export_table`] and [`check_tables`] read them; [`compact_tables`] joins their segments,
+//! [`apply_command`], [`create_like`], [`import_input`], [`import_new`], [`append_input`] and [`append_text`] change the tables; [`print_tables`],
+//! [`print_schema`], [`print_selection`], [`print_summary`], [`export_table`] and [`check_tables`] read them; [`compact_tables`] joins their segments,
 //! [`upgrade_store`] gives the segments digests, [`copy_tables`] copies all tables into another store, and [`salvage_table`] writes what can be
 //! read of a damaged one. Their contracts say which bytes are read and written, and what becomes of the store.
 //! [`recode`] reads a stream and writes its canonical form.
@@ -26,7 +26,7 @@ mod summing;
 mod text_rows;
 mod upgrading;
 
-pub use changing::{append_input, apply_command, import_input, import_new};
+pub use changing::{append_input, apply_command, create_like, import_input, import_new};
 pub use compacting::compact_tables;
 pub use copying::copy_tables;
 pub use creating::{drop_table, new_table, rename_table};

@@ -26,7 +26,7 @@ mod remedies;
 mod shown;
 mod word;
 
-pub use entry::{entry_of, has_entry};
+pub use entry::{codes_with_entries, entry_of, has_entry};
 pub use failed_file::{FailedFile, FileReason, OtherLength};
 pub use hint::{Hint, Hinted, HintedPart, report_table};
 pub use known::{FileCause, Known};

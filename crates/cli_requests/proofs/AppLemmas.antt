@@ -293,6 +293,19 @@ create_named name (a ∷ b ∷ c ∷ rest) e =
     let held = words_read s (codes "FIELD") (file_and_table s.rules a b) (field_met name a b) (c ∷ []) rest in
     ap (named_in s (codes "FIELD")) (sym held)
 
+abbrev like_in : Text → Held → Option Text
+like_in name h = first_of (codes "like") (finished (create_top name).rules h)
+
+-- without its option
+create_alone : (name : Text) (ops : List Text) → operands_fault (create_top name) ops ≡ [] → like_in name (operands_held (create_top name) ops) ≡ None
+unfolding walked clap_on_literals
+create_alone name [] e = absurd (some_kind _ _ e)
+create_alone name (a ∷ []) e = absurd (some_kind _ _ e)
+create_alone name (a ∷ b ∷ []) e = refl
+create_alone name (a ∷ b ∷ c ∷ rest) e =
+    let s = create_top name in
+    ap (like_in name) (words_read s (codes "FIELD") (file_and_table s.rules a b) (field_met name a b) (c ∷ []) rest)
+
 query_named : (dates : ValueParser) (name : Text) (ops : List Text) → operands_fault (query_top dates name) ops ≡ []
     → ops ≡ named_in (query_top dates name) (codes "CONDITION") (operands_held (query_top dates name) ops)
 unfolding walked clap_on_literals
@@ -464,6 +477,14 @@ module _ (word : Text) (words : List Text) (m : ArgMatches) (a : App) (name : Te
       create_named name ops (sym reads.fault ∙ p.faultless refl)
       ∙ (λ i. found_value m _ (codes "STORE") rows i ∷ found_value m _ (codes "NAME") rows i ∷ found_values m _ (codes "FIELD") rows i)
 
+  create_default : a ≡ create_app name → (ops : List Text) → operands words ≡ Some ops → first_value (found_of m) (codes "like") ≡ None
+  unfolding clap_on_literals
+  create_default is ops e =
+      let reads = reads_operands (create_app name) word words ops e refl refl (create_plain name) in
+      let p : Parsed (create_app name) (word ∷ words) m = subst (λ (x : App). Parsed x (word ∷ words) m) is parsed in
+      let rows = (p.matches refl).0 ∙ reads.rows in
+      sym (found_first m _ (codes "like") rows) ∙ create_alone name ops (sym reads.fault ∙ p.faultless refl)
+
   query_found : (dates : ValueParser) → a ≡ query_app dates name → (ops : List Text) → operands words ≡ Some ops
       → ops ≡ value_of (found_of m) (codes "STORE") ∷ value_of (found_of m) (codes "NAME") ∷ values_of (found_of m) (codes "CONDITION")
   unfolding clap_on_literals
@@ -552,6 +573,9 @@ module _ (word : Text) (words : List Text) (m : ArgMatches) (a : App) (own : IsO
   names_fields : parameters_of word ≡ parameters.TableAndFields → (ops : List Text) → operands words ≡ Some ops
       → ops ≡ value_of (found_of m) (codes "STORE") ∷ value_of (found_of m) (codes "NAME") ∷ values_of (found_of m) (codes "FIELD")
   names_fields is ops e = create_found word words m a word parsed (subst (λ (b : Parameters). IsAppWith word b a) is own) ops e
+
+  pub asks_own_fields : parameters_of word ≡ parameters.TableAndFields → (ops : List Text) → operands words ≡ Some ops → first_value (found_of m) (codes "like") ≡ None
+  asks_own_fields is ops e = create_default word words m a word parsed (subst (λ (b : Parameters). IsAppWith word b a) is own) ops e
 
   names_conditions : parameters_of word ≡ parameters.TableAndQuery → (ops : List Text) → operands words ≡ Some ops
       → ops ≡ value_of (found_of m) (codes "STORE") ∷ value_of (found_of m) (codes "NAME") ∷ values_of (found_of m) (codes "CONDITION")
@@ -644,6 +668,11 @@ module _ (word : Text) (words : List Text) (m : ArgMatches) (a : App) (own : IsO
             ∙ (λ i. sym found.0 i ∷ sym found.1.0 i ∷ sym found.1.1 i),
         tt,
       ))
+  names_command (requests.Command file (commands.CreateLike name like)) is found =
+      named (requests.Command file (commands.CreateLike name like))
+      (λ ops e.
+      let none = asks_own_fields (of_word (codes "create") parameters.TableAndFields is refl) ops e in
+      absurd (none-some like.now (sym none ∙ sym found.1.1)))
   names_command (requests.Command file (commands.Append name)) is found =
       named (requests.Command file (commands.Append name))
       (λ ops e. (names_rows (of_word (codes "append") parameters.TableAndRows is refl) ops e ∙ (λ i. sym found.0 i ∷ sym found.1.0 i ∷ []), tt))

@@ -14,7 +14,7 @@ use Rattle.clap.specs.Lexer.{usize_max}
 use Rattle.clap.specs.declared.builder.value_parser.ValueParser.TheVariants as parsers
 use Rattle.clap.proofs.OnLiterals.{clap_on_literals}
 use Rattle.clap.specs.declared.builder.value_parser.ValueParser.{ValueParser}
-use Rattle.cli_requests.specs.Apps.{AreForms, AreDateForms, IsOwnApp, info_app, format_app, import_app, query_app, replay_app, append_app, other_parameters, parameters_of}
+use Rattle.cli_requests.specs.Apps.{AreForms, AreDateForms, IsOwnApp, info_app, format_app, import_app, create_app, query_app, replay_app, append_app, other_parameters, parameters_of}
 use Rattle.cli_requests.specs.Examples.{AreExamples, AreFound, AreReadAs, AreValuesRead, IsVersion, Valued, called}
 use Rattle.cli_requests.specs.Numbers.{is_number, is_number_if_any}
 use Rattle.cli_requests.specs.Operands.{names_file, names_table}
@@ -32,6 +32,7 @@ module _ (first : Text → Option Text) (objects : Option Text) where
   format_takable sectors version = record {
     sectors = λ e. sectors;
     version = λ e. version;
+    like = λ e. absurd (true≢false (sym e));
     limit = λ e. absurd (true≢false (sym e));
     printed = λ e. absurd (true≢false (sym e));
     size = λ e. absurd (true≢false (sym e));
@@ -42,11 +43,13 @@ module _ (first : Text → Option Text) (objects : Option Text) where
   }
 
   -- a command of which nothing that is found is refused
-  plain_takable : (word : Text) → makes_word word ≡ false → bytes_eq (codes "format") word ≡ false → bytes_eq (codes "query") word ≡ false
+  plain_takable : (word : Text) → makes_word word ≡ false → bytes_eq (codes "format") word ≡ false
+      → (bytes_eq (codes "create") word ≡ true → (first (codes "like") ≡ None) ⊎ (first (codes "FIELD") ≡ None)) → bytes_eq (codes "query") word ≡ false
       → bytes_eq (codes "replay") word ≡ false → IsTakable word first objects
-  plain_takable word makes format query replay = record {
+  plain_takable word makes format like query replay = record {
     sectors = λ e. absurd (true≢false (sym e ∙ makes));
     version = λ e. absurd (true≢false (sym e ∙ format));
+    like = like;
     limit = λ e. absurd (true≢false (sym e ∙ query));
     printed = λ e. absurd (true≢false (sym e ∙ query));
     size = λ e. absurd (true≢false (sym e ∙ replay));
@@ -58,15 +61,19 @@ module _ (first : Text → Option Text) (objects : Option Text) where
 
   info_takable : IsTakable (codes "info") first objects
   unfolding makes_word
-  info_takable = plain_takable (codes "info") refl refl refl refl
+  info_takable = plain_takable (codes "info") refl refl (λ e. absurd (true≢false (sym e))) refl refl
+
+  create_takable : (first (codes "like") ≡ None) ⊎ (first (codes "FIELD") ≡ None) → IsTakable (codes "create") first objects
+  unfolding makes_word
+  create_takable like = plain_takable (codes "create") refl refl (λ e. like) refl refl
 
   import_takable : IsTakable (codes "import") first objects
   unfolding makes_word
-  import_takable = plain_takable (codes "import") refl refl refl refl
+  import_takable = plain_takable (codes "import") refl refl (λ e. absurd (true≢false (sym e))) refl refl
 
   append_takable : IsTakable (codes "append") first objects
   unfolding makes_word
-  append_takable = plain_takable (codes "append") refl refl refl refl
+  append_takable = plain_takable (codes "append") refl refl (λ e. absurd (true≢false (sym e))) refl refl
 
   query_takable : is_number_if_any (first (codes "limit")) ≡ true → (first (codes "save") ≡ None) ⊎ (objects ≡ Some (codes "false"))
       → IsTakable (codes "query") first objects
@@ -74,6 +81,7 @@ module _ (first : Text → Option Text) (objects : Option Text) where
   query_takable limit printed = record {
     sectors = λ e. absurd (true≢false (sym e));
     version = λ e. absurd (true≢false (sym e));
+    like = λ e. absurd (true≢false (sym e));
     limit = λ e. limit;
     printed = λ e. printed;
     size = λ e. absurd (true≢false (sym e));
@@ -90,6 +98,7 @@ module _ (first : Text → Option Text) (objects : Option Text) where
   replay_takable size fail stop choice played = record {
     sectors = λ e. absurd (true≢false (sym e));
     version = λ e. absurd (true≢false (sym e));
+    like = λ e. absurd (true≢false (sym e));
     limit = λ e. absurd (true≢false (sym e));
     printed = λ e. absurd (true≢false (sym e));
     size = λ e. size;
@@ -134,6 +143,11 @@ info_example : AreReadAs (called (codes "info" ∷ codes "--json" ∷ codes "sto
     ((codes "STORE", codes "store" ∷ []) ∷ (codes "json", codes "true" ∷ []) ∷ [])
 unfolding names_file names_table other_parameters parameters_of first_word makes_word is_number walked clap_on_literals
 info_example = read_as _ _ (info_app (codes "info")) (λ command own. sym own) refl (info_takable _ _) (refl, (refl, tt))
+
+like_example : AreReadAs (called (codes "create" ∷ codes "store" ∷ codes "copy" ∷ codes "--like" ∷ codes "readings" ∷ []))
+    ((codes "STORE", codes "store" ∷ []) ∷ (codes "NAME", codes "copy" ∷ []) ∷ (codes "like", codes "readings" ∷ []) ∷ [])
+unfolding names_file names_table other_parameters parameters_of first_word makes_word is_number walked clap_on_literals
+like_example = read_as _ _ (create_app (codes "create")) (λ command own. sym own) refl (create_takable _ _ (inr refl)) (refl, (refl, (refl, tt)))
 
 import_example : AreReadAs (called (codes "import" ∷ codes "store" ∷ codes "--new" ∷ codes "readings" ∷ []))
     ((codes "STORE", codes "store" ∷ []) ∷ (codes "NAME", codes "readings" ∷ []) ∷ (codes "new", codes "true" ∷ []) ∷ [])
@@ -229,6 +243,11 @@ info_values : (file : Text) → AreReadAs (called (codes "info" ∷ codes "--jso
     ((codes "STORE", file ∷ []) ∷ (codes "json", codes "true" ∷ []) ∷ [])
 unfolding names_file names_table other_parameters parameters_of first_word makes_word is_number walked clap_on_literals
 info_values file = read_as _ _ (info_app (codes "info")) (λ command own. sym own) refl (info_takable _ _) (refl, (refl, tt))
+
+like_values : (table file name : Text) → AreReadAs (called (codes "create" ∷ (codes "--like=" ++ table) ∷ codes "--" ∷ file ∷ name ∷ []))
+    ((codes "STORE", file ∷ []) ∷ (codes "NAME", name ∷ []) ∷ (codes "like", table ∷ []) ∷ [])
+unfolding names_file names_table other_parameters parameters_of first_word makes_word is_number walked clap_on_literals
+like_values table file name = read_as _ _ (create_app (codes "create")) (λ command own. sym own) refl (create_takable _ _ (inr refl)) (refl, (refl, (refl, tt)))
 
 import_values : (file name : Text) → AreReadAs (called (codes "import" ∷ codes "--new" ∷ codes "--" ∷ file ∷ name ∷ []))
     ((codes "STORE", file ∷ []) ∷ (codes "NAME", name ∷ []) ∷ (codes "new", codes "true" ∷ []) ∷ [])
@@ -399,6 +418,7 @@ pub examples : AreExamples
 examples = record {
   format = format_example;
   info = info_example;
+  like = like_example;
   imported = import_example;
   append = append_example;
   printed = printed_example;
@@ -411,6 +431,7 @@ pub values_read : AreValuesRead
 values_read = record {
   format = format_values;
   info = info_values;
+  like = like_values;
   imported = import_values;
   append = append_values;
   objects = objects_values;

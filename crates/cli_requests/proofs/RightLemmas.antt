@@ -42,7 +42,7 @@ use Rattle.cli_requests.proofs.NumberLemmas.{signed_is_none}
 use Rattle.cli_requests.proofs.OperandLemmas.{operands_fault, reads_operands, level_with, words_read, words_faultless}
 use Rattle.cli_requests.proofs.AppLemmas.{Parsed, file_app, file_top, info_top, table_top, import_top, rename_top, format_top, copy_top, append_top, create_top, query_top, file_and_table, field_met, condition_met}
 use Rattle.cli_requests.proofs.AppLemmas.{file_plain, info_plain, table_plain, import_plain, rename_plain, format_plain, copy_plain, append_plain, create_plain, query_plain, found_first, found_one}
-use Rattle.cli_requests.proofs.AppLemmas.{names_sectors, asks_newest, names_new_store, asks_all}
+use Rattle.cli_requests.proofs.AppLemmas.{names_sectors, asks_newest, names_new_store, asks_own_fields, asks_all}
 
 -- ---- numbers
 
@@ -236,6 +236,10 @@ is_copy : (word : Text) → bytes_eq (codes "copy") word ≡ true → parameters
 unfolding names_file names_table other_parameters parameters_of
 is_copy word e = named_as parameters.NewStore (codes "copy") word e refl
 
+is_create : (word : Text) → bytes_eq (codes "create") word ≡ true → parameters_of word ≡ parameters.TableAndFields
+unfolding names_file names_table other_parameters parameters_of
+is_create word e = named_as parameters.TableAndFields (codes "create") word e refl
+
 is_query : (word : Text) → bytes_eq (codes "query") word ≡ true → parameters_of word ≡ parameters.TableAndQuery
 unfolding names_file names_table other_parameters parameters_of
 is_query word e = named_as parameters.TableAndQuery (codes "query") word e refl
@@ -269,6 +273,7 @@ module _ (word : Text) (words : List Text) (m : ArgMatches) (a : App) (own : IsO
   right_takable = record {
     sectors = sectors_right (bytes_eq (codes "format") word) (bytes_eq (codes "copy") word) refl refl;
     version = λ e. no_number _ (asks_newest word words m a own parsed (is_format word e) ops is);
+    like = λ e. inl (asks_own_fields word words m a own parsed (is_create word e) ops is);
     limit = λ e. no_number _ (asks_all word words m a own parsed (is_query word e) ops is).limit;
     printed = λ e. inl (asks_all word words m a own parsed (is_query word e) ops is).save;
     size = λ e. absurd (no_replay word ops right e);
@@ -374,6 +379,7 @@ found_takable word m rows same is =
     record {
       sectors = λ e. subst (λ (o : Option Text). is_number (unwrap_or o []) ≡ true) (first (codes "SECTORS")) (is.sectors e);
       version = λ e. number (codes "format-version") (is.version e);
+      like = λ e. subst₂ (λ (o p : Option Text). (o ≡ None) ⊎ (p ≡ None)) (first (codes "like")) (first (codes "FIELD")) (is.like e);
       limit = λ e. number (codes "limit") (is.limit e);
       printed =
           λ e. subst₂ (λ (o p : Option Text). (o ≡ None) ⊎ (p ≡ Some (codes "false"))) (first (codes "save")) (found_one m rows (codes "objects") same) (is.printed e);

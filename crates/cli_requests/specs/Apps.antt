@@ -1,5 +1,5 @@
 -- The commands as `clap` parses them, and the values that it finds.
-use Rattle.std.specs.Prelude.{◌≡◌, ◌≢◌, Bool, true, false, ◌||◌, List, [], ◌∷◌, codes, Some, option_map, if◌then◌else◌, unwrap_or}
+use Rattle.std.specs.Prelude.{◌≡◌, ◌≢◌, Bool, true, false, ◌||◌, List, [], ◌∷◌, codes, Some, None, option_map, if◌then◌else◌, unwrap_or}
 use Rattle.std.specs.Str.{bytes_eq}
 use Rattle.std.specs.Str.Parse.{digits_value}
 use Rattle.clap.specs.Lexer.{usize_max}
@@ -84,9 +84,12 @@ import_app name = with_rule (table_app name) (flag_rule (codes "new"))
 abbrev pub repeated_rule : Text → Rule
 repeated_rule id = record (new_rule id) { range = Some (record { start_inclusive = 0; end_inclusive = usize_max }) }
 
--- a command that takes the fields of a new table
+-- a command that takes the fields of a new table, or the name of a table that has them
+abbrev pub fields_app : Text → App
+fields_app name = with_rule (table_app name) (repeated_rule (codes "FIELD"))
+
 abbrev pub create_app : Text → App
-create_app name = with_rule (table_app name) (repeated_rule (codes "FIELD"))
+create_app name = with_rule (fields_app name) (option_rule (codes "like"))
 
 -- a command that takes the form of its input, by default a stream, and the text of null
 abbrev pub form_rule : ValueParser → Rule
@@ -221,7 +224,10 @@ HasTextForm found (text_forms.JsonLines date_form) = (value_of found (codes "as"
 abbrev pub HasNames : Found → StoreCommand → Type 0
 HasNames found (commands.Import name) = (name.now ≡ value_of found (codes "NAME")) × HasFlag found (codes "new") false
 HasNames found (commands.ImportNew name) = (name.now ≡ value_of found (codes "NAME")) × HasFlag found (codes "new") true
-HasNames found (commands.Create name fields) = (name.now ≡ value_of found (codes "NAME")) × (texts fields.items ≡ values_of found (codes "FIELD"))
+HasNames found (commands.Create name fields) =
+    (name.now ≡ value_of found (codes "NAME")) × (texts fields.items ≡ values_of found (codes "FIELD")) × (first_value found (codes "like") ≡ None)
+HasNames found (commands.CreateLike name like) =
+    (name.now ≡ value_of found (codes "NAME")) × (Some like.now ≡ first_value found (codes "like")) × (first_value found (codes "FIELD") ≡ None)
 HasNames found (commands.Append name) = (name.now ≡ value_of found (codes "NAME")) × (bytes_eq (value_of found (codes "as")) (codes "stream") ≡ true)
 HasNames found (commands.AppendText name form) =
     (name.now ≡ value_of found (codes "NAME")) × (bytes_eq (value_of found (codes "as")) (codes "stream") ≡ false) × HasTextForm found form

@@ -7,9 +7,11 @@ use Rattle.cli_requests.specs.declared.store_words.StoreRequest.{StoreRequest}
 use Rattle.cli_requests.specs.declared.store_words.StoreRequest.TheVariants as requests
 use Rattle.cli_requests.specs.StoreWords.{reads_word}
 
--- `import` replaces a table or refuses its name, `append` takes the rows of a stream or of a text, and `query` prints or saves
+-- `create` has the fields of a table or names one that has them, `import` replaces a table or refuses its name, `append` takes the rows of a stream or of a
+-- text, and `query` prints or saves
 abbrev pub command_word : StoreCommand → Text
 command_word (commands.Create name fields) = codes "create"
+command_word (commands.CreateLike name like) = codes "create"
 command_word (commands.Import name) = codes "import"
 command_word (commands.ImportNew name) = codes "import"
 command_word (commands.Append name) = codes "append"

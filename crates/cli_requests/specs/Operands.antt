@@ -47,6 +47,7 @@ version_named (Some word) = if digits_value 10 word == 1 then One else Two
 -- the names, fields and conditions that a command has after its file
 abbrev pub names_in : StoreCommand → List Text
 names_in (commands.Create name fields) = name.now ∷ texts fields.items
+names_in (commands.CreateLike name like) = name.now ∷ []
 names_in (commands.Import name) = name.now ∷ []
 names_in (commands.ImportNew name) = name.now ∷ []
 names_in (commands.Append name) = name.now ∷ []
@@ -63,9 +64,10 @@ names_in (commands.Info as_json) = []
 names_in commands.Compact = []
 names_in commands.Upgrade = []
 
--- a command without options: an import may replace a table, rows are appended from a stream, all columns of all rows are printed as arrays with dates
--- as numbers, and the summary as lines
+-- a command without options: the fields of a table are given, an import may replace a table, rows are appended from a stream, all columns of all rows
+-- are printed as arrays with dates as numbers, and the summary as lines
 abbrev pub IsWithoutOptions : StoreCommand → Type 0
+IsWithoutOptions (commands.CreateLike name like) = ⊥
 IsWithoutOptions (commands.ImportNew name) = ⊥
 IsWithoutOptions (commands.AppendText name form) = ⊥
 IsWithoutOptions (commands.Query name query shape) = (query.columns ≡ None) × (query.limit ≡ None) × (query.dates ≡ Numbers) × (shape ≡ Array)

@@ -49,10 +49,12 @@ IsLost word = (word ≡ codes "lost") ⊎ ((number : Text) × (word ≡ codes "l
 abbrev pub NamesChoice : Text → Type 0
 NamesChoice word = (word ≡ codes "old") ⊎ ((word ≡ codes "new") ⊎ ((is_number word ≡ true) ⊎ IsLost word))
 
--- what is found for a command can be asked for: numbers have digits alone, saved rows are not asked for as objects, and the choice is valid
+-- what is found for a command can be asked for: numbers have digits alone, fields are not given beside a table that has them, saved rows are not asked
+-- for as objects, and the choice is valid
 pub record IsTakable (word : Text) (first : Text → Option Text) (objects : Option Text) : Type 0 where
   pub sectors : makes_word word ≡ true → is_number (unwrap_or (first (codes "SECTORS")) []) ≡ true
   pub version : bytes_eq (codes "format") word ≡ true → is_number_if_any (first (codes "format-version")) ≡ true
+  pub like : bytes_eq (codes "create") word ≡ true → (first (codes "like") ≡ None) ⊎ (first (codes "FIELD") ≡ None)
   pub limit : bytes_eq (codes "query") word ≡ true → is_number_if_any (first (codes "limit")) ≡ true
   pub printed : bytes_eq (codes "query") word ≡ true → (first (codes "save") ≡ None) ⊎ (objects ≡ Some (codes "false"))
   pub size : bytes_eq (codes "replay") word ≡ true → is_number_if_any (first (codes "sectors")) ≡ true

@@ -32,7 +32,7 @@ struct<FIELD,..> or dict<INDEX,TYPE>, for example dict<int8,utf8>. A timestamp m
 have a timezone, as in timestamp_ms(UTC). An ITEM is a TYPE, followed by ? if nulls
 are allowed, as in 'tags:list<utf8?>'. A column of the type null needs the ?, as in
 n:null?, to accept rows. There are no floats, decimals and times. Without a FIELD the
-table has no columns.",
+table has no columns. With --like it has those of another table, and its metadata.",
     },
     CommandHelp {
         name: "import",

@@ -3,7 +3,7 @@ ghost use Rattle.std.specs.Prelude.{◌≡◌, false, codes, IfOk};
 ghost use Rattle.clap.specs.Words.{app_of, new_app, rule_of, with_rule};
 ghost use Rattle.clap.specs.declared.builder.value_parser.ValueParser.{ValueParser};
 ghost use Rattle.cli_requests.specs.Apps.{required_rule, flag_rule, sectors_rule, version_rule, repeated_rule, option_rule, form_rule, null_rule, dates_rule, query_dates_rule, limit_rule};
-ghost use Rattle.cli_requests.specs.Apps.{store_app, info_app, format_app, new_file_app, copy_app, table_app, import_app, rename_app, create_app, append_app, conditions_app, query_app};
+ghost use Rattle.cli_requests.specs.Apps.{store_app, info_app, format_app, new_file_app, copy_app, table_app, import_app, rename_app, fields_app, create_app, append_app, conditions_app, query_app};
 ghost use Rattle.cli_requests.specs.Apps.{AreForms, AreDateForms, other_parameters, parameters_of, IsOwnApp};
 ghost use Rattle.cli_requests.specs.Operands.{names_file, names_table};
 
@@ -271,12 +271,24 @@ fn with_new_store<'a>(alloc: Global, name: &'a str) -> Result<Command<'a>, Alloc
 }
 
 fn with_fields<'a>(alloc: Global, name: &'a str) -> Result<Command<'a>, AllocError>
-    ensures { IfOk result (λ c. app_of c ≡ create_app name.now) }
+    ensures { IfOk result (λ c. app_of c ≡ fields_app name.now) }
 {
     with_table(alloc, name)?.arg(repeated(
         alloc,
         "FIELD",
         "The fields, each as NAME:TYPE, followed by ? if nulls are allowed",
+    ))
+}
+
+// Makes a command that takes fields, or a table that has them.
+pub(crate) fn with_new_table<'a>(alloc: Global, name: &'a str) -> Result<Command<'a>, AllocError>
+    ensures { IfOk result (λ c. app_of c ≡ create_app name.now) }
+{
+    with_fields(alloc, name)?.arg(option(
+        alloc,
+        "like",
+        "TABLE",
+        "Takes the fields of this table of the store, with its metadata, instead of a FIELD",
     ))
 }
 
@@ -341,7 +353,7 @@ fn command<'a>(alloc: Global, name: &'a str) -> Result<Command<'a>, AllocError>
         Parameters::TableAndNewName => with_new_name(alloc, name),
         Parameters::Sectors => with_sectors(alloc, name),
         Parameters::NewStore => with_new_store(alloc, name),
-        Parameters::TableAndFields => with_fields(alloc, name),
+        Parameters::TableAndFields => with_new_table(alloc, name),
         Parameters::TableAndRows => with_rows(alloc, name),
         Parameters::TableAndQuery => with_query(alloc, name),
         Parameters::ScriptAndFaults => with_faults(alloc, name),

@@ -17,6 +17,7 @@ fn name_of<'a>(command: &StoreCommand<'a>) -> Option<&'a str> {
         | StoreCommand::Schema { name }
         | StoreCommand::Export { name } => Some(name),
         StoreCommand::SaveAs { from, .. } | StoreCommand::Rename { from, .. } => Some(from),
+        StoreCommand::CreateLike { like, .. } => Some(like),
         _ => None,
     }
 }
@@ -25,6 +26,7 @@ fn name_of<'a>(command: &StoreCommand<'a>) -> Option<&'a str> {
 fn new_name_of<'a>(command: &StoreCommand<'a>) -> Option<&'a str> {
     match command {
         StoreCommand::Create { name, .. }
+        | StoreCommand::CreateLike { name, .. }
         | StoreCommand::Import { name }
         | StoreCommand::ImportNew { name } => Some(name),
         StoreCommand::SaveAs { to, .. } | StoreCommand::Rename { to, .. } => Some(to),

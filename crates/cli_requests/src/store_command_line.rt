@@ -9,7 +9,7 @@ ghost use Rattle.cli_requests.specs.Operands.{Names};
 ghost use Rattle.cli_requests.specs.Right.{AreRightWords, IsFoundTakable, IsReadFrom};
 ghost use Rattle.cli_requests.specs.StoreWords.{is_store_word, has_own_request, is_of_store, first_word};
 
-use crate::command_parameters::{cli_commands, own_command, with_query};
+use crate::command_parameters::{cli_commands, own_command, with_new_table, with_query};
 use crate::found_values::{limit_of, sectors_of, version_in, word, words_of};
 use crate::replaying::replay_request;
 use crate::store_words::is_help_word;
@@ -311,19 +311,34 @@ fn query_command<'a>(
     }
 }
 
+fn fields_beside_a_table(alloc: Global) -> Result<Mistake, AllocError> {
+    let mut command = with_new_table(alloc, "create")?.bin_name("arrowstore create")?;
+    let error = command.error(
+        ErrorKind::ArgumentConflict,
+        "the argument '--like <TABLE>' cannot be used with '[FIELD]...'",
+    )?;
+    Ok(Mistake::Words(error))
+}
+
+// The fields of a table are given, or a table that has them.
 fn create_command<'a>(
     alloc: Global,
     name: &'a str,
     words: &ArgMatches<'a>,
-) -> Result<StoreCommand<'a>, AllocError>
+) -> Result<StoreCommand<'a>, Mistake>
     requires { name.now ≡ value_of (found_of words.now) (codes "NAME") }
     ensures word { IfOk result (λ command. command_word command ≡ codes "create") }
     ensures named { IfOk result (HasNames (found_of words.now)) }
+    ensures taken { IsFoundTakable (codes "create") (found_of words.now) → IfErr result IsOfMemory }
 {
-    Ok(StoreCommand::Create {
-        name,
-        fields: words_of(alloc, words, "FIELD")?,
-    })
+    match (words.get_str("like"), words.get_str("FIELD")) {
+        (None, _) => Ok(StoreCommand::Create {
+            name,
+            fields: words_of(alloc, words, "FIELD")?,
+        }),
+        (Some(like), None) => Ok(StoreCommand::CreateLike { name, like }),
+        (Some(_), Some(_)) => Err(fields_beside_a_table(alloc)?),
+    }
 }
 
 fn command_of<'a>(
@@ -337,7 +352,7 @@ fn command_of<'a>(
 {
     let name = word(words, "NAME");
     match command {
-        "create" => Ok(create_command(alloc, name, words)?),
+        "create" => create_command(alloc, name, words),
         "import" => Ok(import_command(name, words)),
         "append" => Ok(append_command(name, words)),
         "query" => query_command(alloc, name, words),

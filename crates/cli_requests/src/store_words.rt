@@ -56,6 +56,11 @@ pub enum StoreCommand<'a> {
         name: &'a str,
         fields: Vec<&'a str>,
     },
+    /// Makes an empty table with the schema of another one.
+    CreateLike {
+        name: &'a str,
+        like: &'a str,
+    },
     /// Makes the table of a stream, in place of one of this name.
     Import {
         name: &'a str,

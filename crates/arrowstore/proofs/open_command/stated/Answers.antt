@@ -9,6 +9,10 @@ pub returns-in_ok-create-in-Create-clause-reads : goal.returns-in_ok-create-in-C
 unfolding takes_input_word
 returns-in_ok-create-in-Create-clause-reads c = rw c.in-Create.is refl
 
+pub returns-in-CreateLike-clause-reads : goal.returns-in-CreateLike-clause-reads
+unfolding takes_input_word
+returns-in-CreateLike-clause-reads c = rw c.in-CreateLike.is refl
+
 pub returns-in-Import-clause-reads : goal.returns-in-Import-clause-reads
 unfolding takes_input_word
 returns-in-Import-clause-reads c = rw c.in-Import.is refl
@@ -70,6 +74,10 @@ unfolding takes_input_word
 returns-in-Compact-clause-reads c = rw c.in-Compact.is refl
 
 -- what those state that own nothing
+
+pub returns-in-CreateLike-clause-stated : goal.returns-in-CreateLike-clause-stated
+unfolding States
+returns-in-CreateLike-clause-stated c = rw c.in-CreateLike.is (refl, refl)
 
 pub returns-in-Import-clause-stated : goal.returns-in-Import-clause-stated
 unfolding States

@@ -4,6 +4,14 @@ use Rattle.arrowstore.specs.Serving.{channels, Serves}
 use Rattle.arrowstore.proofs.ServingLemmas.{serves_import, serves_new, serves_append, serves_text, serves_as}
 use Rattle.arrowstore.proofs.serving_open.serve_open.Goals as goal
 
+pub returns-in-CreateLike-clause-serves : goal.returns-in-CreateLike-clause-serves
+unfolding Serves
+returns-in-CreateLike-clause-serves g c =
+    let e = c.create_like.ensures in
+    let new = c.create_like.new in
+    serves_as g.R.Read.remaining g.W.Write.contents c.args.command (opened.CreateLike c.in-CreateLike.name c.in-CreateLike.like) c.args.store.now new.store (channels c.args.input.now c.args.output.now c.args.hint.now)
+    (channels c.args.input.now new.output c.args.hint.now) c.create_like.result c.in-CreateLike.is (record { goes = e.goes; told = e.told; written = e.written; unhinted = refl })
+
 pub returns-in-Import-clause-serves : goal.returns-in-Import-clause-serves
 returns-in-Import-clause-serves g c =
     let e = c.import_input.ensures in

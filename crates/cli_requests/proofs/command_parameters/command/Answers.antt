@@ -23,7 +23,7 @@ pub returns-in-NewStore : goal.returns-in-NewStore
 returns-in-NewStore c = own_of _ _ _ _ c.parameters_of.ensures c.in-NewStore.is c.with_new_store.ensures
 
 pub returns-in-TableAndFields : goal.returns-in-TableAndFields
-returns-in-TableAndFields c = own_of _ _ _ _ c.parameters_of.ensures c.in-TableAndFields.is c.with_fields.ensures
+returns-in-TableAndFields c = own_of _ _ _ _ c.parameters_of.ensures c.in-TableAndFields.is c.with_new_table.ensures
 
 pub returns-in-TableAndRows : goal.returns-in-TableAndRows
 returns-in-TableAndRows c = own_of _ _ _ _ c.parameters_of.ensures c.in-TableAndRows.is c.with_rows.ensures
