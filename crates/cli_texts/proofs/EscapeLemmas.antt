@@ -7,11 +7,11 @@ use Rattle.cli_texts.specs.Escaped.{are_clean, are_control, control_length, esca
 
 -- ---- a byte that begins no control character stays
 
-one_plain : (b : Bool) (xs ys : List ℕ) → (if b then 1 else 0) ≡ 0 → (if b then xs else ys) ≡ ys
+one_plain : (b : Bool) (xs ys : List ℕ) → ◌≡◌ {A = ℕ} (if b then 1 else 0) 0 → (if b then xs else ys) ≡ ys
 one_plain true xs ys e = absurd cc
 one_plain false xs ys e = refl
 
-two_plain : (b c : Bool) (xs ys zs : List ℕ) → (if b then 1 else (if c then 2 else 0)) ≡ 0 → (if b then xs else (if c then ys else zs)) ≡ zs
+two_plain : (b c : Bool) (xs ys zs : List ℕ) → ◌≡◌ {A = ℕ} (if b then 1 else (if c then 2 else 0)) 0 → (if b then xs else (if c then ys else zs)) ≡ zs
 two_plain true c xs ys zs e = absurd cc
 two_plain false true xs ys zs e = absurd cc
 two_plain false false xs ys zs e = refl
@@ -77,9 +77,10 @@ clean_escape : (n : ℕ) (xs : List ℕ) → n < 160 → are_clean xs ≡ true �
 clean_escape n xs small c =
     let high : hex_digit (n / 16) < 127 = small_digit (n / 16) (omega (arith, small)) in
     let low : hex_digit (n % 16) < 127 = small_digit (n % 16) (omega arith) in
-    let last = clean_cons (hex_digit (n % 16)) xs (no_delete _ low) (apart_small _ xs low) c in
-    let both = clean_cons (hex_digit (n / 16)) (hex_digit (n % 16) ∷ xs) (no_delete _ high) (no_lead _ _ high) last in
-    clean_cons 92 _ refl refl (clean_cons 117 _ refl refl (clean_cons 48 _ refl refl (clean_cons 48 _ refl (no_lead 48 _ (omega arith)) both)))
+    let last = clean_cons (hex_digit (n % 16)) xs (no_delete (hex_digit (n % 16)) low) (apart_small (hex_digit (n % 16)) xs low) c in
+    let fourth : 48 < 127 = omega arith in
+    let both = clean_cons (hex_digit (n / 16)) (hex_digit (n % 16) ∷ xs) (no_delete (hex_digit (n / 16)) high) (no_lead (hex_digit (n / 16)) (hex_digit (n % 16)) high) last in
+    clean_cons 92 _ refl refl (clean_cons 117 _ refl refl (clean_cons 48 _ refl refl (clean_cons 48 _ refl (no_lead 48 (hex_digit (n / 16)) fourth) both)))
 
 clean_empty : are_clean [] ≡ true
 unfolding are_clean

@@ -66,7 +66,7 @@ fn hex_digit(number: u8) -> u8
 }
 
 fn escape_of(number: u8) -> [u8; 6]
-    ensures { result.items ≡ escape number }
+    ensures { result ≡ escape number }
 {
     [
         b'\\',
