@@ -39,12 +39,15 @@ States (words.Drop name) (opened.Change c) = command_of c ≡ plain.drop_table n
 States (words.CreateLike name like) (opened.CreateLike n l) = (n.now ≡ name.now) × (l.now ≡ like.now)
 States (words.Import name) (opened.Import n) = n.now ≡ name.now
 States (words.ImportNew name) (opened.ImportNew n) = n.now ≡ name.now
+States (words.ImportComplete name is_new) (opened.ImportComplete n new) = (n.now ≡ name.now) × (new ≡ is_new)
 States (words.Append name) (opened.Append n) = n.now ≡ name.now
+States (words.AppendComplete name) (opened.AppendComplete n) = n.now ≡ name.now
 States (words.AppendText name form) (opened.AppendText n f) = (n.now ≡ name.now) × (f ≡ form)
 States (words.Query name query shape) (opened.Select n q f) =
     (n.now ≡ name.now) × (query_stated query ≡ Some (query_in q)) × (f.shape ≡ shape) × (f.dates ≡ query.dates)
 States words.Tables opened.Tables = Unit {0}
 States (words.Schema name) (opened.Schema n) = n.now ≡ name.now
+States (words.SchemaFields name) (opened.SchemaFields n) = n.now ≡ name.now
 States (words.Export name) (opened.Export n) = n.now ≡ name.now
 States words.Check opened.Check = Unit {0}
 States (words.Info as_json) (opened.Info j) = j ≡ as_json
@@ -65,6 +68,8 @@ RefusesStating _ refusal = ⊥
 abbrev pub reads_input : OpenCommand → Bool
 reads_input (opened.Import name) = true
 reads_input (opened.ImportNew name) = true
+reads_input (opened.ImportComplete name is_new) = true
 reads_input (opened.Append name) = true
+reads_input (opened.AppendComplete name) = true
 reads_input (opened.AppendText name form) = true
 reads_input _ = false

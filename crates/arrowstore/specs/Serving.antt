@@ -32,14 +32,16 @@ use Rattle.cli_refusals.specs.declared.hint.Hinted.{Hinted}
 use Rattle.cli_refusals.specs.declared.refusal.Refusal.{Refusal}
 use Rattle.cli_refusals.specs.declared.refusal.Refusal.TheVariants.{Io}
 use Rattle.cli_refusals.specs.declared.refusal.Side.TheVariants.{Output}
-use Rattle.cli_commands.specs.Changing.{Answered, AnswersCommand, AnswersInput, HandsSchema, RefusesHanding, RefusesTaken, is_listed}
+use Rattle.cli_commands.specs.Changing.{Answered, AnswersCommand, AnswersInput, HandsSchema, RefusesHanding, RefusesTaken, StateSchema, is_listed}
 use Rattle.cli_commands.specs.Compacting.{Compacts}
+use Rattle.cli_commands.specs.Complete.{HandsWhole, RefusesStream, is_taken}
 use Rattle.cli_commands.specs.Upgrading.{AnsweredUpgrade, AnswersUpgrade}
 use Rattle.cli_commands.specs.Printed.{tables_text, schema_text, summary_text, RefusesPrinting, RefusesSummary}
 use Rattle.cli_commands.specs.Reading.{OfStore, store_ended, IsReadable, RefusesCheck, IfChecked}
 use Rattle.cli_commands.specs.Selecting.{QueryAnswers, RefusesQuery}
 use Rattle.query.specs.Printed.{rows_text}
 use Rattle.cli_commands.specs.TextRows.{HandsRows, RefusesText, IfOfText, IfHinted}
+use Rattle.cli_commands.specs.Typing.{HaveLines, RefusesTyping, lines_of, typed_texts}
 use Rattle.arrowstore.specs.declared.open_command.OpenCommand.{OpenCommand}
 use Rattle.arrowstore.specs.declared.open_command.OpenCommand.TheVariants as opened
 
@@ -102,6 +104,20 @@ pub record CarriesNew {D : Type 0} {g : Ghosts D} {R W : Type 0} (remaining : R 
   pub silent : IfErr result (λ refusal. refusal ≢ Io Output → after.output ≡ before.output)
   pub unhinted : after.hint ≡ before.hint
 
+-- the command that is made of a whole input, which must have its end, is carried out so too, unless a table has the name of the new one
+-- (`import_complete`, `append_complete`)
+pub record CarriesWhole {D : Type 0} {g : Ghosts D} {R W : Type 0} (remaining : R → Option (List ℕ)) (contents : W → Option (List ℕ))
+    (command : List ℕ → PlainCommand) (taken : Bool) (old new : Store D g) (before after : Channels R W) (result : Result (Unit {0}) Refusal) : Type 0 where
+  pub refused : taken ≡ true → IsErrAnd result RefusesTaken × (after.input ≡ before.input) × (new ≡ old)
+  pub goes : taken ≡ false → g.tells ≡ true → (base : Tables) (m : Machine) → StoreFits g.size g.story base m old
+      → HandsWhole (remaining before.input)
+      (λ bytes answer. GoesOn g.size g.story g.failed base m (apply_call (command bytes)) (ended answer) old new) (λ refusal. new ≡ old) result
+  pub told : taken ≡ false → HandsWhole (remaining before.input)
+      (λ bytes answer. AnswersCommand g.size g.story g.failed g.tells (command bytes) answer old new)
+      (λ refusal. RefusesStream (remaining before.input) (remaining after.input) refusal × (new ≡ old) × (after.output ≡ before.output)) result
+  pub written : OnOk result (Appends (contents before.output) (contents after.output) (codes "ok\n"))
+  pub unhinted : after.hint ≡ before.hint
+
 -- the rows that a whole input has as a text are appended so too (`append_text`)
 pub record CarriesText {D : Type 0} {g : Ghosts D} {R W : Type 0} (contents : W → Option (List ℕ)) (input : Option (List ℕ)) (form : TextForm)
     (name : List ℕ) (refuses : Refusal → Type 0) (old new : Store D g) (before after : Channels R W)
@@ -157,6 +173,10 @@ Serves remaining contents (opened.CreateLike name like) old new before after res
 Serves remaining contents (opened.Import name) old new before after result =
     CarriesInput remaining contents (import_stream name.now) (is_name name.now) BadName old new before after result
 Serves remaining contents (opened.ImportNew name) old new before after result = CarriesNew remaining contents name.now old new before after result
+Serves remaining contents (opened.ImportComplete name is_new) old new before after result =
+    CarriesWhole remaining contents (import_stream name.now) (is_taken is_new (is_halted old) (listed_in old) name.now) old new before after result
+Serves remaining contents (opened.AppendComplete name) old new before after result =
+    CarriesWhole remaining contents (append_stream name.now) false old new before after result
 Serves remaining contents (opened.Append name) old new before after result =
     CarriesInput remaining contents (append_stream name.now) (has_entry (listed_in old) name.now) NoTable old new before after result
 Serves remaining contents (opened.AppendText name form) old new before after result =
@@ -176,6 +196,10 @@ Serves remaining contents (opened.Schema name) old new before after result =
     × Appends (contents before.output) (contents after.output) (schema_text e.schema.columns))
     (RefusesPrinting (RefusesSchema (is_halted old) (entry_of (listed_in old) name.now)) ((is_halted old ≡ false) × IsSome (entry_of (listed_in old) name.now)))
     (new ≡ old) before after result
+Serves remaining contents (opened.SchemaFields name) old new before after result =
+    Prints ((e : PlainEntry) × (entry_of (listed_in old) name.now ≡ Some e) × StateSchema (typed_texts e.schema.columns) e.schema × HaveLines e.schema.columns
+    × Appends (contents before.output) (contents after.output) (lines_of (typed_texts e.schema.columns)))
+    (RefusesTyping (is_halted old) (entry_of (listed_in old) name.now)) (new ≡ old) before after result
 Serves {g = g} remaining contents (opened.Export name) old new before after result =
     Prints ((t : PlainTable) × Shows old name.now t × Appends (contents before.output) (contents after.output) (canonical t))
     (OfStore (RefusesRead (is_halted old) g.tells (image_of old) (entry_of (listed_in old) name.now)) ((t : PlainTable) × Shows old name.now t))

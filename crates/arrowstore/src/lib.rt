@@ -42,7 +42,8 @@ mod with_files;
 mod writing_streams;
 
 pub use cli_texts::{
-    Audience, Ended, Output, WatchedOutput, report_stream_to_terminal, report_unreadable_arguments,
+    Audience, Ended, Output, ShownOutput, WatchedOutput, report_stream_to_terminal,
+    report_unreadable_arguments,
 };
 pub use kept_start::{Input, KeptStart, MOST_KEPT};
 pub use noted::{Failures, NotedFile};

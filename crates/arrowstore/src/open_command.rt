@@ -34,6 +34,15 @@ pub enum OpenCommand<'a> {
     ImportNew {
         name: &'a str,
     },
+    /// Makes the table of the stream that the whole input is, which must have its end, in place of one of this name, or only if there is none.
+    ImportComplete {
+        name: &'a str,
+        is_new: bool,
+    },
+    /// Appends the rows of the stream that the whole input is, which must have its end, to the table.
+    AppendComplete {
+        name: &'a str,
+    },
     /// Appends the rows of the stream that the whole input is to the table.
     Append {
         name: &'a str,
@@ -53,6 +62,10 @@ pub enum OpenCommand<'a> {
     Tables,
     /// Prints the fields of a table.
     Schema {
+        name: &'a str,
+    },
+    /// Prints the texts by which the fields of a table are typed in.
+    SchemaFields {
         name: &'a str,
     },
     /// Writes the stream of a table.
@@ -120,7 +133,12 @@ pub fn stated<'a>(alloc: Global, command: &StoreCommand<'a>) -> Result<OpenComma
         StoreCommand::CreateLike { name, like } => Ok(OpenCommand::CreateLike { name, like }),
         StoreCommand::Import { name } => Ok(OpenCommand::Import { name }),
         StoreCommand::ImportNew { name } => Ok(OpenCommand::ImportNew { name }),
+        StoreCommand::ImportComplete { name, is_new } => Ok(OpenCommand::ImportComplete {
+            name,
+            is_new: *is_new,
+        }),
         StoreCommand::Append { name } => Ok(OpenCommand::Append { name }),
+        StoreCommand::AppendComplete { name } => Ok(OpenCommand::AppendComplete { name }),
         StoreCommand::AppendText { name, form } => Ok(OpenCommand::AppendText {
             name,
             form: *form,
@@ -146,6 +164,7 @@ pub fn stated<'a>(alloc: Global, command: &StoreCommand<'a>) -> Result<OpenComma
         StoreCommand::Drop { name } => Ok(OpenCommand::Change(drop_table(alloc, name)?)),
         StoreCommand::Tables => Ok(OpenCommand::Tables),
         StoreCommand::Schema { name } => Ok(OpenCommand::Schema { name }),
+        StoreCommand::SchemaFields { name } => Ok(OpenCommand::SchemaFields { name }),
         StoreCommand::Export { name } => Ok(OpenCommand::Export { name }),
         StoreCommand::Check => Ok(OpenCommand::Check),
         StoreCommand::Info { as_json } => Ok(OpenCommand::Info { as_json: *as_json }),

@@ -5,9 +5,9 @@ ghost use Rattle.arrowstore.specs.Serving.{channels, Serves};
 
 use crate::OpenCommand;
 use cli_commands::{
-    append_input, append_text, apply_command, check_tables, compact_tables, create_like,
-    export_table, import_input, import_new, print_schema, print_selection, print_summary,
-    print_tables, upgrade_store,
+    append_complete, append_input, append_text, apply_command, check_tables, compact_tables,
+    create_like, export_table, import_complete, import_input, import_new, print_fields,
+    print_schema, print_selection, print_summary, print_tables, upgrade_store,
 };
 use cli_refusals::{Hinted, Refusal, Side};
 use sector_dev::SectorDevice;
@@ -41,6 +41,10 @@ pub fn serve_open<D: SectorDevice, R: Read, W: Write>(
         OpenCommand::CreateLike { name, like } => create_like(alloc, store, name, like, output),
         OpenCommand::Import { name } => import_input(alloc, store, name, input, output),
         OpenCommand::ImportNew { name } => import_new(alloc, store, name, input, output),
+        OpenCommand::ImportComplete { name, is_new } => {
+            import_complete(alloc, store, name, is_new, input, output)
+        }
+        OpenCommand::AppendComplete { name } => append_complete(alloc, store, name, input, output),
         OpenCommand::Append { name } => append_input(alloc, store, name, input, output),
         OpenCommand::AppendText { name, form } => {
             append_text(alloc, store, name, &form, input, output, hint)
@@ -50,6 +54,7 @@ pub fn serve_open<D: SectorDevice, R: Read, W: Write>(
         }
         OpenCommand::Tables => print_tables(alloc, store, output),
         OpenCommand::Schema { name } => print_schema(alloc, store, name, output),
+        OpenCommand::SchemaFields { name } => print_fields(alloc, store, name, output),
         OpenCommand::Export { name } => export_table(alloc, store, name, output),
         OpenCommand::Check => check_tables(alloc, store, output, hint),
         OpenCommand::Info { as_json } => print_summary(alloc, store, as_json, output),

@@ -9,3 +9,5 @@ mod OutputLemmas
 mod RefusedInputs
 mod ConditionLemmas
 mod SelectingLemmas
+mod TypingLemmas
+mod EndLemmas

@@ -8,6 +8,7 @@ use Rattle.cli_refusals.specs.declared.refusal.Refusal.TheVariants.{TooManyBytes
 use Rattle.cli_refusals.specs.declared.refusal.Side.TheVariants.{Input}
 use Rattle.cli_commands.specs.declared.input.TheConstants.{LARGEST_INPUT}
 use Rattle.store.specs.Input.{HasGiven, HasGivenAtMost}
+use Rattle.cli_commands.specs.Complete.{RefusesStream}
 use Rattle.cli_commands.specs.Given.{UnlessTooManyBytes, IsOfInput}
 use Rattle.cli_commands.specs.Recode.{IsTrueFault}
 use Rattle.cli_commands.specs.TextRows.{RefusesText}
@@ -27,3 +28,12 @@ true_of_input TooManyBytes input of = tt
 true_of_input (Io Input) input of = tt
 true_of_input OutOfMemory input of = tt
 true_of_input _ input of = absurd of
+
+-- nor is a stream that must have its end
+pub refuses_stream : (A : Type 0) (old new : Option (List ℕ)) (e : Refusal) → IsOfInput e
+    → (IsErrOf {T = A} (Err e) TooManyBytes → HasGiven old new (LARGEST_INPUT + 1)) → UnlessTooManyBytes {A = A} (Err e) (HasGivenAtMost old new LARGEST_INPUT)
+    → RefusesStream old new e
+refuses_stream A old new TooManyBytes of many few = many refl
+refuses_stream A old new (Io Input) of many few = few
+refuses_stream A old new OutOfMemory of many few = few
+refuses_stream A old new _ of many few = absurd of

@@ -3,18 +3,20 @@ use Rattle.std.specs.Prelude.{ℕ, List, ◌≡◌, ◌+◌, ◌≤◌, length, 
 use Rattle.store.specs.Input.{HasGiven, HasGivenAtMost}
 use Rattle.cli_commands.specs.declared.input.TheConstants.{LARGEST_INPUT}
 use Rattle.cli_refusals.specs.declared.refusal.Refusal.{Refusal}
-use Rattle.cli_refusals.specs.declared.refusal.Refusal.TheVariants.{Fault, TooManyBytes, Io, BadSize, BadScript, Fields, Text, Query, Opening, Store, OutOfMemory}
+use Rattle.cli_refusals.specs.declared.refusal.Refusal.TheVariants.{Fault, NoEnd, TooManyBytes, Io, BadSize, BadScript, Fields, NoText, Text, Query, Opening, Store, OutOfMemory}
 use Rattle.cli_refusals.specs.declared.refusal.Side.TheVariants.{Input}
 
 -- P holds, unless the answer is the refusal of too many bytes
 abbrev pub UnlessTooManyBytes : {A : Type 0} → Result A Refusal → Type 0 → Type 0
 UnlessTooManyBytes (Ok x) P = P
 UnlessTooManyBytes (Err (Fault fault)) P = P
+UnlessTooManyBytes (Err NoEnd) P = P
 UnlessTooManyBytes (Err TooManyBytes) P = Unit {0}
 UnlessTooManyBytes (Err (Io side)) P = P
 UnlessTooManyBytes (Err BadSize) P = P
 UnlessTooManyBytes (Err (BadScript line)) P = P
 UnlessTooManyBytes (Err (Fields error)) P = P
+UnlessTooManyBytes (Err (NoText number)) P = P
 UnlessTooManyBytes (Err (Text refused)) P = P
 UnlessTooManyBytes (Err (Query refusal)) P = P
 UnlessTooManyBytes (Err (Opening refusal)) P = P

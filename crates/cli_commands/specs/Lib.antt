@@ -10,3 +10,5 @@ pub mod TextRows
 pub mod Selecting
 pub mod Reading
 pub mod Salvaging
+pub mod Typing
+pub mod Complete

@@ -6,18 +6,20 @@ use Rattle.ipc_message.specs.Header.{supported_codes}
 use Rattle.ipc_stream.specs.Meaning.{meaning}
 use Rattle.ipc_canonical.specs.Canonical.{canonical}
 use Rattle.cli_refusals.specs.declared.refusal.Refusal.{Refusal}
-use Rattle.cli_refusals.specs.declared.refusal.Refusal.TheVariants.{Fault, TooManyBytes, Io, BadSize, BadScript, Fields, Text, Query, Opening, Store, OutOfMemory}
+use Rattle.cli_refusals.specs.declared.refusal.Refusal.TheVariants.{Fault, NoEnd, TooManyBytes, Io, BadSize, BadScript, Fields, NoText, Text, Query, Opening, Store, OutOfMemory}
 use Rattle.cli_refusals.specs.declared.refusal.Side.TheVariants.{Input, Output}
 
 -- the answer is about the whole input: it has a meaning, or a fault
 abbrev pub IsVerdict : {A : Type 0} → Result A Refusal → Type 0
 IsVerdict (Ok x) = Unit {0}
 IsVerdict (Err (Fault fault)) = Unit {0}
+IsVerdict (Err NoEnd) = ⊥
 IsVerdict (Err TooManyBytes) = ⊥
 IsVerdict (Err (Io side)) = ⊥
 IsVerdict (Err BadSize) = ⊥
 IsVerdict (Err (BadScript line)) = ⊥
 IsVerdict (Err (Fields error)) = ⊥
+IsVerdict (Err (NoText number)) = ⊥
 IsVerdict (Err (Text refused)) = ⊥
 IsVerdict (Err (Query refusal)) = ⊥
 IsVerdict (Err (Opening refusal)) = ⊥

@@ -106,7 +106,7 @@ pub fn import_input<D: SectorDevice, R: Read, W: Write>(
 }
 
 // Returns whether the store has a table of this name. A halted store has none.
-fn is_listed<D: SectorDevice>(
+pub(crate) fn is_listed<D: SectorDevice>(
     alloc: Global,
     store: &Store<D>,
     name: &str,

@@ -1,7 +1,8 @@
 //! The commands of an open store on any device, over any reader and writer, and [`recode`].
 //!
-//! [`apply_command`], [`create_like`], [`import_input`], [`import_new`], [`append_input`] and [`append_text`] change the tables; [`print_tables`],
-//! [`print_schema`], [`print_selection`], [`print_summary`], [`export_table`] and [`check_tables`] read them; [`compact_tables`] joins their segments,
+//! [`apply_command`], [`create_like`], [`import_input`], [`import_new`], [`append_input`] and [`append_text`] change the tables, and so do
+//! [`import_complete`] and [`append_complete`] with streams that must have their end; [`print_tables`], [`print_schema`], [`print_fields`],
+//! [`print_selection`], [`print_summary`], [`export_table`] and [`check_tables`] read them; [`compact_tables`] joins their segments,
 //! [`upgrade_store`] gives the segments digests, [`copy_tables`] copies all tables into another store, and [`salvage_table`] writes what can be
 //! read of a damaged one. Their contracts say which bytes are read and written, and what becomes of the store.
 //! [`recode`] reads a stream and writes its canonical form.
@@ -14,6 +15,7 @@
 
 mod changing;
 mod compacting;
+mod complete;
 mod copying;
 mod creating;
 mod input;
@@ -24,10 +26,12 @@ mod selecting;
 mod stream;
 mod summing;
 mod text_rows;
+mod typing;
 mod upgrading;
 
 pub use changing::{append_input, apply_command, create_like, import_input, import_new};
 pub use compacting::compact_tables;
+pub use complete::{append_complete, import_complete};
 pub use copying::copy_tables;
 pub use creating::{drop_table, new_table, rename_table};
 pub use input::LARGEST_INPUT;
@@ -38,4 +42,5 @@ pub use selecting::{print_selection, query_of};
 pub use stream::recode;
 pub use summing::print_summary;
 pub use text_rows::append_text;
+pub use typing::print_fields;
 pub use upgrading::upgrade_store;

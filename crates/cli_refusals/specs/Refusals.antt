@@ -17,7 +17,7 @@ use Rattle.tables.specs.Refusals as tables
 use Rattle.commit.specs.Told.{opening_text}
 use Rattle.cli_refusals.specs.declared.refusal.Refusal.{Refusal}
 use Rattle.cli_refusals.specs.declared.refusal.Side.TheVariants as sides
-use Rattle.cli_refusals.specs.declared.refusal.Refusal.TheVariants.{Fault, TooManyBytes, Io, BadSize, BadScript, Fields, Text, Query, Opening, Store, OutOfMemory}
+use Rattle.cli_refusals.specs.declared.refusal.Refusal.TheVariants.{Fault, NoEnd, TooManyBytes, Io, BadSize, BadScript, Fields, NoText, Text, Query, Opening, Store, OutOfMemory}
 
 -- how a failed import is reported
 abbrev pub refusal_of : ImportError → Refusal
@@ -44,11 +44,13 @@ query_refusal queries.OutOfMemory = OutOfMemory
 -- code, name and what it carries
 unfoldable pub refusal_text : Refusal → List ℕ
 refusal_text (Fault fault) = fault_text fault
+refusal_text NoEnd = codes "F30 NoEnd"
 refusal_text TooManyBytes = codes "S7 TooMany Bytes"
 refusal_text (Io side) = codes "G1 Io"
 refusal_text BadSize = codes "G2 BadSize"
 refusal_text (BadScript line) = codes "G3 BadScript " ++ decimal line
 refusal_text (Fields error) = error_text error
+refusal_text (NoText number) = codes "P3 NoText " ++ decimal number
 refusal_text (Text refused) = refused_text refused
 refusal_text (Query refusal) = tables.query_text refusal
 refusal_text (Opening refusal) = opening_text refusal

@@ -16,7 +16,7 @@ use Rattle.cli_refusals.specs.declared.known.FileCause.{FileCause}
 use Rattle.cli_refusals.specs.declared.known.FileCause.TheVariants.{Locked, Missing, Denied, Exists, Other}
 use Rattle.cli_refusals.specs.declared.known.Known.{Known}
 use Rattle.cli_refusals.specs.declared.refusal.Refusal.{Refusal}
-use Rattle.cli_refusals.specs.declared.refusal.Refusal.TheVariants.{Fault, TooManyBytes, Io, BadSize, BadScript, Fields, Text, Query, Opening, Store, OutOfMemory}
+use Rattle.cli_refusals.specs.declared.refusal.Refusal.TheVariants.{Fault, NoEnd, TooManyBytes, Io, BadSize, BadScript, Fields, NoText, Text, Query, Opening, Store, OutOfMemory}
 use Rattle.cli_refusals.specs.declared.refusal.Side.{Side}
 use Rattle.cli_refusals.specs.declared.refusal.Side.TheVariants as sides
 
@@ -129,11 +129,13 @@ store_word stores.OutOfMemory known = codes "out-of-memory"
 
 unfoldable pub word : Refusal → Known → List ℕ
 word (Fault fault) known = fault_word fault
+word NoEnd known = codes "no-end"
 word TooManyBytes known = codes "too-many"
 word (Io side) known = io_word side known
 word BadSize known = codes "bad-size"
 word (BadScript line) known = codes "bad-script"
 word (Fields error) known = fields_word error
+word (NoText number) known = codes "no-text"
 word (Text refused) known = text_word refused.refusal
 word (Query reason) known = query_word reason
 word (Opening refusal) known = opening_word refusal

@@ -5,17 +5,18 @@ ghost use Rattle.cli_refusals.specs.Page.{file_refusals, table_refusals, refusal
 use crate::remedies::{
     BLANK_DEVICE, BYTES_OF_THE_TYPE, CHECK_FILES, CLOSE_AN_EXPORT, CLOSE_QUOTATION_MARKS,
     COMMIT_FIRST, CONVERT_COLUMN, DONE_ALREADY, EARLIER_COPY, ESCAPE_CONTROLS, FEWER_FIELDS,
-    FEWER_ROWS, FEWER_SEGMENTS, FEWER_TABLES, FEWER_VALUES, FIELDS_OF_THE_TABLE, FILE_OF_A_STORE,
-    FIX_ROW, FOLDER_OF_A_NEW_FILE, FORM_OF_A_CONDITION, FORM_OF_A_DATE, FORM_OF_A_FIELD,
-    FORM_OF_A_NAME, GIVE_A_NUMBER, GIVE_A_STREAM, GIVE_A_VALUE, GIVE_ALL, GIVE_ARRAYS,
-    GIVE_JSON_LINES, GIVE_LESS, GIVE_THE_NAME, IMPORT_AGAIN, ITEMS_OF_A_LINE, KIND_OF_THE_TYPE,
-    LATER_PROGRAM, LEAVE_OUT_MESSAGES, LENGTH_OF_THE_STORE, LINES_OF_A_SCRIPT, LITTLE_ENDIAN,
-    LOOK_AGAIN, MORE_MEMORY, MORE_ROOM, NAME_OF_A_TABLE, NAMES_FIRST, NAMES_OF_COLUMNS,
-    NAMES_OF_THE_SCHEMA, NEW_OUTPUT, NEW_PATH, NEW_STORE, NO_COMPRESSION, NO_FOLDER,
-    NUMBER_OF_SECTORS, OFFSET_OF_THE_ZONE, ONE_STREAM, OTHER_NAME, OTHER_TABLE, PATH_AND_RIGHTS,
-    READ_INPUT, READABLE_FILE, ROOM_FOR_THE_NEW_FILE, ROOM_ON_THE_DISK, ROW_ON_A_LINE,
-    SCHEMA_FIRST, SHORTER_BATCHES, SHORTER_VALUES, SIZE_OF_THE_DEVICE, SMALLER_FIELDS,
-    TEST_FOR_NULL, TRY_AGAIN, UNFINISHED_COPY, WAIT, WHOLE_FILE, WITHIN_THE_RANGE, WRITE_A_BOOLEAN,
+    FEWER_ROWS, FEWER_SEGMENTS, FEWER_TABLES, FEWER_VALUES, FIELDS_OF_ANOTHER, FIELDS_OF_THE_TABLE,
+    FILE_OF_A_STORE, FIX_ROW, FOLDER_OF_A_NEW_FILE, FORM_OF_A_CONDITION, FORM_OF_A_DATE,
+    FORM_OF_A_FIELD, FORM_OF_A_NAME, GIVE_ALL, GIVE_ARRAYS, GIVE_A_NUMBER, GIVE_A_STREAM,
+    GIVE_A_VALUE, GIVE_JSON_LINES, GIVE_LESS, GIVE_THE_NAME, IMPORT_AGAIN, ITEMS_OF_A_LINE,
+    KIND_OF_THE_TYPE, LATER_PROGRAM, LEAVE_OUT_MESSAGES, LENGTH_OF_THE_STORE, LINES_OF_A_SCRIPT,
+    LITTLE_ENDIAN, LOOK_AGAIN, MORE_MEMORY, MORE_ROOM, NAMES_FIRST, NAMES_OF_COLUMNS,
+    NAMES_OF_THE_SCHEMA, NAME_OF_A_TABLE, NEW_OUTPUT, NEW_PATH, NEW_STORE, NO_COMPRESSION,
+    NO_FOLDER, NUMBER_OF_SECTORS, OFFSET_OF_THE_ZONE, ONE_STREAM, OTHER_NAME, OTHER_TABLE,
+    PATH_AND_RIGHTS, READABLE_FILE, READ_INPUT, ROOM_FOR_THE_NEW_FILE, ROOM_ON_THE_DISK,
+    ROW_ON_A_LINE, SCHEMA_FIRST, SHORTER_BATCHES, SHORTER_VALUES, SIZE_OF_THE_DEVICE,
+    SMALLER_FIELDS, TEST_FOR_NULL, TRY_AGAIN, UNFINISHED_COPY, WAIT, WHOLE_FILE, WHOLE_STREAM,
+    WITHIN_THE_RANGE, WRITE_A_BOOLEAN,
     WRITE_AGAIN, WRITE_DIGITS, WRITE_HEXADECIMAL, WRITE_UTF_8, WRITE_V5,
 };
 use std::alloc::{AllocError, Global};
@@ -117,6 +118,11 @@ or appended. If no advice follows a fault, the cause is the program that wrote t
     "
 - F29 AfterEnd: bytes follow the end of the stream. ",
     ONE_STREAM,
+    "
+- F30 NoEnd: the input is whole messages, but the end-of-stream marker is not after them. Only `import` and
+  `append` with `--complete` ask for it.
+  ",
+    WHOLE_STREAM,
     "
 
 ## G: a file, the input or the output
@@ -264,6 +270,13 @@ or appended. If no advice follows a fault, the cause is the program that wrote t
 - P2 Limit: a number in a field text is more than 2,147,483,647, or the fields exceed a limit of F14.
   ",
     SMALLER_FIELDS,
+    "
+- P3 NoText N: no field text makes the field N of the table, counted from 1, so `schema --fields` prints
+  nothing. A name in it is empty or has a space or one of the characters `:,<>()?\"`, the item of a list is
+  not named `item`, a timezone has a space, a parenthesis or a quotation mark, or a field has metadata. With
+  N = 0 the table itself has metadata.
+  ",
+    FIELDS_OF_ANOTHER,
     "
 ",
 ];
@@ -521,10 +534,10 @@ Each other code has one word. After S5 it is the word of the fault (F), and afte
   F15 `stream-not-utf8`, F16 `compressed`, F17 `layout-count`, F18 `buffer-range`, F19 `buffer-short`,
   F20 `row-count`, F21 `null-count`, F22 `offsets`, F23 `null-forbidden`, F24 `dictionary-id`,
   F25 `delta-without-base`, F26 `dictionary-index`, F27 `dictionary-of-nested`, F28 `stream-too-heavy`,
-  F29 `after-end`.
+  F29 `after-end`, F30 `no-end`.
 - G2 `bad-size`, G3 `bad-script`.
 - C1 `not-a-store`, C3 `damaged`, C4 `device-at-opening`.
-- P1 `bad-field`, P2 `field-limit`.
+- P1 `bad-field`, P2 `field-limit`, P3 `no-text`.
 - X1 `header`, X2 `width`, X3 `text-not-utf8`, X4 `not-a-number`, X5 `out-of-range`, X6 `not-a-bool`,
   X7 `not-hex`, X8 `null-mismatch`, X9 `nested-columns`, X10 `not-json`, X11 `unknown-name`,
   X12 `missing-name`, X13 `ambiguous-names`, X14 `fixed-width`, X15 `row-too-heavy`,

@@ -29,6 +29,8 @@ pub enum Side {
 pub enum Refusal {
     /// F: the input has no meaning as a stream.
     Fault(Fault),
+    /// F30: the input ends without the end of stream that was asked for.
+    NoEnd,
     /// S7: the input has too many bytes.
     TooManyBytes,
     /// G1: a read or a write on this side failed.
@@ -39,6 +41,8 @@ pub enum Refusal {
     BadScript(u64),
     /// P: the field texts state no schema.
     Fields(ParseError),
+    /// P3: no text is taken for this field of a table, counted from 1; 0 if the table has pairs of its own.
+    NoText(usize),
     /// X: a record of the input is not a row of the table.
     Text(Refused),
     /// Q: the query is refused for the table.
@@ -132,11 +136,13 @@ impl fmt::Display for Refusal {
     fn fmt<W: fmt::Write>(&self, f: &mut fmt::Formatter<W>) -> fmt::Result {
         match self {
             Refusal::Fault(fault) => write!(f, "{fault}"),
+            Refusal::NoEnd => f.write_str("F30 NoEnd"),
             Refusal::TooManyBytes => f.write_str("S7 TooMany Bytes"),
             Refusal::Io(_) => f.write_str("G1 Io"),
             Refusal::BadSize => f.write_str("G2 BadSize"),
             Refusal::BadScript(line) => write!(f, "G3 BadScript {line}"),
             Refusal::Fields(error) => write!(f, "{error}"),
+            Refusal::NoText(number) => write!(f, "P3 NoText {number}"),
             Refusal::Text(refused) => write!(f, "{refused}"),
             Refusal::Query(refusal) => write!(f, "{refusal}"),
             Refusal::Opening(refusal) => write!(f, "{refusal}"),

@@ -41,6 +41,9 @@ pub const SHORTER_BATCHES: &str = "Have the stream written in shorter batches.";
 pub const FEWER_ROWS: &str =
     "Give fewer rows. If one row alone is too heavy, give shorter texts, binaries and lists in it.";
 
+pub const WHOLE_STREAM: &str =
+    "Have the whole stream written again: whoever writes it may have ended early. If it ends its streams without the marker, leave `--complete` out.";
+
 // ---- G and C: files
 
 pub const CHECK_FILES: &str =
@@ -111,6 +114,9 @@ pub const FORM_OF_A_FIELD: &str =
 
 pub const SMALLER_FIELDS: &str =
     "Give numbers of at most 2,147,483,647, and fewer, shorter or less deeply nested fields.";
+
+pub const FIELDS_OF_ANOTHER: &str =
+    "Use `create NAME --like TABLE`: it takes the fields of any table of the same store. `schema` without `--fields` shows them.";
 
 // ---- X: texts
 
@@ -368,11 +374,13 @@ impl Refusal {
     {
         match self {
             Refusal::Fault(fault) => fault_remedy(fault),
+            Refusal::NoEnd => WHOLE_STREAM,
             Refusal::TooManyBytes => GIVE_LESS,
             Refusal::Io(_) => CHECK_FILES,
             Refusal::BadSize => WHOLE_FILE,
             Refusal::BadScript(_) => LINES_OF_A_SCRIPT,
             Refusal::Fields(error) => fields_remedy(error),
+            Refusal::NoText(_) => FIELDS_OF_ANOTHER,
             Refusal::Text(refused) => text_remedy(refused.refusal),
             Refusal::Query(reason) => query_remedy(reason),
             Refusal::Opening(refusal) => opening_remedy(refusal),

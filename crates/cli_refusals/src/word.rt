@@ -176,11 +176,13 @@ impl Refusal {
     {
         match self {
             Refusal::Fault(fault) => fault_word(fault),
+            Refusal::NoEnd => "no-end",
             Refusal::TooManyBytes => "too-many",
             Refusal::Io(side) => io_word(side, known),
             Refusal::BadSize => "bad-size",
             Refusal::BadScript(_) => "bad-script",
             Refusal::Fields(error) => fields_word(error),
+            Refusal::NoText(_) => "no-text",
             Refusal::Text(refused) => text_word(refused.refusal),
             Refusal::Query(reason) => query_word(reason),
             Refusal::Opening(refusal) => opening_word(refusal),

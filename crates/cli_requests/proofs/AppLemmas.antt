@@ -19,7 +19,7 @@ use Rattle.clap.specs.declared.error.kind.ErrorKind.{ErrorKind}
 use Rattle.clap.specs.declared.parser.matches.ArgMatches.{ArgMatches}
 use Rattle.clap.proofs.OnLiterals.{clap_on_literals}
 use Rattle.clap.proofs.WalkLemmas.{first_value-rows, one_text-rows, raw_values-rows}
-use Rattle.cli_requests.specs.Apps.{info_app, format_app, copy_app, store_app, table_app, import_app, rename_app, create_app, append_app, query_app, other_parameters, parameters_of, IsAppWith, IsOwnApp, value_of, values_of}
+use Rattle.cli_requests.specs.Apps.{info_app, format_app, copy_app, store_app, table_app, schema_app, import_app, rename_app, create_app, append_app, query_app, other_parameters, parameters_of, IsAppWith, IsOwnApp, value_of, values_of}
 use Rattle.civil_days.specs.declared.date_form.DateForm.{DateForm}
 use Rattle.civil_days.specs.declared.date_form.DateForm.TheVariants.{Numbers, Iso}
 use Rattle.cli_requests.specs.Apps.{HasDates, HasFound}
@@ -58,6 +58,14 @@ pub table_plain : (name : Text) (p : ℕ) → ends_options (arg_by_index (built 
 table_plain name p = by_each (1 == p) (2 == p) refl refl
   where
     by_each : (a b : Bool) → (1 == p) ≡ a → (2 == p) ≡ b → ends_options (arg_by_index (built (table_app name)).top.rules p) ≡ false
+    by_each true b d e = rw d refl
+    by_each false true d e = rw (d, e) refl
+    by_each false false d e = rw (d, e) refl
+
+pub schema_plain : (name : Text) (p : ℕ) → ends_options (arg_by_index (built (schema_app name)).top.rules p) ≡ false
+schema_plain name p = by_each (1 == p) (2 == p) refl refl
+  where
+    by_each : (a b : Bool) → (1 == p) ≡ a → (2 == p) ≡ b → ends_options (arg_by_index (built (schema_app name)).top.rules p) ≡ false
     by_each true b d e = rw d refl
     by_each false true d e = rw (d, e) refl
     by_each false false d e = rw (d, e) refl
@@ -134,6 +142,9 @@ info_top name = (built (info_app name)).top
 abbrev pub table_top : Text → Shape
 table_top name = (built (table_app name)).top
 
+abbrev pub schema_top : Text → Shape
+schema_top name = (built (schema_app name)).top
+
 abbrev pub import_top : Text → Shape
 import_top name = (built (import_app name)).top
 
@@ -187,6 +198,14 @@ table_named name (a ∷ []) e = absurd (some_kind _ _ e)
 table_named name (a ∷ b ∷ []) e = refl
 table_named name (a ∷ b ∷ c ∷ rest) e = absurd (some_kind _ _ e)
 
+schema_named : (name : Text) (ops : List Text) → operands_fault (schema_top name) ops ≡ []
+    → ops ≡ row_value (codes "STORE") (operand_rows (schema_top name) ops) ∷ row_value (codes "NAME") (operand_rows (schema_top name) ops) ∷ []
+unfolding clap_on_literals
+schema_named name [] e = absurd (some_kind _ _ e)
+schema_named name (a ∷ []) e = absurd (some_kind _ _ e)
+schema_named name (a ∷ b ∷ []) e = refl
+schema_named name (a ∷ b ∷ c ∷ rest) e = absurd (some_kind _ _ e)
+
 import_named : (name : Text) (ops : List Text) → operands_fault (import_top name) ops ≡ []
     → ops ≡ row_value (codes "STORE") (operand_rows (import_top name) ops) ∷ row_value (codes "NAME") (operand_rows (import_top name) ops) ∷ []
 unfolding clap_on_literals
@@ -196,12 +215,27 @@ import_named name (a ∷ b ∷ []) e = refl
 import_named name (a ∷ b ∷ c ∷ rest) e = absurd (some_kind _ _ e)
 
 -- without its option
+schema_alone : (name : Text) (ops : List Text) → operands_fault (schema_top name) ops ≡ [] → one_of (codes "fields") (operand_rows (schema_top name) ops) ≡ Some (codes "false")
+unfolding clap_on_literals
+schema_alone name [] e = absurd (some_kind _ _ e)
+schema_alone name (a ∷ []) e = absurd (some_kind _ _ e)
+schema_alone name (a ∷ b ∷ []) e = refl
+schema_alone name (a ∷ b ∷ c ∷ rest) e = absurd (some_kind _ _ e)
+
+-- without its options
 import_alone : (name : Text) (ops : List Text) → operands_fault (import_top name) ops ≡ [] → one_of (codes "new") (operand_rows (import_top name) ops) ≡ Some (codes "false")
 unfolding clap_on_literals
 import_alone name [] e = absurd (some_kind _ _ e)
 import_alone name (a ∷ []) e = absurd (some_kind _ _ e)
 import_alone name (a ∷ b ∷ []) e = refl
 import_alone name (a ∷ b ∷ c ∷ rest) e = absurd (some_kind _ _ e)
+
+import_whole : (name : Text) (ops : List Text) → operands_fault (import_top name) ops ≡ [] → one_of (codes "complete") (operand_rows (import_top name) ops) ≡ Some (codes "false")
+unfolding clap_on_literals
+import_whole name [] e = absurd (some_kind _ _ e)
+import_whole name (a ∷ []) e = absurd (some_kind _ _ e)
+import_whole name (a ∷ b ∷ []) e = refl
+import_whole name (a ∷ b ∷ c ∷ rest) e = absurd (some_kind _ _ e)
 
 rename_named : (name : Text) (ops : List Text) → operands_fault (rename_top name) ops ≡ []
     → ops ≡ row_value (codes "STORE") (operand_rows (rename_top name) ops) ∷ row_value (codes "NAME") (operand_rows (rename_top name) ops)
@@ -326,6 +360,14 @@ append_stream forms dates name (a ∷ []) e = absurd (some_kind _ _ (last_fault 
 append_stream forms dates name (a ∷ b ∷ []) e = refl
 append_stream forms dates name (a ∷ b ∷ c ∷ rest) e = absurd (some_kind _ _ e)
 
+append_whole : (forms dates : ValueParser) (name : Text) (ops : List Text) → operands_fault (append_top forms dates name) ops ≡ []
+    → one_of (codes "complete") (operand_rows (append_top forms dates name) ops) ≡ Some (codes "false")
+unfolding clap_on_literals
+append_whole forms dates name [] e = absurd (some_kind _ _ (last_fault (append_top forms dates name) [] e))
+append_whole forms dates name (a ∷ []) e = absurd (some_kind _ _ (last_fault (append_top forms dates name) (a ∷ []) e))
+append_whole forms dates name (a ∷ b ∷ []) e = refl
+append_whole forms dates name (a ∷ b ∷ c ∷ rest) e = absurd (some_kind _ _ e)
+
 abbrev options_in : ValueParser → Text → Held → Option Text × Option Text × Option Text × Option Text × Option Text
 options_in dates name h =
     let rows = finished (query_top dates name).rules h in
@@ -407,8 +449,21 @@ module _ (word : Text) (words : List Text) (m : ArgMatches) (a : App) (name : Te
       table_named name ops (sym reads.fault ∙ p.faultless refl)
       ∙ (λ i. found_value m _ (codes "STORE") rows i ∷ found_value m _ (codes "NAME") rows i ∷ [])
 
+  schema_found : a ≡ schema_app name → (ops : List Text) → operands words ≡ Some ops
+      → (ops ≡ value_of (found_of m) (codes "STORE") ∷ value_of (found_of m) (codes "NAME") ∷ []) × (one_text (found_of m) (codes "fields") ≡ Some (codes "false"))
+  unfolding clap_on_literals
+  schema_found is ops e =
+      let reads = reads_operands (schema_app name) word words ops e refl refl (schema_plain name) in
+      let p : Parsed (schema_app name) (word ∷ words) m = subst (λ (x : App). Parsed x (word ∷ words) m) is parsed in
+      let rows = (p.matches refl).0 ∙ reads.rows in
+      let faultless = sym reads.fault ∙ p.faultless refl in (
+        schema_named name ops faultless ∙ (λ i. found_value m _ (codes "STORE") rows i ∷ found_value m _ (codes "NAME") rows i ∷ []),
+        sym (found_one m _ (codes "fields") rows) ∙ schema_alone name ops faultless,
+      )
+
   import_found : a ≡ import_app name → (ops : List Text) → operands words ≡ Some ops
       → (ops ≡ value_of (found_of m) (codes "STORE") ∷ value_of (found_of m) (codes "NAME") ∷ []) × (one_text (found_of m) (codes "new") ≡ Some (codes "false"))
+      × (one_text (found_of m) (codes "complete") ≡ Some (codes "false"))
   unfolding clap_on_literals
   import_found is ops e =
       let reads = reads_operands (import_app name) word words ops e refl refl (import_plain name) in
@@ -417,6 +472,7 @@ module _ (word : Text) (words : List Text) (m : ArgMatches) (a : App) (name : Te
       let faultless = sym reads.fault ∙ p.faultless refl in (
         import_named name ops faultless ∙ (λ i. found_value m _ (codes "STORE") rows i ∷ found_value m _ (codes "NAME") rows i ∷ []),
         sym (found_one m _ (codes "new") rows) ∙ import_alone name ops faultless,
+        sym (found_one m _ (codes "complete") rows) ∙ import_whole name ops faultless,
       )
 
   rename_found : a ≡ rename_app name → (ops : List Text) → operands words ≡ Some ops
@@ -503,6 +559,15 @@ module _ (word : Text) (words : List Text) (m : ArgMatches) (a : App) (name : Te
       let rows = (p.matches refl).0 ∙ reads.rows in
       sym (found_value m _ (codes "as") rows) ∙ append_stream forms dates name ops (sym reads.fault ∙ p.faultless refl)
 
+  append_unasked : (forms dates : ValueParser) → a ≡ append_app forms dates name → (ops : List Text) → operands words ≡ Some ops
+      → one_text (found_of m) (codes "complete") ≡ Some (codes "false")
+  unfolding clap_on_literals
+  append_unasked forms dates is ops e =
+      let reads = reads_operands (append_app forms dates name) word words ops e refl refl (append_plain forms dates name) in
+      let p : Parsed (append_app forms dates name) (word ∷ words) m = subst (λ (x : App). Parsed x (word ∷ words) m) is parsed in
+      let rows = (p.matches refl).0 ∙ reads.rows in
+      sym (found_one m _ (codes "complete") rows) ∙ append_whole forms dates name ops (sym reads.fault ∙ p.faultless refl)
+
   query_options : (dates : ValueParser) → a ≡ query_app dates name → (ops : List Text) → operands words ≡ Some ops → HasNoOption (found_of m)
   unfolding clap_on_literals
   query_options dates is ops e =
@@ -545,8 +610,13 @@ module _ (word : Text) (words : List Text) (m : ArgMatches) (a : App) (own : IsO
       → ops ≡ value_of (found_of m) (codes "STORE") ∷ value_of (found_of m) (codes "NAME") ∷ []
   names_one_table is ops e = table_found word words m a word parsed (subst (λ (b : Parameters). IsAppWith word b a) is own) ops e
 
+  names_schema : parameters_of word ≡ parameters.TableToDescribe → (ops : List Text) → operands words ≡ Some ops
+      → (ops ≡ value_of (found_of m) (codes "STORE") ∷ value_of (found_of m) (codes "NAME") ∷ []) × (one_text (found_of m) (codes "fields") ≡ Some (codes "false"))
+  names_schema is ops e = schema_found word words m a word parsed (subst (λ (b : Parameters). IsAppWith word b a) is own) ops e
+
   names_import : parameters_of word ≡ parameters.TableToImport → (ops : List Text) → operands words ≡ Some ops
       → (ops ≡ value_of (found_of m) (codes "STORE") ∷ value_of (found_of m) (codes "NAME") ∷ []) × (one_text (found_of m) (codes "new") ≡ Some (codes "false"))
+      × (one_text (found_of m) (codes "complete") ≡ Some (codes "false"))
   names_import is ops e = import_found word words m a word parsed (subst (λ (b : Parameters). IsAppWith word b a) is own) ops e
 
   names_two : parameters_of word ≡ parameters.TableAndNewName → (ops : List Text) → operands words ≡ Some ops
@@ -587,6 +657,12 @@ module _ (word : Text) (words : List Text) (m : ArgMatches) (a : App) (own : IsO
   asks_stream is ops e other =
       let own_app = subst (λ (b : Parameters). IsAppWith word b a) is own in
       true≢false (ap (λ (form : Text). bytes_eq form (codes "stream")) (sym (append_default word words m a word parsed own_app.0 own_app.2 own_app.4 ops e)) ∙ other)
+
+  pub asks_no_end : parameters_of word ≡ parameters.TableAndRows → (ops : List Text) → operands words ≡ Some ops
+      → one_text (found_of m) (codes "complete") ≡ Some (codes "false")
+  asks_no_end is ops e =
+      let own_app = subst (λ (b : Parameters). IsAppWith word b a) is own in
+      append_unasked word words m a word parsed own_app.0 own_app.2 own_app.4 ops e
 
   pub asks_all : parameters_of word ≡ parameters.TableAndQuery → (ops : List Text) → operands words ≡ Some ops → HasNoOption (found_of m)
   asks_all is ops e =
@@ -637,12 +713,18 @@ module _ (word : Text) (words : List Text) (m : ArgMatches) (a : App) (own : IsO
   names_command (requests.Command file (commands.ImportNew name)) is found =
       named (requests.Command file (commands.ImportNew name))
       (λ ops e. absurd (true≢false (found.1.1.left_out (names_import (of_word (codes "import") parameters.TableToImport is refl) ops e).1)))
+  names_command (requests.Command file (commands.ImportComplete name is_new)) is found =
+      named (requests.Command file (commands.ImportComplete name is_new))
+      (λ ops e. absurd (true≢false (found.1.2.left_out (names_import (of_word (codes "import") parameters.TableToImport is refl) ops e).2)))
   names_command (requests.Command file (commands.Drop name)) is found =
       named (requests.Command file (commands.Drop name))
       (λ ops e. (names_one_table (of_word (codes "drop") parameters.Table is refl) ops e ∙ (λ i. sym found.0 i ∷ sym found.1 i ∷ []), tt))
   names_command (requests.Command file (commands.Schema name)) is found =
       named (requests.Command file (commands.Schema name))
-      (λ ops e. (names_one_table (of_word (codes "schema") parameters.Table is refl) ops e ∙ (λ i. sym found.0 i ∷ sym found.1 i ∷ []), tt))
+      (λ ops e. ((names_schema (of_word (codes "schema") parameters.TableToDescribe is refl) ops e).0 ∙ (λ i. sym found.0 i ∷ sym found.1.0 i ∷ []), tt))
+  names_command (requests.Command file (commands.SchemaFields name)) is found =
+      named (requests.Command file (commands.SchemaFields name))
+      (λ ops e. absurd (true≢false (found.1.1.left_out (names_schema (of_word (codes "schema") parameters.TableToDescribe is refl) ops e).1)))
   names_command (requests.Command file (commands.Export name)) is found =
       named (requests.Command file (commands.Export name))
       (λ ops e. (names_one_table (of_word (codes "export") parameters.Table is refl) ops e ∙ (λ i. sym found.0 i ∷ sym found.1 i ∷ []), tt))
@@ -676,6 +758,9 @@ module _ (word : Text) (words : List Text) (m : ArgMatches) (a : App) (own : IsO
   names_command (requests.Command file (commands.Append name)) is found =
       named (requests.Command file (commands.Append name))
       (λ ops e. (names_rows (of_word (codes "append") parameters.TableAndRows is refl) ops e ∙ (λ i. sym found.0 i ∷ sym found.1.0 i ∷ []), tt))
+  names_command (requests.Command file (commands.AppendComplete name)) is found =
+      named (requests.Command file (commands.AppendComplete name))
+      (λ ops e. absurd (true≢false (found.1.2.left_out (asks_no_end (of_word (codes "append") parameters.TableAndRows is refl) ops e))))
   names_command (requests.Command file (commands.AppendText name form)) is found =
       named (requests.Command file (commands.AppendText name form))
       (λ ops e. absurd (asks_stream (of_word (codes "append") parameters.TableAndRows is refl) ops e found.1.1))

@@ -14,7 +14,7 @@ use Rattle.clap.specs.Lexer.{usize_max}
 use Rattle.clap.specs.declared.builder.value_parser.ValueParser.TheVariants as parsers
 use Rattle.clap.proofs.OnLiterals.{clap_on_literals}
 use Rattle.clap.specs.declared.builder.value_parser.ValueParser.{ValueParser}
-use Rattle.cli_requests.specs.Apps.{AreForms, AreDateForms, IsOwnApp, info_app, format_app, import_app, create_app, query_app, replay_app, append_app, other_parameters, parameters_of}
+use Rattle.cli_requests.specs.Apps.{AreForms, AreDateForms, IsOwnApp, info_app, format_app, schema_app, import_app, create_app, query_app, replay_app, append_app, other_parameters, parameters_of}
 use Rattle.cli_requests.specs.Examples.{AreExamples, AreFound, AreReadAs, AreValuesRead, IsVersion, Valued, called}
 use Rattle.cli_requests.specs.Numbers.{is_number, is_number_if_any}
 use Rattle.cli_requests.specs.Operands.{names_file, names_table}
@@ -26,13 +26,14 @@ use Rattle.cli_requests.proofs.RightLemmas.{name_fault, number_accepted, words_f
 
 -- ---- what each command asks for
 
-module _ (first : Text → Option Text) (objects : Option Text) where
+module _ (first flag : Text → Option Text) where
   format_takable : is_number (unwrap_or (first (codes "SECTORS")) []) ≡ true → is_number_if_any (first (codes "format-version")) ≡ true
-      → IsTakable (codes "format") first objects
+      → IsTakable (codes "format") first flag
   format_takable sectors version = record {
     sectors = λ e. sectors;
     version = λ e. version;
     like = λ e. absurd (true≢false (sym e));
+    complete = λ e. absurd (true≢false (sym e));
     limit = λ e. absurd (true≢false (sym e));
     printed = λ e. absurd (true≢false (sym e));
     size = λ e. absurd (true≢false (sym e));
@@ -44,12 +45,15 @@ module _ (first : Text → Option Text) (objects : Option Text) where
 
   -- a command of which nothing that is found is refused
   plain_takable : (word : Text) → makes_word word ≡ false → bytes_eq (codes "format") word ≡ false
-      → (bytes_eq (codes "create") word ≡ true → (first (codes "like") ≡ None) ⊎ (first (codes "FIELD") ≡ None)) → bytes_eq (codes "query") word ≡ false
-      → bytes_eq (codes "replay") word ≡ false → IsTakable word first objects
-  plain_takable word makes format like query replay = record {
+      → (bytes_eq (codes "create") word ≡ true → (first (codes "like") ≡ None) ⊎ (first (codes "FIELD") ≡ None))
+      → (bytes_eq (codes "append") word ≡ true
+      → (bytes_eq (unwrap_or (first (codes "as")) []) (codes "stream") ≡ true) ⊎ (flag (codes "complete") ≡ Some (codes "false")))
+      → bytes_eq (codes "query") word ≡ false → bytes_eq (codes "replay") word ≡ false → IsTakable word first flag
+  plain_takable word makes format like complete query replay = record {
     sectors = λ e. absurd (true≢false (sym e ∙ makes));
     version = λ e. absurd (true≢false (sym e ∙ format));
     like = like;
+    complete = complete;
     limit = λ e. absurd (true≢false (sym e ∙ query));
     printed = λ e. absurd (true≢false (sym e ∙ query));
     size = λ e. absurd (true≢false (sym e ∙ replay));
@@ -59,29 +63,35 @@ module _ (first : Text → Option Text) (objects : Option Text) where
     played = λ e. absurd (true≢false (sym e ∙ replay));
   }
 
-  info_takable : IsTakable (codes "info") first objects
+  info_takable : IsTakable (codes "info") first flag
   unfolding makes_word
-  info_takable = plain_takable (codes "info") refl refl (λ e. absurd (true≢false (sym e))) refl refl
+  info_takable = plain_takable (codes "info") refl refl (λ e. absurd (true≢false (sym e))) (λ e. absurd (true≢false (sym e))) refl refl
 
-  create_takable : (first (codes "like") ≡ None) ⊎ (first (codes "FIELD") ≡ None) → IsTakable (codes "create") first objects
+  create_takable : (first (codes "like") ≡ None) ⊎ (first (codes "FIELD") ≡ None) → IsTakable (codes "create") first flag
   unfolding makes_word
-  create_takable like = plain_takable (codes "create") refl refl (λ e. like) refl refl
+  create_takable like = plain_takable (codes "create") refl refl (λ e. like) (λ e. absurd (true≢false (sym e))) refl refl
 
-  import_takable : IsTakable (codes "import") first objects
+  schema_takable : IsTakable (codes "schema") first flag
   unfolding makes_word
-  import_takable = plain_takable (codes "import") refl refl (λ e. absurd (true≢false (sym e))) refl refl
+  schema_takable = plain_takable (codes "schema") refl refl (λ e. absurd (true≢false (sym e))) (λ e. absurd (true≢false (sym e))) refl refl
 
-  append_takable : IsTakable (codes "append") first objects
+  import_takable : IsTakable (codes "import") first flag
   unfolding makes_word
-  append_takable = plain_takable (codes "append") refl refl (λ e. absurd (true≢false (sym e))) refl refl
+  import_takable = plain_takable (codes "import") refl refl (λ e. absurd (true≢false (sym e))) (λ e. absurd (true≢false (sym e))) refl refl
 
-  query_takable : is_number_if_any (first (codes "limit")) ≡ true → (first (codes "save") ≡ None) ⊎ (objects ≡ Some (codes "false"))
-      → IsTakable (codes "query") first objects
+  append_takable : (bytes_eq (unwrap_or (first (codes "as")) []) (codes "stream") ≡ true) ⊎ (flag (codes "complete") ≡ Some (codes "false"))
+      → IsTakable (codes "append") first flag
+  unfolding makes_word
+  append_takable complete = plain_takable (codes "append") refl refl (λ e. absurd (true≢false (sym e))) (λ e. complete) refl refl
+
+  query_takable : is_number_if_any (first (codes "limit")) ≡ true → (first (codes "save") ≡ None) ⊎ (flag (codes "objects") ≡ Some (codes "false"))
+      → IsTakable (codes "query") first flag
   unfolding makes_word
   query_takable limit printed = record {
     sectors = λ e. absurd (true≢false (sym e));
     version = λ e. absurd (true≢false (sym e));
     like = λ e. absurd (true≢false (sym e));
+    complete = λ e. absurd (true≢false (sym e));
     limit = λ e. limit;
     printed = λ e. printed;
     size = λ e. absurd (true≢false (sym e));
@@ -93,12 +103,13 @@ module _ (first : Text → Option Text) (objects : Option Text) where
 
   replay_takable : is_number_if_any (first (codes "sectors")) ≡ true → is_number_if_any (first (codes "fail")) ≡ true
       → is_number_if_any (first (codes "stop")) ≡ true → NamesChoice (unwrap_or (first (codes "choice")) [])
-      → is_number_if_any (first (codes "format-version")) ≡ true → IsTakable (codes "replay") first objects
+      → is_number_if_any (first (codes "format-version")) ≡ true → IsTakable (codes "replay") first flag
   unfolding makes_word
   replay_takable size fail stop choice played = record {
     sectors = λ e. absurd (true≢false (sym e));
     version = λ e. absurd (true≢false (sym e));
     like = λ e. absurd (true≢false (sym e));
+    complete = λ e. absurd (true≢false (sym e));
     limit = λ e. absurd (true≢false (sym e));
     printed = λ e. absurd (true≢false (sym e));
     size = λ e. size;
@@ -150,9 +161,14 @@ unfolding names_file names_table other_parameters parameters_of first_word makes
 like_example = read_as _ _ (create_app (codes "create")) (λ command own. sym own) refl (create_takable _ _ (inr refl)) (refl, (refl, (refl, tt)))
 
 import_example : AreReadAs (called (codes "import" ∷ codes "store" ∷ codes "--new" ∷ codes "readings" ∷ []))
-    ((codes "STORE", codes "store" ∷ []) ∷ (codes "NAME", codes "readings" ∷ []) ∷ (codes "new", codes "true" ∷ []) ∷ [])
+    ((codes "STORE", codes "store" ∷ []) ∷ (codes "NAME", codes "readings" ∷ []) ∷ (codes "new", codes "true" ∷ []) ∷ (codes "complete", codes "false" ∷ []) ∷ [])
 unfolding names_file names_table other_parameters parameters_of first_word makes_word is_number walked clap_on_literals
-import_example = read_as _ _ (import_app (codes "import")) (λ command own. sym own) refl (import_takable _ _) (refl, (refl, (refl, tt)))
+import_example = read_as _ _ (import_app (codes "import")) (λ command own. sym own) refl (import_takable _ _) (refl, (refl, (refl, (refl, tt))))
+
+described_example : AreReadAs (called (codes "schema" ∷ codes "--fields" ∷ codes "store" ∷ codes "readings" ∷ []))
+    ((codes "STORE", codes "store" ∷ []) ∷ (codes "NAME", codes "readings" ∷ []) ∷ (codes "fields", codes "true" ∷ []) ∷ [])
+unfolding names_file names_table other_parameters parameters_of first_word makes_word is_number walked clap_on_literals
+described_example = read_as _ _ (schema_app (codes "schema")) (λ command own. sym own) refl (schema_takable _ _) (refl, (refl, (refl, tt)))
 
 -- of `append` any command that knows the forms
 
@@ -182,7 +198,7 @@ append_example : AreReadAs (called (codes "append" ∷ codes "store" ∷ codes "
 unfolding names_file names_table other_parameters parameters_of first_word makes_word is_number walked clap_on_literals
 append_example =
     let only : (command : App) → IsOwnApp (codes "append") command → AreTakenAs command = λ command own.
-    subst AreTakenAs (sym own.4) (append_faultless own.0 own.2 own.1 own.3, append_takable _ _, (refl, (refl, (refl, (refl, tt))))) in
+    subst AreTakenAs (sym own.4) (append_faultless own.0 own.2 own.1 own.3, append_takable _ _ (inr refl), (refl, (refl, (refl, (refl, tt))))) in
     record { taken = λ command own. ((only command own).0, (only command own).1); found = λ command own. (only command own).2 }
 
 printed_example : AreReadAs
@@ -249,10 +265,15 @@ like_values : (table file name : Text) → AreReadAs (called (codes "create" ∷
 unfolding names_file names_table other_parameters parameters_of first_word makes_word is_number walked clap_on_literals
 like_values table file name = read_as _ _ (create_app (codes "create")) (λ command own. sym own) refl (create_takable _ _ (inr refl)) (refl, (refl, (refl, tt)))
 
-import_values : (file name : Text) → AreReadAs (called (codes "import" ∷ codes "--new" ∷ codes "--" ∷ file ∷ name ∷ []))
-    ((codes "STORE", file ∷ []) ∷ (codes "NAME", name ∷ []) ∷ (codes "new", codes "true" ∷ []) ∷ [])
+described_values : (file name : Text) → AreReadAs (called (codes "schema" ∷ codes "--fields" ∷ codes "--" ∷ file ∷ name ∷ []))
+    ((codes "STORE", file ∷ []) ∷ (codes "NAME", name ∷ []) ∷ (codes "fields", codes "true" ∷ []) ∷ [])
 unfolding names_file names_table other_parameters parameters_of first_word makes_word is_number walked clap_on_literals
-import_values file name = read_as _ _ (import_app (codes "import")) (λ command own. sym own) refl (import_takable _ _) (refl, (refl, (refl, tt)))
+described_values file name = read_as _ _ (schema_app (codes "schema")) (λ command own. sym own) refl (schema_takable _ _) (refl, (refl, (refl, tt)))
+
+import_values : (file name : Text) → AreReadAs (called (codes "import" ∷ codes "--new" ∷ codes "--complete" ∷ codes "--" ∷ file ∷ name ∷ []))
+    ((codes "STORE", file ∷ []) ∷ (codes "NAME", name ∷ []) ∷ (codes "new", codes "true" ∷ []) ∷ (codes "complete", codes "true" ∷ []) ∷ [])
+unfolding names_file names_table other_parameters parameters_of first_word makes_word is_number walked clap_on_literals
+import_values file name = read_as _ _ (import_app (codes "import")) (λ command own. sym own) refl (import_takable _ _) (refl, (refl, (refl, (refl, tt))))
 
 module _ (forms dates : ValueParser) (known : AreForms forms) (dated : AreDateForms dates) where
   abbrev words_of_append : (form null file name : Text) → List Text
@@ -275,9 +296,29 @@ unfolding names_file names_table other_parameters parameters_of first_word makes
 append_values form null file name is = record {
   taken = λ command own. subst (λ (a : App). (fault_of a (codes "append" ∷ (codes "--as=" ++ form) ∷ (codes "--null=" ++ null) ∷ codes "--" ∷ file ∷ name ∷ []) ≡ [])
       × AreRowsTakable (codes "append") (matches_of a (codes "append" ∷ (codes "--as=" ++ form) ∷ (codes "--null=" ++ null) ∷ codes "--" ∷ file ∷ name ∷ [])))
-      (sym own.4) (append_form own.0 own.2 own.1 own.3 form null file name is, append_takable _ _);
+      (sym own.4) (append_form own.0 own.2 own.1 own.3 form null file name is, append_takable _ _ (inr refl));
   found = λ command own. subst (λ (a : App). AreFound (matches_of a (codes "append" ∷ (codes "--as=" ++ form) ∷ (codes "--null=" ++ null) ∷ codes "--" ∷ file ∷ name ∷ []))
       ((codes "STORE", file ∷ []) ∷ (codes "NAME", name ∷ []) ∷ (codes "as", form ∷ []) ∷ (codes "null", null ∷ []) ∷ [])) (sym own.4) (refl, (refl, (refl, (refl, tt))));
+}
+
+module _ (forms dates : ValueParser) (known : AreForms forms) (dated : AreDateForms dates) (file name : Text) where
+  abbrev whole_words : List Text
+  whole_words = codes "append" ∷ codes "--complete" ∷ codes "--" ∷ file ∷ name ∷ []
+
+  whole_free : fault_of (append_app forms dates (codes "append")) whole_words ≡ []
+  unfolding walked clap_on_literals
+  whole_free = λ i. or_else (past (past (past (name_fault forms (known (codes "stream") i))))) (default_fault dates (dated (codes "number") i))
+
+append_whole_values : (file name : Text) → AreReadAs (called (codes "append" ∷ codes "--complete" ∷ codes "--" ∷ file ∷ name ∷ []))
+    ((codes "STORE", file ∷ []) ∷ (codes "NAME", name ∷ []) ∷ (codes "as", codes "stream" ∷ []) ∷ (codes "complete", codes "true" ∷ []) ∷ [])
+unfolding names_file names_table other_parameters parameters_of first_word makes_word is_number walked clap_on_literals
+append_whole_values file name = record {
+  taken = λ command own. subst (λ (a : App). (fault_of a (codes "append" ∷ codes "--complete" ∷ codes "--" ∷ file ∷ name ∷ []) ≡ [])
+      × AreRowsTakable (codes "append") (matches_of a (codes "append" ∷ codes "--complete" ∷ codes "--" ∷ file ∷ name ∷ [])))
+      (sym own.4) (whole_free own.0 own.2 own.1 own.3 file name, append_takable _ _ (inl refl));
+  found = λ command own. subst (λ (a : App). AreFound (matches_of a (codes "append" ∷ codes "--complete" ∷ codes "--" ∷ file ∷ name ∷ []))
+      ((codes "STORE", file ∷ []) ∷ (codes "NAME", name ∷ []) ∷ (codes "as", codes "stream" ∷ []) ∷ (codes "complete", codes "true" ∷ []) ∷ []))
+      (sym own.4) (refl, (refl, (refl, (refl, tt))));
 }
 
 -- ---- a query, with any conditions
@@ -419,6 +460,7 @@ examples = record {
   format = format_example;
   info = info_example;
   like = like_example;
+  described = described_example;
   imported = import_example;
   append = append_example;
   printed = printed_example;
@@ -432,8 +474,10 @@ values_read = record {
   format = format_values;
   info = info_values;
   like = like_values;
+  described = described_values;
   imported = import_values;
   append = append_values;
+  appended = append_whole_values;
   objects = objects_values;
   saved = saved_values;
   replay = λ sectors fail stop choice version file s f k named known. replay_values sectors fail stop choice file version s f k named known;

@@ -28,7 +28,7 @@ use Rattle.clap.specs.declared.parser.matches.ArgMatches.{ArgMatches}
 use Rattle.clap.specs.declared.parser.matches.Found.{Found}
 use Rattle.clap.proofs.OnLiterals.{clap_on_literals}
 use Rattle.clap.specs.Walk.{walked}
-use Rattle.cli_requests.specs.Apps.{info_app, format_app, copy_app, table_app, import_app, rename_app, create_app, append_app, query_app, other_parameters, parameters_of, AreForms, AreDateForms, IsAppWith, IsOwnApp}
+use Rattle.cli_requests.specs.Apps.{info_app, format_app, copy_app, table_app, schema_app, import_app, rename_app, create_app, append_app, query_app, other_parameters, parameters_of, AreForms, AreDateForms, IsAppWith, IsOwnApp}
 use Rattle.cli_requests.specs.Apps.{HasFound, IsOfMemory, value_of}
 use Rattle.cli_requests.specs.Numbers.{is_number, is_number_if_any}
 use Rattle.cli_requests.specs.Operands.{is_option, operands, names_file, names_table}
@@ -40,9 +40,9 @@ use Rattle.cli_requests.specs.declared.store_command_line.Mistake.{Mistake}
 use Rattle.cli_requests.specs.declared.store_words.StoreRequest.{StoreRequest}
 use Rattle.cli_requests.proofs.NumberLemmas.{signed_is_none}
 use Rattle.cli_requests.proofs.OperandLemmas.{operands_fault, reads_operands, level_with, words_read, words_faultless}
-use Rattle.cli_requests.proofs.AppLemmas.{Parsed, file_app, file_top, info_top, table_top, import_top, rename_top, format_top, copy_top, append_top, create_top, query_top, file_and_table, field_met, condition_met}
-use Rattle.cli_requests.proofs.AppLemmas.{file_plain, info_plain, table_plain, import_plain, rename_plain, format_plain, copy_plain, append_plain, create_plain, query_plain, found_first, found_one}
-use Rattle.cli_requests.proofs.AppLemmas.{names_sectors, asks_newest, names_new_store, asks_own_fields, asks_all}
+use Rattle.cli_requests.proofs.AppLemmas.{Parsed, file_app, file_top, info_top, table_top, schema_top, import_top, rename_top, format_top, copy_top, append_top, create_top, query_top, file_and_table, field_met, condition_met}
+use Rattle.cli_requests.proofs.AppLemmas.{file_plain, info_plain, table_plain, schema_plain, import_plain, rename_plain, format_plain, copy_plain, append_plain, create_plain, query_plain, found_first, found_one}
+use Rattle.cli_requests.proofs.AppLemmas.{names_sectors, asks_newest, names_new_store, asks_own_fields, asks_no_end, asks_all}
 
 -- ---- numbers
 
@@ -90,6 +90,13 @@ full_table name [] e = absurd (omega (arith, e))
 full_table name (a ∷ []) e = absurd (omega (arith, e))
 full_table name (a ∷ b ∷ []) e = refl
 full_table name (a ∷ b ∷ c ∷ rest) e = absurd (omega (arith, e))
+
+full_schema : (name : Text) (ops : List Text) → length ops ≡ 2 → operands_fault (schema_top name) ops ≡ []
+unfolding clap_on_literals
+full_schema name [] e = absurd (omega (arith, e))
+full_schema name (a ∷ []) e = absurd (omega (arith, e))
+full_schema name (a ∷ b ∷ []) e = refl
+full_schema name (a ∷ b ∷ c ∷ rest) e = absurd (omega (arith, e))
 
 full_import : (name : Text) (ops : List Text) → length ops ≡ 2 → operands_fault (import_top name) ops ≡ []
 unfolding clap_on_literals
@@ -192,6 +199,9 @@ module _ (word : Text) (words ops : List Text) (is : operands words ≡ Some ops
   right_faultless parameters.Table a own right =
       subst (λ (x : App). IsFaultless x (word ∷ words)) (sym own)
       (refl, (reads_operands (table_app word) word words ops is refl refl (table_plain word)).fault ∙ full_table word ops (eqb-true (length ops) 2 right))
+  right_faultless parameters.TableToDescribe a own right =
+      subst (λ (x : App). IsFaultless x (word ∷ words)) (sym own)
+      (refl, (reads_operands (schema_app word) word words ops is refl refl (schema_plain word)).fault ∙ full_schema word ops (eqb-true (length ops) 2 right))
   right_faultless parameters.TableToImport a own right =
       subst (λ (x : App). IsFaultless x (word ∷ words)) (sym own)
       (refl, (reads_operands (import_app word) word words ops is refl refl (import_plain word)).fault ∙ full_import word ops (eqb-true (length ops) 2 right))
@@ -240,6 +250,10 @@ is_create : (word : Text) → bytes_eq (codes "create") word ≡ true → parame
 unfolding names_file names_table other_parameters parameters_of
 is_create word e = named_as parameters.TableAndFields (codes "create") word e refl
 
+is_append : (word : Text) → bytes_eq (codes "append") word ≡ true → parameters_of word ≡ parameters.TableAndRows
+unfolding names_file names_table other_parameters parameters_of
+is_append word e = named_as parameters.TableAndRows (codes "append") word e refl
+
 is_query : (word : Text) → bytes_eq (codes "query") word ≡ true → parameters_of word ≡ parameters.TableAndQuery
 unfolding names_file names_table other_parameters parameters_of
 is_query word e = named_as parameters.TableAndQuery (codes "query") word e refl
@@ -274,6 +288,7 @@ module _ (word : Text) (words : List Text) (m : ArgMatches) (a : App) (own : IsO
     sectors = sectors_right (bytes_eq (codes "format") word) (bytes_eq (codes "copy") word) refl refl;
     version = λ e. no_number _ (asks_newest word words m a own parsed (is_format word e) ops is);
     like = λ e. inl (asks_own_fields word words m a own parsed (is_create word e) ops is);
+    complete = λ e. inr (asks_no_end word words m a own parsed (is_append word e) ops is);
     limit = λ e. no_number _ (asks_all word words m a own parsed (is_query word e) ops is).limit;
     printed = λ e. inl (asks_all word words m a own parsed (is_query word e) ops is).save;
     size = λ e. absurd (no_replay word ops right e);
@@ -360,6 +375,7 @@ unfolding clap_on_literals
 own_free word parameters.Nothing a own = rw own refl
 own_free word parameters.FileAndForm a own = rw own refl
 own_free word parameters.Table a own = rw own refl
+own_free word parameters.TableToDescribe a own = rw own refl
 own_free word parameters.TableToImport a own = rw own refl
 own_free word parameters.TableAndNewName a own = rw own refl
 own_free word parameters.Sectors a own = rw own refl
@@ -380,6 +396,9 @@ found_takable word m rows same is =
       sectors = λ e. subst (λ (o : Option Text). is_number (unwrap_or o []) ≡ true) (first (codes "SECTORS")) (is.sectors e);
       version = λ e. number (codes "format-version") (is.version e);
       like = λ e. subst₂ (λ (o p : Option Text). (o ≡ None) ⊎ (p ≡ None)) (first (codes "like")) (first (codes "FIELD")) (is.like e);
+      complete =
+          λ e. subst₂ (λ (o p : Option Text). (bytes_eq (unwrap_or o []) (codes "stream") ≡ true) ⊎ (p ≡ Some (codes "false"))) (first (codes "as"))
+          (found_one m rows (codes "complete") same) (is.complete e);
       limit = λ e. number (codes "limit") (is.limit e);
       printed =
           λ e. subst₂ (λ (o p : Option Text). (o ≡ None) ⊎ (p ≡ Some (codes "false"))) (first (codes "save")) (found_one m rows (codes "objects") same) (is.printed e);

@@ -76,9 +76,13 @@ table_app name = with_rule (store_app name) (required_rule (codes "NAME"))
 abbrev pub rename_app : Text → App
 rename_app name = with_rule (table_app name) (required_rule (codes "NEW"))
 
--- a command that also says whether the table must be new
+-- a command that also says how the fields of the table are printed
+abbrev pub schema_app : Text → App
+schema_app name = with_rule (table_app name) (flag_rule (codes "fields"))
+
+-- a command that also says whether the table must be new, and whether the stream must have its end
 abbrev pub import_app : Text → App
-import_app name = with_rule (table_app name) (flag_rule (codes "new"))
+import_app name = with_rule (with_rule (table_app name) (flag_rule (codes "new"))) (flag_rule (codes "complete"))
 
 -- a word that may be given any number of times
 abbrev pub repeated_rule : Text → Rule
@@ -91,7 +95,7 @@ fields_app name = with_rule (table_app name) (repeated_rule (codes "FIELD"))
 abbrev pub create_app : Text → App
 create_app name = with_rule (fields_app name) (option_rule (codes "like"))
 
--- a command that takes the form of its input, by default a stream, and the text of null
+-- a command that takes the form of its input, by default a stream, the text of null, and whether a stream must have its end
 abbrev pub form_rule : ValueParser → Rule
 form_rule forms = record (option_rule (codes "as")) { parser = Some forms; defaults = codes "stream" ∷ [] }
 
@@ -103,7 +107,8 @@ abbrev pub dates_rule : ValueParser → Rule
 dates_rule dates = record (option_rule (codes "dates")) { parser = Some dates; defaults = codes "number" ∷ [] }
 
 abbrev pub append_app : (forms dates : ValueParser) → Text → App
-append_app forms dates name = with_rule (with_rule (with_rule (table_app name) (form_rule forms)) null_rule) (dates_rule dates)
+append_app forms dates name =
+    with_rule (with_rule (with_rule (with_rule (table_app name) (form_rule forms)) null_rule) (dates_rule dates)) (flag_rule (codes "complete"))
 
 -- a command that takes a query, and a name to save it under
 abbrev pub limit_rule : Rule
@@ -156,6 +161,7 @@ abbrev pub IsAppWith : Text → Parameters → App → Type 0
 IsAppWith name parameters.Nothing command = command ≡ store_app name
 IsAppWith name parameters.FileAndForm command = command ≡ info_app name
 IsAppWith name parameters.Table command = command ≡ table_app name
+IsAppWith name parameters.TableToDescribe command = command ≡ schema_app name
 IsAppWith name parameters.TableToImport command = command ≡ import_app name
 IsAppWith name parameters.TableAndNewName command = command ≡ rename_app name
 IsAppWith name parameters.Sectors command = command ≡ format_app name
@@ -172,7 +178,8 @@ other_parameters word =
     if bytes_eq (codes "format") word then parameters.Sectors
     else (if bytes_eq (codes "copy") word then parameters.NewStore else (if bytes_eq (codes "create") word then parameters.TableAndFields else (if bytes_eq
     (codes "append") word then parameters.TableAndRows else (if bytes_eq (codes "replay") word then parameters.ScriptAndFaults else (if bytes_eq
-    (codes "info") word then parameters.FileAndForm else (if bytes_eq (codes "import") word then parameters.TableToImport else parameters.TableAndQuery))))))
+    (codes "info") word then parameters.FileAndForm else (if bytes_eq (codes "import") word then parameters.TableToImport else (if bytes_eq
+    (codes "schema") word then parameters.TableToDescribe else parameters.TableAndQuery)))))))
 
 unfoldable pub parameters_of : Text → Parameters
 parameters_of word =
@@ -222,20 +229,29 @@ HasTextForm found (text_forms.JsonLines date_form) = (value_of found (codes "as"
 
 -- a command has the names that were found
 abbrev pub HasNames : Found → StoreCommand → Type 0
-HasNames found (commands.Import name) = (name.now ≡ value_of found (codes "NAME")) × HasFlag found (codes "new") false
-HasNames found (commands.ImportNew name) = (name.now ≡ value_of found (codes "NAME")) × HasFlag found (codes "new") true
+HasNames found (commands.Import name) =
+    (name.now ≡ value_of found (codes "NAME")) × HasFlag found (codes "new") false × HasFlag found (codes "complete") false
+HasNames found (commands.ImportNew name) =
+    (name.now ≡ value_of found (codes "NAME")) × HasFlag found (codes "new") true × HasFlag found (codes "complete") false
+HasNames found (commands.ImportComplete name is_new) =
+    (name.now ≡ value_of found (codes "NAME")) × HasFlag found (codes "new") is_new × HasFlag found (codes "complete") true
 HasNames found (commands.Create name fields) =
     (name.now ≡ value_of found (codes "NAME")) × (texts fields.items ≡ values_of found (codes "FIELD")) × (first_value found (codes "like") ≡ None)
 HasNames found (commands.CreateLike name like) =
     (name.now ≡ value_of found (codes "NAME")) × (Some like.now ≡ first_value found (codes "like")) × (first_value found (codes "FIELD") ≡ None)
-HasNames found (commands.Append name) = (name.now ≡ value_of found (codes "NAME")) × (bytes_eq (value_of found (codes "as")) (codes "stream") ≡ true)
+HasNames found (commands.Append name) =
+    (name.now ≡ value_of found (codes "NAME")) × (bytes_eq (value_of found (codes "as")) (codes "stream") ≡ true) × HasFlag found (codes "complete") false
+HasNames found (commands.AppendComplete name) =
+    (name.now ≡ value_of found (codes "NAME")) × (bytes_eq (value_of found (codes "as")) (codes "stream") ≡ true) × HasFlag found (codes "complete") true
 HasNames found (commands.AppendText name form) =
     (name.now ≡ value_of found (codes "NAME")) × (bytes_eq (value_of found (codes "as")) (codes "stream") ≡ false) × HasTextForm found form
+    × HasFlag found (codes "complete") false
 HasNames found (commands.Query name query shape) = (name.now ≡ value_of found (codes "NAME")) × HasQuery found query × HasShape found shape
 HasNames found (commands.SaveAs from to query) =
     (from.now ≡ value_of found (codes "NAME")) × (Some to.now ≡ first_value found (codes "save")) × HasQuery found query × HasShape found Array
 HasNames found (commands.Drop name) = name.now ≡ value_of found (codes "NAME")
-HasNames found (commands.Schema name) = name.now ≡ value_of found (codes "NAME")
+HasNames found (commands.Schema name) = (name.now ≡ value_of found (codes "NAME")) × HasFlag found (codes "fields") false
+HasNames found (commands.SchemaFields name) = (name.now ≡ value_of found (codes "NAME")) × HasFlag found (codes "fields") true
 HasNames found (commands.Export name) = name.now ≡ value_of found (codes "NAME")
 HasNames found (commands.Info as_json) = HasFlag found (codes "json") as_json
 HasNames found (commands.Rename from to) = (from.now ≡ value_of found (codes "NAME")) × (to.now ≡ value_of found (codes "NEW"))

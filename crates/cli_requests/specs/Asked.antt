@@ -8,13 +8,15 @@ use Rattle.cli_requests.specs.declared.store_words.StoreRequest.TheVariants as r
 use Rattle.cli_requests.specs.StoreWords.{reads_word}
 
 -- `create` has the fields of a table or names one that has them, `import` replaces a table or refuses its name, `append` takes the rows of a stream or of a
--- text, and `query` prints or saves
+-- text, a stream may have to have its end, `schema` prints fields in two ways, and `query` prints or saves
 abbrev pub command_word : StoreCommand → Text
 command_word (commands.Create name fields) = codes "create"
 command_word (commands.CreateLike name like) = codes "create"
 command_word (commands.Import name) = codes "import"
 command_word (commands.ImportNew name) = codes "import"
+command_word (commands.ImportComplete name is_new) = codes "import"
 command_word (commands.Append name) = codes "append"
+command_word (commands.AppendComplete name) = codes "append"
 command_word (commands.AppendText name form) = codes "append"
 command_word (commands.Query name query form) = codes "query"
 command_word (commands.SaveAs from to query) = codes "query"
@@ -22,6 +24,7 @@ command_word (commands.Rename from to) = codes "rename"
 command_word (commands.Drop name) = codes "drop"
 command_word commands.Tables = codes "tables"
 command_word (commands.Schema name) = codes "schema"
+command_word (commands.SchemaFields name) = codes "schema"
 command_word (commands.Export name) = codes "export"
 command_word commands.Check = codes "check"
 command_word (commands.Info as_json) = codes "info"

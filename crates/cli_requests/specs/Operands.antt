@@ -30,14 +30,14 @@ operands (word ∷ rest) = if bytes_eq word (codes "--") then Some rest else (if
 abbrev pub words_after_command : List Text → List Text
 words_after_command arguments = drop 2 arguments
 
--- the commands that name a store alone, and those that name a table in it and nothing else
+-- the commands that name a store alone, and those that name a table in it, without options
 unfoldable pub names_file : Text → Bool
 names_file word =
     bytes_eq (codes "tables") word || (bytes_eq (codes "check") word || (bytes_eq (codes "compact") word || bytes_eq (codes "upgrade") word))
 
 unfoldable pub names_table : Text → Bool
 names_table word =
-    bytes_eq (codes "drop") word || (bytes_eq (codes "schema") word || (bytes_eq (codes "export") word || bytes_eq (codes "salvage") word))
+    bytes_eq (codes "drop") word || (bytes_eq (codes "export") word || bytes_eq (codes "salvage") word)
 
 -- the version of a store that the word of an option names; without the option, the newest
 abbrev pub version_named : Option Text → FormatVersion
@@ -50,7 +50,9 @@ names_in (commands.Create name fields) = name.now ∷ texts fields.items
 names_in (commands.CreateLike name like) = name.now ∷ []
 names_in (commands.Import name) = name.now ∷ []
 names_in (commands.ImportNew name) = name.now ∷ []
+names_in (commands.ImportComplete name is_new) = name.now ∷ []
 names_in (commands.Append name) = name.now ∷ []
+names_in (commands.AppendComplete name) = name.now ∷ []
 names_in (commands.AppendText name form) = name.now ∷ []
 names_in (commands.Query name query form) = name.now ∷ texts query.conditions.items
 names_in (commands.SaveAs from to query) = from.now ∷ texts query.conditions.items
@@ -58,6 +60,7 @@ names_in (commands.Rename from to) = from.now ∷ to.now ∷ []
 names_in (commands.Drop name) = name.now ∷ []
 names_in commands.Tables = []
 names_in (commands.Schema name) = name.now ∷ []
+names_in (commands.SchemaFields name) = name.now ∷ []
 names_in (commands.Export name) = name.now ∷ []
 names_in commands.Check = []
 names_in (commands.Info as_json) = []
@@ -69,6 +72,9 @@ names_in commands.Upgrade = []
 abbrev pub IsWithoutOptions : StoreCommand → Type 0
 IsWithoutOptions (commands.CreateLike name like) = ⊥
 IsWithoutOptions (commands.ImportNew name) = ⊥
+IsWithoutOptions (commands.ImportComplete name is_new) = ⊥
+IsWithoutOptions (commands.AppendComplete name) = ⊥
+IsWithoutOptions (commands.SchemaFields name) = ⊥
 IsWithoutOptions (commands.AppendText name form) = ⊥
 IsWithoutOptions (commands.Query name query shape) = (query.columns ≡ None) × (query.limit ≡ None) × (query.dates ≡ Numbers) × (shape ≡ Array)
 IsWithoutOptions (commands.SaveAs from to query) = ⊥

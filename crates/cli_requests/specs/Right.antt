@@ -26,6 +26,7 @@ abbrev pub takes : Parameters → List Text → Bool
 takes parameters.Nothing words = length words == 1
 takes parameters.FileAndForm words = length words == 1
 takes parameters.Table words = length words == 2
+takes parameters.TableToDescribe words = length words == 2
 takes parameters.TableToImport words = length words == 2
 takes parameters.TableAndNewName words = length words == 3
 takes parameters.Sectors words = are_file_and_number words
@@ -49,14 +50,16 @@ IsLost word = (word ≡ codes "lost") ⊎ ((number : Text) × (word ≡ codes "l
 abbrev pub NamesChoice : Text → Type 0
 NamesChoice word = (word ≡ codes "old") ⊎ ((word ≡ codes "new") ⊎ ((is_number word ≡ true) ⊎ IsLost word))
 
--- what is found for a command can be asked for: numbers have digits alone, fields are not given beside a table that has them, saved rows are not asked
--- for as objects, and the choice is valid
-pub record IsTakable (word : Text) (first : Text → Option Text) (objects : Option Text) : Type 0 where
+-- what is found for a command can be asked for: numbers have digits alone, fields are not given beside a table that has them, only a stream must have its
+-- end, saved rows are not asked for as objects, and the choice is valid
+pub record IsTakable (word : Text) (first : Text → Option Text) (flag : Text → Option Text) : Type 0 where
   pub sectors : makes_word word ≡ true → is_number (unwrap_or (first (codes "SECTORS")) []) ≡ true
   pub version : bytes_eq (codes "format") word ≡ true → is_number_if_any (first (codes "format-version")) ≡ true
   pub like : bytes_eq (codes "create") word ≡ true → (first (codes "like") ≡ None) ⊎ (first (codes "FIELD") ≡ None)
+  pub complete : bytes_eq (codes "append") word ≡ true
+      → (bytes_eq (unwrap_or (first (codes "as")) []) (codes "stream") ≡ true) ⊎ (flag (codes "complete") ≡ Some (codes "false"))
   pub limit : bytes_eq (codes "query") word ≡ true → is_number_if_any (first (codes "limit")) ≡ true
-  pub printed : bytes_eq (codes "query") word ≡ true → (first (codes "save") ≡ None) ⊎ (objects ≡ Some (codes "false"))
+  pub printed : bytes_eq (codes "query") word ≡ true → (first (codes "save") ≡ None) ⊎ (flag (codes "objects") ≡ Some (codes "false"))
   pub size : bytes_eq (codes "replay") word ≡ true → is_number_if_any (first (codes "sectors")) ≡ true
   pub fail : bytes_eq (codes "replay") word ≡ true → is_number_if_any (first (codes "fail")) ≡ true
   pub stop : bytes_eq (codes "replay") word ≡ true → is_number_if_any (first (codes "stop")) ≡ true
@@ -64,10 +67,10 @@ pub record IsTakable (word : Text) (first : Text → Option Text) (objects : Opt
   pub played : bytes_eq (codes "replay") word ≡ true → is_number_if_any (first (codes "format-version")) ≡ true
 
 abbrev pub IsFoundTakable : Text → Found → Type 0
-IsFoundTakable word found = IsTakable word (first_value found) (one_text found (codes "objects"))
+IsFoundTakable word found = IsTakable word (first_value found) (one_text found)
 
 abbrev pub AreRowsTakable : Text → List Row → Type 0
-AreRowsTakable word rows = IsTakable word (λ id. first_of id rows) (one_of (codes "objects") rows)
+AreRowsTakable word rows = IsTakable word (λ id. first_of id rows) (λ id. one_of id rows)
 
 -- `clap` finds no fault in the words of the command, by its own definition, and what it finds can be asked for
 abbrev pub AreTaken : List Text → Type 0

@@ -40,7 +40,8 @@ table has no columns. With --like it has those of another table, and its metadat
         example: "Example: arrowstore import store measurements < readings.arrows
 
 With --new, a table of this name is not replaced: it is refused (S2 NameTaken), and
-nothing is read. For CSV and JSON Lines use create, and then append with --as.",
+nothing is read. With --complete, the stream must end with its end-of-stream marker
+(F30 NoEnd). For CSV and JSON Lines use create, and then append with --as.",
     },
     CommandHelp {
         name: "append",
@@ -87,7 +88,10 @@ since 1970-01-01; with --dates iso they are as in 2026-11-30 or
     CommandHelp {
         name: "schema",
         about: abouts::SCHEMA,
-        example: "Example: arrowstore schema store measurements",
+        example: "Example: arrowstore schema store measurements
+
+With --fields it prints what create takes, a field a line. A table with metadata, or with
+names that create does not take, is refused then (P3 NoText).",
     },
     CommandHelp {
         name: "check",

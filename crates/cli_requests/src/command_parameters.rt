@@ -3,7 +3,7 @@ ghost use Rattle.std.specs.Prelude.{◌≡◌, false, codes, IfOk};
 ghost use Rattle.clap.specs.Words.{app_of, new_app, rule_of, with_rule};
 ghost use Rattle.clap.specs.declared.builder.value_parser.ValueParser.{ValueParser};
 ghost use Rattle.cli_requests.specs.Apps.{required_rule, flag_rule, sectors_rule, version_rule, repeated_rule, option_rule, form_rule, null_rule, dates_rule, query_dates_rule, limit_rule};
-ghost use Rattle.cli_requests.specs.Apps.{store_app, info_app, format_app, new_file_app, copy_app, table_app, import_app, rename_app, fields_app, create_app, append_app, conditions_app, query_app};
+ghost use Rattle.cli_requests.specs.Apps.{store_app, info_app, format_app, new_file_app, copy_app, table_app, import_app, rename_app, fields_app, schema_app, create_app, append_app, conditions_app, query_app};
 ghost use Rattle.cli_requests.specs.Apps.{AreForms, AreDateForms, other_parameters, parameters_of, IsOwnApp};
 ghost use Rattle.cli_requests.specs.Operands.{names_file, names_table};
 
@@ -27,6 +27,7 @@ enum Parameters {
     Sectors,
     NewStore,
     Table,
+    TableToDescribe,
     TableToImport,
     TableAndFields,
     TableAndRows,
@@ -159,7 +160,7 @@ fn names_file(word: &str) -> bool
 fn names_table(word: &str) -> bool
     ensures { result ≡ names_table word.now }
 {
-    matches!(word, "drop" | "schema" | "export" | "salvage")
+    matches!(word, "drop" | "export" | "salvage")
 }
 
 #[tactic(auto, unfolding(crate::specs::Apps::other_parameters))]
@@ -174,6 +175,7 @@ fn other_parameters(word: &str) -> Parameters
         "replay" => Parameters::ScriptAndFaults,
         "info" => Parameters::FileAndForm,
         "import" => Parameters::TableToImport,
+        "schema" => Parameters::TableToDescribe,
         _ => Parameters::TableAndQuery,
     }
 }
@@ -232,15 +234,38 @@ fn with_table<'a>(alloc: Global, name: &'a str) -> Result<Command<'a>, AllocErro
     with_file(alloc, name)?.arg(required(alloc, "NAME", "The name of the table"))
 }
 
-// Makes a command that takes `--new`.
-fn with_import<'a>(alloc: Global, name: &'a str) -> Result<Command<'a>, AllocError>
-    ensures { IfOk result (λ c. app_of c ≡ import_app name.now) }
+// Makes a command that takes `--fields`.
+fn with_description<'a>(alloc: Global, name: &'a str) -> Result<Command<'a>, AllocError>
+    ensures { IfOk result (λ c. app_of c ≡ schema_app name.now) }
 {
     with_table(alloc, name)?.arg(flag(
         alloc,
-        "new",
-        "Replaces no table: the name of a table is refused before the input is read",
+        "fields",
+        "Prints each field as create takes it, or refuses if a field can't be typed in",
     ))
+}
+
+fn complete<'a>(alloc: Global) -> Arg<'a>
+    ensures { (rule_of result ≡ flag_rule (codes "complete")) × (result.global ≡ false) }
+{
+    flag(
+        alloc,
+        "complete",
+        "Refuses a stream without its end-of-stream marker, as one whose writer ended early; not for CSV and JSON Lines",
+    )
+}
+
+// Makes a command that takes `--new` and `--complete`.
+fn with_import<'a>(alloc: Global, name: &'a str) -> Result<Command<'a>, AllocError>
+    ensures { IfOk result (λ c. app_of c ≡ import_app name.now) }
+{
+    with_table(alloc, name)?
+        .arg(flag(
+            alloc,
+            "new",
+            "Replaces no table: the name of a table is refused before the input is read",
+        ))?
+        .arg(complete(alloc))
 }
 
 fn with_new_name<'a>(alloc: Global, name: &'a str) -> Result<Command<'a>, AllocError>
@@ -292,7 +317,7 @@ pub(crate) fn with_new_table<'a>(alloc: Global, name: &'a str) -> Result<Command
     ))
 }
 
-// Makes a command that takes the form of its input.
+// Makes a command that takes the form of its input, and whether a stream must have its end.
 fn with_rows<'a>(alloc: Global, name: &'a str) -> Result<Command<'a>, AllocError>
     ensures { IfOk result (λ c. (forms : ValueParser) × AreForms forms × (dates : ValueParser) × AreDateForms dates
         × (app_of c ≡ append_app forms dates name.now)) }
@@ -300,7 +325,8 @@ fn with_rows<'a>(alloc: Global, name: &'a str) -> Result<Command<'a>, AllocError
     with_table(alloc, name)?
         .arg(form(alloc))?
         .arg(null_text(alloc))?
-        .arg(dates(alloc))
+        .arg(dates(alloc))?
+        .arg(complete(alloc))
 }
 
 fn with_conditions<'a>(alloc: Global, name: &'a str) -> Result<Command<'a>, AllocError>
@@ -349,6 +375,7 @@ fn command<'a>(alloc: Global, name: &'a str) -> Result<Command<'a>, AllocError>
         Parameters::Nothing => with_file(alloc, name),
         Parameters::FileAndForm => with_form(alloc, name),
         Parameters::Table => with_table(alloc, name),
+        Parameters::TableToDescribe => with_description(alloc, name),
         Parameters::TableToImport => with_import(alloc, name),
         Parameters::TableAndNewName => with_new_name(alloc, name),
         Parameters::Sectors => with_sectors(alloc, name),

@@ -11,10 +11,12 @@ use values::Table;
 fn name_of<'a>(command: &StoreCommand<'a>) -> Option<&'a str> {
     match command {
         StoreCommand::Append { name }
+        | StoreCommand::AppendComplete { name }
         | StoreCommand::AppendText { name, .. }
         | StoreCommand::Query { name, .. }
         | StoreCommand::Drop { name }
         | StoreCommand::Schema { name }
+        | StoreCommand::SchemaFields { name }
         | StoreCommand::Export { name } => Some(name),
         StoreCommand::SaveAs { from, .. } | StoreCommand::Rename { from, .. } => Some(from),
         StoreCommand::CreateLike { like, .. } => Some(like),
@@ -28,7 +30,8 @@ fn new_name_of<'a>(command: &StoreCommand<'a>) -> Option<&'a str> {
         StoreCommand::Create { name, .. }
         | StoreCommand::CreateLike { name, .. }
         | StoreCommand::Import { name }
-        | StoreCommand::ImportNew { name } => Some(name),
+        | StoreCommand::ImportNew { name }
+        | StoreCommand::ImportComplete { name, .. } => Some(name),
         StoreCommand::SaveAs { to, .. } | StoreCommand::Rename { to, .. } => Some(to),
         _ => None,
     }

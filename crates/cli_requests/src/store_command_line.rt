@@ -9,7 +9,7 @@ ghost use Rattle.cli_requests.specs.Operands.{Names};
 ghost use Rattle.cli_requests.specs.Right.{AreRightWords, IsFoundTakable, IsReadFrom};
 ghost use Rattle.cli_requests.specs.StoreWords.{is_store_word, has_own_request, is_of_store, first_word};
 
-use crate::command_parameters::{cli_commands, own_command, with_new_table, with_query};
+use crate::command_parameters::{cli_commands, own_command, with_new_table, with_query, with_rows};
 use crate::found_values::{limit_of, sectors_of, version_in, word, words_of};
 use crate::replaying::replay_request;
 use crate::store_words::is_help_word;
@@ -232,26 +232,56 @@ fn import_command<'a>(name: &'a str, words: &ArgMatches<'a>) -> StoreCommand<'a>
     ensures word { command_word result ≡ codes "import" }
     ensures named { HasNames (found_of words.now) result }
 {
-    if has_flag(words, "new") {
-        StoreCommand::ImportNew { name }
-    } else {
-        StoreCommand::Import { name }
+    let is_new = has_flag(words, "new");
+    match (has_flag(words, "complete"), is_new) {
+        (true, is_new) => StoreCommand::ImportComplete { name, is_new },
+        (false, true) => StoreCommand::ImportNew { name },
+        (false, false) => StoreCommand::Import { name },
     }
 }
 
-// Rows are appended from a stream or from a text.
-fn append_command<'a>(name: &'a str, words: &ArgMatches<'a>) -> StoreCommand<'a>
+// Either the fields are printed as `create` takes them, or with the names of all parts.
+fn schema_command<'a>(name: &'a str, words: &ArgMatches<'a>) -> StoreCommand<'a>
     requires { name.now ≡ value_of (found_of words.now) (codes "NAME") }
-    ensures word { command_word result ≡ codes "append" }
+    ensures word { command_word result ≡ codes "schema" }
     ensures named { HasNames (found_of words.now) result }
 {
-    let form = word(words, "as");
-    if form == "stream" {
-        return StoreCommand::Append { name };
+    if has_flag(words, "fields") {
+        StoreCommand::SchemaFields { name }
+    } else {
+        StoreCommand::Schema { name }
     }
-    StoreCommand::AppendText {
-        name,
-        form: text_form(form, words),
+}
+
+fn complete_text(alloc: Global) -> Result<Mistake, AllocError> {
+    let mut command = with_rows(alloc, "append")?.bin_name("arrowstore append")?;
+    let error = command.error(
+        ErrorKind::ArgumentConflict,
+        "the argument '--complete' cannot be used with '--as <FORM>' for a text",
+    )?;
+    Ok(Mistake::Words(error))
+}
+
+// Rows are appended from a stream or from a text. A text has no end that could be asked for.
+fn append_command<'a>(
+    alloc: Global,
+    name: &'a str,
+    words: &ArgMatches<'a>,
+) -> Result<StoreCommand<'a>, Mistake>
+    requires { name.now ≡ value_of (found_of words.now) (codes "NAME") }
+    ensures word { IfOk result (λ command. command_word command ≡ codes "append") }
+    ensures named { IfOk result (HasNames (found_of words.now)) }
+    ensures taken { IsFoundTakable (codes "append") (found_of words.now) → IfErr result IsOfMemory }
+{
+    let form = word(words, "as");
+    match (form == "stream", has_flag(words, "complete")) {
+        (true, false) => Ok(StoreCommand::Append { name }),
+        (true, true) => Ok(StoreCommand::AppendComplete { name }),
+        (false, false) => Ok(StoreCommand::AppendText {
+            name,
+            form: text_form(form, words),
+        }),
+        (false, true) => Err(complete_text(alloc)?),
     }
 }
 
@@ -354,14 +384,14 @@ fn command_of<'a>(
     match command {
         "create" => create_command(alloc, name, words),
         "import" => Ok(import_command(name, words)),
-        "append" => Ok(append_command(name, words)),
+        "append" => append_command(alloc, name, words),
         "query" => query_command(alloc, name, words),
         "rename" => Ok(StoreCommand::Rename {
             from: name,
             to: word(words, "NEW"),
         }),
         "drop" => Ok(StoreCommand::Drop { name }),
-        "schema" => Ok(StoreCommand::Schema { name }),
+        "schema" => Ok(schema_command(name, words)),
         "export" => Ok(StoreCommand::Export { name }),
         "check" => Ok(StoreCommand::Check),
         "info" => Ok(StoreCommand::Info {

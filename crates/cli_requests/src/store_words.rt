@@ -69,8 +69,17 @@ pub enum StoreCommand<'a> {
     ImportNew {
         name: &'a str,
     },
+    /// Makes the table of a stream that must have its end, in place of one of this name, or only if there is none.
+    ImportComplete {
+        name: &'a str,
+        is_new: bool,
+    },
     /// Appends the rows of a stream to the table.
     Append {
+        name: &'a str,
+    },
+    /// Appends the rows of a stream that must have its end.
+    AppendComplete {
         name: &'a str,
     },
     /// Appends the rows of a text to the table.
@@ -105,6 +114,10 @@ pub enum StoreCommand<'a> {
     Schema {
         name: &'a str,
     },
+    /// Prints the texts by which the fields of a table are typed in.
+    SchemaFields {
+        name: &'a str,
+    },
     /// Writes the stream of a table.
     Export {
         name: &'a str,
@@ -132,6 +145,7 @@ impl StoreCommand<'_> {
             StoreCommand::Query { .. }
                 | StoreCommand::Tables
                 | StoreCommand::Schema { .. }
+                | StoreCommand::SchemaFields { .. }
                 | StoreCommand::Export { .. }
                 | StoreCommand::Check
                 | StoreCommand::Info { .. }

@@ -3,3 +3,4 @@ pub mod Told
 pub mod LeftOut
 pub mod OwnTexts
 pub mod Ending
+pub mod Escaped

@@ -12,6 +12,7 @@ mod Moves
 mod Parts
 mod Shorter
 mod Testing
+mod Typing
 mod Again
 mod Parsing
 mod Worked

@@ -1,5 +1,6 @@
 -- The result of parsing field texts (docs/definitions/field_texts.md).
-use Rattle.std.specs.Prelude.{◌≡◌, ◌⊎◌, ℕ, ◌+◌, ◌<◌, true, false, List, [], ◌∷◌, length, get_or, Result, Ok, Err}
+use Rattle.std.specs.Prelude.{◌≡◌, ◌⊎◌, ℕ, ◌+◌, ◌<◌, true, false, List, [], ◌∷◌, length, get_or, Option, None, Some, String, string_bytes, Result, Ok, Err}
+use Rattle.std.specs.Global.{Global}
 use Rattle.field_texts.specs.declared.parse.ParseError.{ParseError}
 use Rattle.field_texts.specs.declared.parse.ParseError.TheVariants.{BadText, Limit, OutOfMemory}
 use Rattle.arrow_schema.specs.Column.{Column, PlainSchema}
@@ -46,3 +47,12 @@ IsReported texts (Ok columns) = AreTextsOf texts columns × IsWithinLimits (sche
 IsReported texts (Err (BadText number)) = IsBadText texts number
 IsReported texts (Err Limit) = IsPastNumber texts ⊎ IsPastLimits texts
 IsReported texts (Err OutOfMemory) = Unit {0}
+
+-- the text alone is taken for this column
+abbrev pub IsTakenFor : List ℕ → Column → Type 0
+IsTakenFor text c = IsReported (text ∷ []) (Ok (c ∷ []))
+
+-- a text that is taken for this column, or none if there is no such text
+abbrev pub IsTypedAs : Column → Option (String Global) → Type 0
+IsTypedAs c (Some text) = IsTakenFor (string_bytes text) c
+IsTypedAs c None = (text : List ℕ) → ¬ IsTakenFor text c

@@ -9,7 +9,7 @@
 mod progress;
 
 use arrowstore::{
-    Audience, Failures, KeptStart, WatchedOutput, asks_to_wait, report_stream_to_terminal,
+    Audience, Failures, KeptStart, ShownOutput, WatchedOutput, asks_to_wait, report_stream_to_terminal,
     report_unreadable_arguments, run_with_files, writes_stream,
 };
 use progress::{ProgressFiles, ProgressLine, ProgressReader, ProgressWriter, Target};
@@ -41,7 +41,10 @@ fn main(rt: HostRuntime) -> ExitCode {
                 ProgressReader::new(rt.reader(), line.as_ref()),
                 audience,
             ),
-            &mut WatchedOutput::new(ProgressWriter::new(rt.stdout(), line.as_ref(), target)),
+            &mut WatchedOutput::new(ShownOutput::new(
+                ProgressWriter::new(rt.stdout(), line.as_ref(), target),
+                rt.stdout().is_terminal(),
+            )),
             &mut errors,
             &failures,
             audience,

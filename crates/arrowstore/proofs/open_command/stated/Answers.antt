@@ -21,6 +21,14 @@ pub returns-in-ImportNew-clause-reads : goal.returns-in-ImportNew-clause-reads
 unfolding takes_input_word
 returns-in-ImportNew-clause-reads c = rw c.in-ImportNew.is refl
 
+pub returns-in-ImportComplete-clause-reads : goal.returns-in-ImportComplete-clause-reads
+unfolding takes_input_word
+returns-in-ImportComplete-clause-reads c = rw c.in-ImportComplete.is refl
+
+pub returns-in-AppendComplete-clause-reads : goal.returns-in-AppendComplete-clause-reads
+unfolding takes_input_word
+returns-in-AppendComplete-clause-reads c = rw c.in-AppendComplete.is refl
+
 pub returns-in-Append-clause-reads : goal.returns-in-Append-clause-reads
 unfolding takes_input_word
 returns-in-Append-clause-reads c = rw c.in-Append.is refl
@@ -52,6 +60,10 @@ returns-in-Tables-clause-reads c = rw c.in-Tables.is refl
 pub returns-in-Schema-clause-reads : goal.returns-in-Schema-clause-reads
 unfolding takes_input_word
 returns-in-Schema-clause-reads c = rw c.in-Schema.is refl
+
+pub returns-in-SchemaFields-clause-reads : goal.returns-in-SchemaFields-clause-reads
+unfolding takes_input_word
+returns-in-SchemaFields-clause-reads c = rw c.in-SchemaFields.is refl
 
 pub returns-in-Export-clause-reads : goal.returns-in-Export-clause-reads
 unfolding takes_input_word
@@ -87,6 +99,14 @@ pub returns-in-ImportNew-clause-stated : goal.returns-in-ImportNew-clause-stated
 unfolding States
 returns-in-ImportNew-clause-stated c = rw c.in-ImportNew.is refl
 
+pub returns-in-ImportComplete-clause-stated : goal.returns-in-ImportComplete-clause-stated
+unfolding States
+returns-in-ImportComplete-clause-stated c = rw c.in-ImportComplete.is (refl, refl)
+
+pub returns-in-AppendComplete-clause-stated : goal.returns-in-AppendComplete-clause-stated
+unfolding States
+returns-in-AppendComplete-clause-stated c = rw c.in-AppendComplete.is refl
+
 pub returns-in-Append-clause-stated : goal.returns-in-Append-clause-stated
 unfolding States
 returns-in-Append-clause-stated c = rw c.in-Append.is refl
@@ -102,6 +122,10 @@ returns-in-Tables-clause-stated c = rw c.in-Tables.is tt
 pub returns-in-Schema-clause-stated : goal.returns-in-Schema-clause-stated
 unfolding States
 returns-in-Schema-clause-stated c = rw c.in-Schema.is refl
+
+pub returns-in-SchemaFields-clause-stated : goal.returns-in-SchemaFields-clause-stated
+unfolding States
+returns-in-SchemaFields-clause-stated c = rw c.in-SchemaFields.is refl
 
 pub returns-in-Export-clause-stated : goal.returns-in-Export-clause-stated
 unfolding States

@@ -1,4 +1,4 @@
-use Rattle.std.proofs.Common.{inr, refl}
+use Rattle.std.proofs.Common.{inr, refl, sym, true≢false}
 use Rattle.arrowstore.specs.declared.open_command.OpenCommand.TheVariants as opened
 use Rattle.arrowstore.specs.Serving.{channels, Serves}
 use Rattle.arrowstore.proofs.ServingLemmas.{serves_import, serves_new, serves_append, serves_text, serves_as}
@@ -40,6 +40,32 @@ returns-in-AppendText-clause-serves g c =
     let new = c.append_text.new in
     serves_text g.R.Read.remaining g.W.Write.contents c.args.command c.in-AppendText.name c.args.store.now new.store (channels c.args.input.now c.args.output.now c.args.hint.now)
     (channels new.input new.output new.hint) c.append_text.result c.in-AppendText.form c.in-AppendText.is (record { goes = e.goes; told = e.told; refused = e.refused; hinted = e.hint; written = e.written })
+
+pub returns-in-ImportComplete-clause-serves : goal.returns-in-ImportComplete-clause-serves
+unfolding Serves
+returns-in-ImportComplete-clause-serves g c =
+    let e = c.import_complete.ensures in
+    let new = c.import_complete.new in
+    serves_as g.R.Read.remaining g.W.Write.contents c.args.command (opened.ImportComplete c.in-ImportComplete.name c.in-ImportComplete.is_new) c.args.store.now new.store
+    (channels c.args.input.now c.args.output.now c.args.hint.now) (channels new.input new.output c.args.hint.now) c.import_complete.result c.in-ImportComplete.is
+    (record { refused = e.taken; goes = e.goes; told = e.told; written = e.written; unhinted = refl })
+
+pub returns-in-AppendComplete-clause-serves : goal.returns-in-AppendComplete-clause-serves
+unfolding Serves
+returns-in-AppendComplete-clause-serves g c =
+    let e = c.append_complete.ensures in
+    let new = c.append_complete.new in
+    serves_as g.R.Read.remaining g.W.Write.contents c.args.command (opened.AppendComplete c.in-AppendComplete.name) c.args.store.now new.store
+    (channels c.args.input.now c.args.output.now c.args.hint.now) (channels new.input new.output c.args.hint.now) c.append_complete.result c.in-AppendComplete.is
+    (record { refused = λ t. absurd (true≢false (sym t)); goes = λ _. e.goes; told = λ _. e.told; written = e.written; unhinted = refl })
+
+pub returns-in-SchemaFields-clause-serves : goal.returns-in-SchemaFields-clause-serves
+unfolding Serves
+returns-in-SchemaFields-clause-serves g c =
+    let e = c.print_fields.ensures in
+    let new = c.print_fields.new in
+    serves_as g.R.Read.remaining g.W.Write.contents c.args.command (opened.SchemaFields c.in-SchemaFields.name) c.args.store.now c.args.store.now (channels c.args.input.now c.args.output.now c.args.hint.now)
+    (channels c.args.input.now new.output c.args.hint.now) c.print_fields.result c.in-SchemaFields.is (record { written = e.written; told = e.told; leaves = refl; unhinted = refl })
 
 pub returns-in-Tables-clause-unread : goal.returns-in-Tables-clause-unread
 returns-in-Tables-clause-unread g c = inr refl

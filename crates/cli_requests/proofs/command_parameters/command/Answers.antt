@@ -10,6 +10,9 @@ returns-in-FileAndForm c = own_of _ _ _ _ c.parameters_of.ensures c.in-FileAndFo
 pub returns-in-Table : goal.returns-in-Table
 returns-in-Table c = own_of _ _ _ _ c.parameters_of.ensures c.in-Table.is c.with_table.ensures
 
+pub returns-in-TableToDescribe : goal.returns-in-TableToDescribe
+returns-in-TableToDescribe c = own_of _ _ _ _ c.parameters_of.ensures c.in-TableToDescribe.is c.with_description.ensures
+
 pub returns-in-TableToImport : goal.returns-in-TableToImport
 returns-in-TableToImport c = own_of _ _ _ _ c.parameters_of.ensures c.in-TableToImport.is c.with_import.ensures
 

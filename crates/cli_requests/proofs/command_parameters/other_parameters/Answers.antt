@@ -15,4 +15,5 @@ returns-in_default c =
     let replay = other_word (codes "replay") word other.not-replay in
     let info = other_word (codes "info") word other.not-info in
     let import = other_word (codes "import") word other.not-import in
-    rw (format, copy, create, append, replay, info, import) refl
+    let schema = other_word (codes "schema") word other.not-schema in
+    rw (format, copy, create, append, replay, info, import, schema) refl
