@@ -6,10 +6,12 @@
 //! ```
 #![tactic(auto)]
 
+mod items;
 mod line;
 mod script;
 mod words;
 
+pub use items::{ScriptItem, items_of};
 pub use line::{SavedRows, ScriptLine, line_of};
 pub use script::{ScriptError, parse_script};
 pub use words::script_words;
