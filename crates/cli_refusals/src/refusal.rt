@@ -51,6 +51,8 @@ pub enum Refusal {
     Opening(OpeningRefusal),
     /// S: the open store refused.
     Store(tables::Refusal),
+    /// T1: the open store refused this line of a script, counted from 1, and so all lines that are one commit with it.
+    Line(u64, tables::Refusal),
     /// Memory was refused.
     OutOfMemory,
 }
@@ -147,6 +149,7 @@ impl fmt::Display for Refusal {
             Refusal::Query(refusal) => write!(f, "{refusal}"),
             Refusal::Opening(refusal) => write!(f, "{refusal}"),
             Refusal::Store(refusal) => write!(f, "{refusal}"),
+            Refusal::Line(line, refusal) => write!(f, "T1 Line {line} {refusal}"),
             Refusal::OutOfMemory => f.write_str("OutOfMemory"),
         }
     }

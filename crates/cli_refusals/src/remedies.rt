@@ -384,7 +384,7 @@ impl Refusal {
             Refusal::Text(refused) => text_remedy(refused.refusal),
             Refusal::Query(reason) => query_remedy(reason),
             Refusal::Opening(refusal) => opening_remedy(refusal),
-            Refusal::Store(refusal) => store_remedy(refusal),
+            Refusal::Store(refusal) | Refusal::Line(_, refusal) => store_remedy(refusal),
             Refusal::OutOfMemory => MORE_MEMORY,
         }
     }

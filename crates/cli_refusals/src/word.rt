@@ -186,7 +186,8 @@ impl Refusal {
             Refusal::Text(refused) => text_word(refused.refusal),
             Refusal::Query(reason) => query_word(reason),
             Refusal::Opening(refusal) => opening_word(refusal),
-            Refusal::Store(refusal) => store_word(refusal, known),
+            // A line of a script has the word of its own refusal.
+            Refusal::Store(refusal) | Refusal::Line(_, refusal) => store_word(refusal, known),
             Refusal::OutOfMemory => OUT_OF_MEMORY,
         }
     }

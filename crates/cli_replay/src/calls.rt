@@ -50,11 +50,13 @@ fn save(alloc: Global, from: &str, to: &str, rows: &SavedRows<'_>) -> Result<Com
     })
 }
 
-fn call_of<F: Read + OpenFile + Drop, H: Files<File = F> + AllocGlobal>(
+// Returns the command on tables that a line is, or `None` for another line. Reads the file that it names.
+fn command_of<F: Read + OpenFile + Drop, H: Files<File = F> + AllocGlobal>(
     rt: &H,
     line: &ScriptLine<'_>,
-) -> Result<Call, Refusal>
-    ensures call { IfOk result (IsCallOfLine F.remaining (plain_line line.now)) }
+) -> Result<Option<Command>, Refusal>
+    ensures command { IfOk result (λ found. IfSome found (λ c. IsCommandOfLine F.remaining (plain_line line.now) (command_of c))) }
+    ensures listed { IfOk result (λ found. is_some found ≡ is_listed (plain_line line.now)) }
     ensures told { IfErr result IsOfReading }
 {
     let command = match line {
@@ -70,24 +72,79 @@ fn call_of<F: Read + OpenFile + Drop, H: Files<File = F> + AllocGlobal>(
         ScriptLine::Save { from, to, rows } => save(rt.alloc(), from, to, rows)?,
         ScriptLine::Rename { from, to } => rename_table(rt.alloc(), from, to)?,
         ScriptLine::Drop { name } => drop_table(rt.alloc(), name)?,
-        ScriptLine::Compact => return Ok(Call::Compact),
-        ScriptLine::Upgrade => return Ok(Call::Upgrade),
-        ScriptLine::Reopen => return Ok(Call::Open),
+        _ => return Ok(None),
     };
-    Ok(Call::Apply(command))
+    Ok(Some(command))
 }
 
-/// Returns a call for each line. Reads all files that the lines name.
-pub(crate) fn calls_of<F: Read + OpenFile + Drop, H: Files<File = F> + AllocGlobal>(
+fn call_of<F: Read + OpenFile + Drop, H: Files<File = F> + AllocGlobal>(
     rt: &H,
-    lines: &[ScriptLine<'_>],
-) -> Result<Vec<Call>, Refusal>
-    ensures calls { IfOk result (λ calls. AreCallsOfLines F.remaining (plain_lines lines.now) calls.items) }
+    line: &ScriptLine<'_>,
+) -> Result<Call, Refusal>
+    requires { IsAlone (plain_line line.now) }
+    ensures call { IfOk result (IsCallOfLine F.remaining (plain_line line.now)) }
     ensures told { IfErr result IsOfReading }
 {
-    let mut calls = Vec::with_capacity(rt.alloc(), lines.len())?;
+    match line {
+        ScriptLine::Compact => Ok(Call::Compact),
+        ScriptLine::Upgrade => Ok(Call::Upgrade),
+        ScriptLine::Reopen => Ok(Call::Open),
+        _ => match command_of(rt, line)? {
+            Some(command) => Ok(Call::Apply(command)),
+            None => unreachable!(),
+        },
+    }
+}
+
+// Returns the commands of the lines of a list.
+fn commands_of<F: Read + OpenFile + Drop, H: Files<File = F> + AllocGlobal>(
+    rt: &H,
+    lines: &[ScriptLine<'_>],
+) -> Result<Vec<Command>, Refusal>
+    requires { list_all is_listed (plain_lines lines.now) ≡ true }
+    ensures commands { IfOk result (λ commands. AreCommandsOfLines F.remaining (plain_lines lines.now) commands.items) }
+    ensures told { IfErr result IsOfReading }
+{
+    let mut commands = Vec::with_capacity(rt.alloc(), lines.len())?;
     for line in lines {
-        let call = call_of(rt, line)?;
+        match command_of(rt, line)? {
+            Some(command) => {
+                if let Err(_) = commands.push(command) {
+                    return Err(Refusal::OutOfMemory);
+                }
+            }
+            None => unreachable!(),
+        }
+    }
+    Ok(commands)
+}
+
+fn call_of_item<F: Read + OpenFile + Drop, H: Files<File = F> + AllocGlobal>(
+    rt: &H,
+    item: &ScriptItem<'_>,
+) -> Result<Call, Refusal>
+    requires { IsRightItem (plain_item item.now) }
+    ensures call { IfOk result (IsCallOfItem F.remaining (plain_item item.now)) }
+    ensures told { IfErr result IsOfReading }
+{
+    match item {
+        ScriptItem::Line(line) => call_of(rt, line),
+        ScriptItem::List { lines, .. } => Ok(Call::ApplyAll(commands_of(rt, lines)?)),
+    }
+}
+
+/// Returns a call for each item. Reads all files that the lines name.
+pub(crate) fn calls_of<F: Read + OpenFile + Drop, H: Files<File = F> + AllocGlobal>(
+    rt: &H,
+    items: &[ScriptItem<'_>],
+) -> Result<Vec<Call>, Refusal>
+    requires { All (λ item. IsRightItem (plain_item item)) items.now }
+    ensures calls { IfOk result (λ calls. AreCallsOfItems F.remaining (map plain_item items.now) calls.items) }
+    ensures told { IfErr result IsOfReading }
+{
+    let mut calls = Vec::with_capacity(rt.alloc(), items.len())?;
+    for item in items {
+        let call = call_of_item(rt, item)?;
         if let Err(_) = calls.push(call) {
             return Err(Refusal::OutOfMemory);
         }
