@@ -3,6 +3,7 @@ use Rattle.std.proofs.Common.{◌≡◌, ◌⊎◌, ◌∙◌, ◌≤◌, ◌++�
 use Rattle.std.specs.Prelude.{unwrap_or, fold, if◌then◌else◌}
 use Rattle.std.specs.Str.{bytes_eq}
 use Rattle.clap.specs.Kinds.{Kinds, or_else}
+use Rattle.clap.specs.ValueTests.{accepts}
 use Rattle.clap.specs.Values.{reading_of, refused_kind}
 use Rattle.clap.specs.declared.parser.matches.ValueSource.TheVariants.{CommandLine}
 use Rattle.clap.specs.Words.{App, Text, fault_of, matches_of}
@@ -14,8 +15,8 @@ use Rattle.clap.specs.Lexer.{usize_max}
 use Rattle.clap.specs.declared.builder.value_parser.ValueParser.TheVariants as parsers
 use Rattle.clap.proofs.OnLiterals.{clap_on_literals}
 use Rattle.clap.specs.declared.builder.value_parser.ValueParser.{ValueParser}
-use Rattle.cli_requests.specs.Apps.{AreForms, AreDateForms, IsOwnApp, info_app, format_app, schema_app, import_app, create_app, query_app, replay_app, append_app, other_parameters, parameters_of}
-use Rattle.cli_requests.specs.Examples.{AreExamples, AreFound, AreReadAs, AreValuesRead, IsVersion, Valued, called}
+use Rattle.cli_requests.specs.Apps.{AreForms, AreDateForms, is_form, is_date_form, IsOwnApp, info_app, format_app, schema_app, import_app, create_app, query_app, replay_app, append_app, other_parameters, parameters_of}
+use Rattle.cli_requests.specs.Examples.{AreExamples, AreFound, AreReadAs, AreValuesRead, IsHow, IsVersion, Valued, called}
 use Rattle.cli_requests.specs.Numbers.{is_number, is_number_if_any}
 use Rattle.cli_requests.specs.Operands.{names_file, names_table}
 use Rattle.cli_requests.specs.Right.{AreRowsTakable, IsTakable, NamesChoice}
@@ -139,10 +140,10 @@ module _ (rest : List Text) (values : List Valued) where
   abbrev IsQueryRead : App → Type 0
   IsQueryRead a = (fault_of a words_of_query ≡ []) × AreRowsTakable (codes "query") (matches_of a words_of_query) × AreFound (matches_of a words_of_query) values
 
-  read_query : ((dates : ValueParser) → IsQueryRead (query_app dates (codes "query"))) → AreReadAs (called words_of_query) values
+  read_query : ((dates : ValueParser) → AreDateForms dates → IsQueryRead (query_app dates (codes "query"))) → AreReadAs (called words_of_query) values
   unfolding names_file names_table other_parameters parameters_of first_word
   read_query each =
-      let only : (command : App) → IsOwnApp (codes "query") command → IsQueryRead command = λ command own. subst IsQueryRead (sym own.2) (each own.0) in
+      let only : (command : App) → IsOwnApp (codes "query") command → IsQueryRead command = λ command own. subst IsQueryRead (sym own.2) (each own.0 own.1) in
       record { taken = λ command own. ((only command own).0, (only command own).1); found = λ command own. (only command own).2 }
 
 format_example : AreReadAs (called (codes "format" ∷ codes "store" ∷ codes "4096" ∷ codes "--format-version" ∷ codes "1" ∷ []))
@@ -206,19 +207,19 @@ printed_example : AreReadAs
     ((codes "STORE", codes "store" ∷ []) ∷ (codes "NAME", codes "readings" ∷ []) ∷ (codes "CONDITION", codes "value >= 7" ∷ [])
     ∷ (codes "columns", codes "id,value" ∷ []) ∷ (codes "limit", codes "10" ∷ []) ∷ (codes "objects", codes "false" ∷ []) ∷ [])
 unfolding names_file names_table other_parameters parameters_of first_word makes_word is_number walked clap_on_literals
-printed_example = read_query _ _ (λ dates. (refl, query_takable _ _ refl (inl refl), (refl, (refl, (refl, (refl, (refl, (refl, tt))))))))
+printed_example = read_query _ _ (λ dates known. (refl, query_takable _ _ refl (inl refl), (refl, (refl, (refl, (refl, (refl, (refl, tt))))))))
 
 objects_example : AreReadAs
     (called (codes "query" ∷ codes "--objects" ∷ codes "store" ∷ codes "readings" ∷ codes "a = 1" ∷ codes "--limit=10" ∷ codes "b = 2" ∷ []))
     ((codes "STORE", codes "store" ∷ []) ∷ (codes "NAME", codes "readings" ∷ []) ∷ (codes "CONDITION", codes "a = 1" ∷ codes "b = 2" ∷ [])
     ∷ (codes "limit", codes "10" ∷ []) ∷ (codes "objects", codes "true" ∷ []) ∷ [])
 unfolding names_file names_table other_parameters parameters_of first_word makes_word is_number walked clap_on_literals
-objects_example = read_query _ _ (λ dates. (refl, query_takable _ _ refl (inl refl), (refl, (refl, (refl, (refl, (refl, tt)))))))
+objects_example = read_query _ _ (λ dates known. (refl, query_takable _ _ refl (inl refl), (refl, (refl, (refl, (refl, (refl, tt)))))))
 
 saved_example : AreReadAs (called (codes "query" ∷ codes "--save=chosen" ∷ codes "store" ∷ codes "readings" ∷ []))
     ((codes "STORE", codes "store" ∷ []) ∷ (codes "NAME", codes "readings" ∷ []) ∷ (codes "save", codes "chosen" ∷ []) ∷ [])
 unfolding names_file names_table other_parameters parameters_of first_word makes_word is_number walked clap_on_literals
-saved_example = read_query _ _ (λ dates. (refl, query_takable _ _ refl (inr refl), (refl, (refl, (refl, tt)))))
+saved_example = read_query _ _ (λ dates known. (refl, query_takable _ _ refl (inr refl), (refl, (refl, (refl, tt)))))
 
 replay_example : AreReadAs
     (called (codes "replay" ∷ codes "script" ∷ codes "--sectors" ∷ codes "16" ∷ codes "--stop" ∷ codes "8" ∷ codes "--choice" ∷ codes "new" ∷ []))
@@ -321,6 +322,40 @@ append_whole_values file name = record {
       (sym own.4) (refl, (refl, (refl, (refl, tt))));
 }
 
+-- with `--dates` too
+form_is : (form : Text) → (form ≡ codes "csv") ⊎ (form ≡ codes "jsonl") → is_form form ≡ true
+form_is form (inl csv) = subst (λ (f : Text). is_form f ≡ true) (sym csv) refl
+form_is form (inr lines) = subst (λ (f : Text). is_form f ≡ true) (sym lines) refl
+
+how_is : (how : Text) → IsHow how → is_date_form how ≡ true
+how_is how (inl number) = subst (λ (h : Text). is_date_form h ≡ true) (sym number) refl
+how_is how (inr iso) = subst (λ (h : Text). is_date_form h ≡ true) (sym iso) refl
+
+module _ (form null how file name : Text) where
+  abbrev dated_words : List Text
+  dated_words = codes "append" ∷ (codes "--as=" ++ form) ∷ (codes "--null=" ++ null) ∷ (codes "--dates=" ++ how) ∷ codes "--" ∷ file ∷ name ∷ []
+
+  abbrev dated_found : List Valued
+  dated_found = (codes "STORE", file ∷ []) ∷ (codes "NAME", name ∷ []) ∷ (codes "as", form ∷ []) ∷ (codes "null", null ∷ []) ∷ (codes "dates", how ∷ []) ∷ []
+
+  abbrev IsDatedRead : App → Type 0
+  IsDatedRead a = (fault_of a dated_words ≡ []) × AreRowsTakable (codes "append") (matches_of a dated_words) × AreFound (matches_of a dated_words) dated_found
+
+  dated_read : (forms dates : ValueParser) → accepts false forms form ≡ true → accepts false dates how ≡ true → IsDatedRead (append_app forms dates (codes "append"))
+  unfolding walked clap_on_literals
+  dated_read forms dates known dated = (
+    (λ i. past (or_else (past (name_fault forms (known i))) (past (past (name_fault dates (dated i)))))),
+    append_takable _ _ (inr refl),
+    (refl, (refl, (refl, (refl, (refl, tt))))),
+  )
+
+  dated_values : (form ≡ codes "csv") ⊎ (form ≡ codes "jsonl") → IsHow how → AreReadAs (called dated_words) dated_found
+  unfolding names_file names_table other_parameters parameters_of first_word
+  dated_values is how_said =
+      let only : (command : App) → IsOwnApp (codes "append") command → IsDatedRead command = λ command own.
+      subst IsDatedRead (sym own.4) (dated_read own.0 own.2 (own.1 form ∙ form_is form is) (own.3 how ∙ how_is how how_said)) in
+      record { taken = λ command own. ((only command own).0, (only command own).1); found = λ command own. (only command own).2 }
+
 -- ---- a query, with any conditions
 
 abbrev query_shape : ValueParser → Shape
@@ -384,7 +419,7 @@ module _ (columns limit file name : Text) where
 
   objects_values : (conditions : List Text) → is_number limit ≡ true → length conditions ≤ usize_max
       → AreReadAs (called (objects_words conditions)) (objects_found conditions)
-  objects_values conditions is few = read_query _ _ (λ dates.
+  objects_values conditions is few = read_query _ _ (λ dates known.
       let rows = objects_rows dates conditions is in
       (objects_faultless dates conditions is few, rows.0, rows.1))
 
@@ -422,9 +457,96 @@ module _ (columns limit new file name : Text) where
 
   saved_values : (conditions : List Text) → is_number limit ≡ true → length conditions ≤ usize_max
       → AreReadAs (called (saved_words conditions)) (saved_found conditions)
-  saved_values conditions is few = read_query _ _ (λ dates.
+  saved_values conditions is few = read_query _ _ (λ dates known.
       let rows = saved_rows dates conditions is in
       (saved_faultless dates conditions is few, rows.0, rows.1))
+
+-- with `--dates` too
+module _ (columns limit how file name : Text) where
+  abbrev dated_objects_before : ValueParser → List Row
+  dated_objects_before dates = found_row (codes "columns") (columns ∷ []) parsers.String ∷ found_row (codes "limit") (limit ∷ []) number_parser ∷ found_row (codes "objects") (codes "true" ∷ []) parsers.Bool
+      ∷ found_row (codes "dates") (how ∷ []) dates ∷ found_row (codes "STORE") (file ∷ []) parsers.String ∷ found_row (codes "NAME") (name ∷ []) parsers.String ∷ []
+
+  abbrev dated_objects_words : List Text → List Text
+  dated_objects_words conditions =
+      codes "query" ∷ (codes "--columns=" ++ columns) ∷ (codes "--limit=" ++ limit) ∷ codes "--objects" ∷ (codes "--dates=" ++ how) ∷ codes "--" ∷ file ∷ name ∷ conditions
+
+  abbrev dated_objects_found : List Text → List Valued
+  dated_objects_found conditions = (codes "STORE", file ∷ []) ∷ (codes "NAME", name ∷ []) ∷ (codes "CONDITION", conditions) ∷ (codes "columns", columns ∷ [])
+      ∷ (codes "limit", limit ∷ []) ∷ (codes "objects", codes "true" ∷ []) ∷ (codes "dates", how ∷ []) ∷ []
+
+  abbrev IsDated_objects : List Text → List Row → Type 0
+  IsDated_objects conditions rows = AreRowsTakable (codes "query") rows × AreFound rows (dated_objects_found conditions)
+
+  dated_objects_faultless : (dates : ValueParser) (conditions : List Text) → is_number limit ≡ true → accepts false dates how ≡ true → length conditions ≤ usize_max
+      → fault_of (query_app dates (codes "query")) (dated_objects_words conditions) ≡ []
+  unfolding walked clap_on_literals
+  dated_objects_faultless dates [] is dated few =
+      λ i. past (or_else (past (past (number_kinds (number_accepted limit is i)))) (past (past (name_fault dates (dated i)))))
+  dated_objects_faultless dates (c ∷ rest) is dated few =
+      let rows = dated_objects_before dates in
+      clap.leaf_fault (built (query_app dates (codes "query"))) nothing_held (drop 1 (dated_objects_words (c ∷ rest))) refl
+      ∙ (λ i. level_with (query_shape dates)
+          (or_else (past (past (number_kinds (number_accepted limit is i)))) (or_else (past (name_fault dates (dated i))) (conditions_free dates rows c rest i)))
+          (conditions_held dates rows c rest i))
+      ∙ words_free c rest few
+
+  dated_objects_rows : (dates : ValueParser) (conditions : List Text) → is_number limit ≡ true
+      → IsDated_objects conditions (matches_of (query_app dates (codes "query")) (dated_objects_words conditions))
+  unfolding walked clap_on_literals
+  dated_objects_rows dates [] is = (query_takable _ _ is (inl refl), (refl, (refl, (refl, (refl, (refl, (refl, (refl, tt))))))))
+  dated_objects_rows dates (c ∷ rest) is =
+      subst (λ (h : Held). IsDated_objects (c ∷ rest) (finished (query_shape dates).rules h)) (sym (conditions_held dates (dated_objects_before dates) c rest))
+      (query_takable _ _ is (inl refl), (refl, (refl, (refl, (refl, (refl, (refl, (refl, tt))))))))
+
+  dated_objects_values : (conditions : List Text) → is_number limit ≡ true → IsHow how → length conditions ≤ usize_max
+      → AreReadAs (called (dated_objects_words conditions)) (dated_objects_found conditions)
+  dated_objects_values conditions is how_said few = read_query _ _ (λ dates known.
+      let rows = dated_objects_rows dates conditions is in
+      (dated_objects_faultless dates conditions is (known how ∙ how_is how how_said) few, rows.0, rows.1))
+
+module _ (columns limit new how file name : Text) where
+  abbrev dated_saved_before : ValueParser → List Row
+  dated_saved_before dates = found_row (codes "columns") (columns ∷ []) parsers.String ∷ found_row (codes "limit") (limit ∷ []) number_parser ∷ found_row (codes "save") (new ∷ []) parsers.String
+      ∷ found_row (codes "dates") (how ∷ []) dates ∷ found_row (codes "STORE") (file ∷ []) parsers.String ∷ found_row (codes "NAME") (name ∷ []) parsers.String ∷ []
+
+  abbrev dated_saved_words : List Text → List Text
+  dated_saved_words conditions =
+      codes "query" ∷ (codes "--columns=" ++ columns) ∷ (codes "--limit=" ++ limit) ∷ (codes "--save=" ++ new) ∷ (codes "--dates=" ++ how) ∷ codes "--" ∷ file ∷ name ∷ conditions
+
+  abbrev dated_saved_found : List Text → List Valued
+  dated_saved_found conditions = (codes "STORE", file ∷ []) ∷ (codes "NAME", name ∷ []) ∷ (codes "CONDITION", conditions) ∷ (codes "columns", columns ∷ [])
+      ∷ (codes "limit", limit ∷ []) ∷ (codes "save", new ∷ []) ∷ (codes "dates", how ∷ []) ∷ []
+
+  abbrev IsDated_saved : List Text → List Row → Type 0
+  IsDated_saved conditions rows = AreRowsTakable (codes "query") rows × AreFound rows (dated_saved_found conditions)
+
+  dated_saved_faultless : (dates : ValueParser) (conditions : List Text) → is_number limit ≡ true → accepts false dates how ≡ true → length conditions ≤ usize_max
+      → fault_of (query_app dates (codes "query")) (dated_saved_words conditions) ≡ []
+  unfolding walked clap_on_literals
+  dated_saved_faultless dates [] is dated few =
+      λ i. past (or_else (past (past (number_kinds (number_accepted limit is i)))) (past (past (name_fault dates (dated i)))))
+  dated_saved_faultless dates (c ∷ rest) is dated few =
+      let rows = dated_saved_before dates in
+      clap.leaf_fault (built (query_app dates (codes "query"))) nothing_held (drop 1 (dated_saved_words (c ∷ rest))) refl
+      ∙ (λ i. level_with (query_shape dates)
+          (or_else (past (past (number_kinds (number_accepted limit is i)))) (or_else (past (name_fault dates (dated i))) (conditions_free dates rows c rest i)))
+          (conditions_held dates rows c rest i))
+      ∙ words_free c rest few
+
+  dated_saved_rows : (dates : ValueParser) (conditions : List Text) → is_number limit ≡ true
+      → IsDated_saved conditions (matches_of (query_app dates (codes "query")) (dated_saved_words conditions))
+  unfolding walked clap_on_literals
+  dated_saved_rows dates [] is = (query_takable _ _ is (inr refl), (refl, (refl, (refl, (refl, (refl, (refl, (refl, tt))))))))
+  dated_saved_rows dates (c ∷ rest) is =
+      subst (λ (h : Held). IsDated_saved (c ∷ rest) (finished (query_shape dates).rules h)) (sym (conditions_held dates (dated_saved_before dates) c rest))
+      (query_takable _ _ is (inr refl), (refl, (refl, (refl, (refl, (refl, (refl, (refl, tt))))))))
+
+  dated_saved_values : (conditions : List Text) → is_number limit ≡ true → IsHow how → length conditions ≤ usize_max
+      → AreReadAs (called (dated_saved_words conditions)) (dated_saved_found conditions)
+  dated_saved_values conditions is how_said few = read_query _ _ (λ dates known.
+      let rows = dated_saved_rows dates conditions is in
+      (dated_saved_faultless dates conditions is (known how ∙ how_is how how_said) few, rows.0, rows.1))
 
 -- ---- a script
 
@@ -478,7 +600,10 @@ values_read = record {
   imported = import_values;
   append = append_values;
   appended = append_whole_values;
+  dated = dated_values;
   objects = objects_values;
   saved = saved_values;
+  dated_objects = dated_objects_values;
+  dated_saved = dated_saved_values;
   replay = λ sectors fail stop choice version file s f k named known. replay_values sectors fail stop choice file version s f k named known;
 }

@@ -58,7 +58,11 @@ pub record AreExamples : Type 0 where
 abbrev pub IsVersion : Text → Type 0
 IsVersion word = (word ≡ codes "1") ⊎ (word ≡ codes "2")
 
--- each command with all options that go together but `--wait` and `--dates`, whatever the values are
+-- how dates stand, as a word
+abbrev pub IsHow : Text → Type 0
+IsHow word = (word ≡ codes "number") ⊎ (word ≡ codes "iso")
+
+-- each command with all options that go together but `--wait`, whatever the values are, and without `--dates` too
 pub record AreValuesRead : Type 0 where
   pub format : (version file number : Text) → IsVersion version → is_number number ≡ true
       → AreReadAs (called (codes "format" ∷ (codes "--format-version=" ++ version) ∷ codes "--" ∷ file ∷ number ∷ []))
@@ -76,6 +80,9 @@ pub record AreValuesRead : Type 0 where
       ((codes "STORE", file ∷ []) ∷ (codes "NAME", name ∷ []) ∷ (codes "as", form ∷ []) ∷ (codes "null", null ∷ []) ∷ [])
   pub appended : (file name : Text) → AreReadAs (called (codes "append" ∷ codes "--complete" ∷ codes "--" ∷ file ∷ name ∷ []))
       ((codes "STORE", file ∷ []) ∷ (codes "NAME", name ∷ []) ∷ (codes "as", codes "stream" ∷ []) ∷ (codes "complete", codes "true" ∷ []) ∷ [])
+  pub dated : (form null how file name : Text) → (form ≡ codes "csv") ⊎ (form ≡ codes "jsonl") → IsHow how
+      → AreReadAs (called (codes "append" ∷ (codes "--as=" ++ form) ∷ (codes "--null=" ++ null) ∷ (codes "--dates=" ++ how) ∷ codes "--" ∷ file ∷ name ∷ []))
+      ((codes "STORE", file ∷ []) ∷ (codes "NAME", name ∷ []) ∷ (codes "as", form ∷ []) ∷ (codes "null", null ∷ []) ∷ (codes "dates", how ∷ []) ∷ [])
   pub objects : (columns limit file name : Text) (conditions : List Text) → is_number limit ≡ true → length conditions ≤ usize_max
       → AreReadAs
       (called (codes "query" ∷ (codes "--columns=" ++ columns) ∷ (codes "--limit=" ++ limit) ∷ codes "--objects" ∷ codes "--" ∷ file ∷ name ∷ conditions))
@@ -87,6 +94,18 @@ pub record AreValuesRead : Type 0 where
       ∷ conditions))
       ((codes "STORE", file ∷ []) ∷ (codes "NAME", name ∷ []) ∷ (codes "CONDITION", conditions) ∷ (codes "columns", columns ∷ [])
       ∷ (codes "limit", limit ∷ []) ∷ (codes "save", new ∷ []) ∷ [])
+  pub dated_objects : (columns limit how file name : Text) (conditions : List Text) → is_number limit ≡ true → IsHow how → length conditions ≤ usize_max
+      → AreReadAs
+      (called (codes "query" ∷ (codes "--columns=" ++ columns) ∷ (codes "--limit=" ++ limit) ∷ codes "--objects" ∷ (codes "--dates=" ++ how) ∷ codes "--"
+      ∷ file ∷ name ∷ conditions))
+      ((codes "STORE", file ∷ []) ∷ (codes "NAME", name ∷ []) ∷ (codes "CONDITION", conditions) ∷ (codes "columns", columns ∷ [])
+      ∷ (codes "limit", limit ∷ []) ∷ (codes "objects", codes "true" ∷ []) ∷ (codes "dates", how ∷ []) ∷ [])
+  pub dated_saved : (columns limit new how file name : Text) (conditions : List Text) → is_number limit ≡ true → IsHow how → length conditions ≤ usize_max
+      → AreReadAs
+      (called (codes "query" ∷ (codes "--columns=" ++ columns) ∷ (codes "--limit=" ++ limit) ∷ (codes "--save=" ++ new) ∷ (codes "--dates=" ++ how)
+      ∷ codes "--" ∷ file ∷ name ∷ conditions))
+      ((codes "STORE", file ∷ []) ∷ (codes "NAME", name ∷ []) ∷ (codes "CONDITION", conditions) ∷ (codes "columns", columns ∷ [])
+      ∷ (codes "limit", limit ∷ []) ∷ (codes "save", new ∷ []) ∷ (codes "dates", how ∷ []) ∷ [])
   pub replay : (sectors fail stop choice version file : Text) → is_number sectors ≡ true → is_number fail ≡ true → is_number stop ≡ true → NamesChoice choice
       → IsVersion version
       → AreReadAs
