@@ -110,6 +110,7 @@ fn asked<'a>(
         "copy" => copy_request(path, words),
         "salvage" => Ok(salvage_request(path, words)),
         "replay" => replay_request(alloc, words),
+        "apply" => Ok(apply_request(path, words)),
         _ => command_request(alloc, path, command, words),
     }
 }
@@ -196,6 +197,15 @@ fn salvage_request<'a>(path: &'a str, words: &ArgMatches<'a>) -> StoreRequest<'a
         path,
         name: word(words, "NAME"),
     }
+}
+
+fn apply_request<'a>(path: &'a str, words: &ArgMatches<'a>) -> StoreRequest<'a>
+    requires { path.now ≡ value_of (found_of words.now) (codes "STORE") }
+    ensures word { request_word result ≡ codes "apply" }
+    ensures named { HasFound (found_of words.now) result }
+{
+    let script = word(words, "SCRIPT");
+    StoreRequest::Apply { path, script }
 }
 
 fn date_form(words: &ArgMatches<'_>) -> DateForm
