@@ -27,8 +27,6 @@ pub data PlainLine : Type 0 where
   compact : PlainLine
   upgrade : PlainLine
   reopen : PlainLine
-  begin_list : PlainLine
-  commit_list : PlainLine
 
 -- ---- what the words ask for
 
@@ -36,9 +34,7 @@ unfoldable pub alone : List ℕ → Option PlainLine
 alone word =
     if bytes_eq (codes "compact") word then Some compact
     else if bytes_eq (codes "upgrade") word then Some upgrade
-    else if bytes_eq (codes "reopen") word then Some reopen
-    else if bytes_eq (codes "begin") word then Some begin_list
-    else if bytes_eq (codes "commit") word then Some commit_list else None
+    else if bytes_eq (codes "reopen") word then Some reopen else None
 
 unfoldable pub with_name : List ℕ → List ℕ → Option PlainLine
 with_name word name = if bytes_eq (codes "drop") word then Some (drop name) else None
