@@ -330,7 +330,7 @@ pub(crate) fn with_new_table<'a>(alloc: Global, name: &'a str) -> Result<Command
 }
 
 // Makes a command that takes the form of its input, and whether a stream must have its end.
-fn with_rows<'a>(alloc: Global, name: &'a str) -> Result<Command<'a>, AllocError>
+pub(crate) fn with_rows<'a>(alloc: Global, name: &'a str) -> Result<Command<'a>, AllocError>
     ensures { IfOk result (λ c. (forms : ValueParser) × AreForms forms × (dates : ValueParser) × AreDateForms dates
         × (app_of c ≡ append_app forms dates name.now)) }
 {
