@@ -13,5 +13,5 @@ mod words;
 
 pub use laws::{a_line_has_one_list_of_words, written_words_are_read};
 pub use line::{SavedRows, ScriptLine, line_of};
-pub use script::{ScriptError, parse_script};
+pub use script::{ScriptError, parse_changes, parse_script};
 pub use words::script_words;
