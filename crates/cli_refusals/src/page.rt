@@ -23,7 +23,7 @@ use std::alloc::{AllocError, Global};
 
 /// The pieces of the page of which its first sections are made: what each refusal of a stream, a file, a store or a field text means and what to do
 /// about it, among them the sentences of `remedies`. The file `docs/refusals.md` has the same bytes as the page.
-pub const FILE_REFUSALS: [&str; 89] = [
+pub const FILE_REFUSALS: [&str; 93] = [
     "# What each refusal means
 
 A refusal is one line on standard error: `refused`, a code, a name, and for some of them a detail, as in
@@ -207,9 +207,10 @@ or appended. If no advice follows a fault, the cause is the program that wrote t
   For a folder, a named pipe or a device that is not a disk: ",
     NO_FOLDER,
     "
-- G3 BadScript N: `replay` cannot play line N of the script, counted from 1. Single spaces separate the
-  words of a line, and a word with spaces stands in quotation marks. Either these words are not a command
-  of a script, or the text of a field (P) or the form of a condition (Q2) is refused.
+- G3 BadScript N: `replay` or `apply` cannot play line N of the script, counted from 1. Single spaces
+  separate the words of a line, and a word with spaces stands in quotation marks. Either these words are not
+  a command of a script, or the text of a field (P) or the form of a condition (Q2) is refused. `apply` takes
+  only commands on tables, and none of `compact`, `upgrade` and `reopen`.
   ",
     LINES_OF_A_SCRIPT,
     "
@@ -473,11 +474,17 @@ appended.
   ",
     IMPORT_AGAIN,
     "
-- S16 RowsUnwritten: a command of several that are applied together has to read rows that one before it puts
-  into the table. Nothing is written before all of them are decided, so they cannot be read yet.
+- S16 RowsUnwritten: a line of a script of `apply` has to read rows that a line before it puts into the
+  table. Nothing is written before all lines are decided, so these rows cannot be read yet.
   ",
     COMMIT_FIRST,
     "
+
+## T: a script that is one commit
+
+- T1 Line N REFUSAL: the store refuses line N of a script of `apply`, counted from 1, for this reason (S), and
+  so all of its lines: no table is changed. The advice is that of the reason. What is refused of the script as
+  a whole, as S8 and S9, is reported without T1.
 
 ## A store that does not open
 
@@ -522,11 +529,12 @@ G1 has eight words, which say whether the command was done:
   `salvage`, `tables`, `schema`, `check`, `info`, `recode`, `replay`, or help. A part of the output may be
   written.
 - `output-after`: the output failed after `format`, `copy`, `create`, `import`, `append`, `query --save`,
-  `rename`, `drop`, `compact` or `upgrade` was done. Do not run the command again.
+  `rename`, `drop`, `apply`, `compact` or `upgrade` was done. Do not run the command again.
 - `other`: another call on a file failed. The command was not done, and a file that was to be made is
   removed.
 
-Each other code has one word. After S5 it is the word of the fault (F), and after S12 that of the query (Q).
+Each other code has one word. After S5 it is the word of the fault (F), after S12 that of the query (Q), and
+after T1 that of the reason (S).
 
 - F1 `truncated`, F2 `no-stream`, F3 `metadata-size`, F4 `metadata-bounds`, F5 `metadata-budget`,
   F6 `metadata-version`, F7 `header-kind`, F8 `body-length`, F9 `no-schema`, F10 `second-schema`,

@@ -19,7 +19,7 @@ use Rattle.clap.specs.declared.error.kind.ErrorKind.{ErrorKind}
 use Rattle.clap.specs.declared.parser.matches.ArgMatches.{ArgMatches}
 use Rattle.clap.proofs.OnLiterals.{clap_on_literals}
 use Rattle.clap.proofs.WalkLemmas.{first_value-rows, one_text-rows, raw_values-rows}
-use Rattle.cli_requests.specs.Apps.{info_app, format_app, copy_app, store_app, table_app, schema_app, import_app, rename_app, create_app, append_app, query_app, other_parameters, parameters_of, IsAppWith, IsOwnApp, value_of, values_of}
+use Rattle.cli_requests.specs.Apps.{info_app, format_app, copy_app, store_app, apply_app, table_app, schema_app, import_app, rename_app, create_app, append_app, query_app, other_parameters, parameters_of, IsAppWith, IsOwnApp, value_of, values_of}
 use Rattle.civil_days.specs.declared.date_form.DateForm.{DateForm}
 use Rattle.civil_days.specs.declared.date_form.DateForm.TheVariants.{Numbers, Iso}
 use Rattle.cli_requests.specs.Apps.{HasDates, HasFound}
@@ -58,6 +58,14 @@ pub table_plain : (name : Text) (p : ℕ) → ends_options (arg_by_index (built 
 table_plain name p = by_each (1 == p) (2 == p) refl refl
   where
     by_each : (a b : Bool) → (1 == p) ≡ a → (2 == p) ≡ b → ends_options (arg_by_index (built (table_app name)).top.rules p) ≡ false
+    by_each true b d e = rw d refl
+    by_each false true d e = rw (d, e) refl
+    by_each false false d e = rw (d, e) refl
+
+pub apply_plain : (name : Text) (p : ℕ) → ends_options (arg_by_index (built (apply_app name)).top.rules p) ≡ false
+apply_plain name p = by_each (1 == p) (2 == p) refl refl
+  where
+    by_each : (a b : Bool) → (1 == p) ≡ a → (2 == p) ≡ b → ends_options (arg_by_index (built (apply_app name)).top.rules p) ≡ false
     by_each true b d e = rw d refl
     by_each false true d e = rw (d, e) refl
     by_each false false d e = rw (d, e) refl
@@ -142,6 +150,9 @@ info_top name = (built (info_app name)).top
 abbrev pub table_top : Text → Shape
 table_top name = (built (table_app name)).top
 
+abbrev pub apply_top : Text → Shape
+apply_top name = (built (apply_app name)).top
+
 abbrev pub schema_top : Text → Shape
 schema_top name = (built (schema_app name)).top
 
@@ -197,6 +208,14 @@ table_named name [] e = absurd (some_kind _ _ e)
 table_named name (a ∷ []) e = absurd (some_kind _ _ e)
 table_named name (a ∷ b ∷ []) e = refl
 table_named name (a ∷ b ∷ c ∷ rest) e = absurd (some_kind _ _ e)
+
+apply_named : (name : Text) (ops : List Text) → operands_fault (apply_top name) ops ≡ []
+    → ops ≡ row_value (codes "STORE") (operand_rows (apply_top name) ops) ∷ row_value (codes "SCRIPT") (operand_rows (apply_top name) ops) ∷ []
+unfolding clap_on_literals
+apply_named name [] e = absurd (some_kind _ _ e)
+apply_named name (a ∷ []) e = absurd (some_kind _ _ e)
+apply_named name (a ∷ b ∷ []) e = refl
+apply_named name (a ∷ b ∷ c ∷ rest) e = absurd (some_kind _ _ e)
 
 schema_named : (name : Text) (ops : List Text) → operands_fault (schema_top name) ops ≡ []
     → ops ≡ row_value (codes "STORE") (operand_rows (schema_top name) ops) ∷ row_value (codes "NAME") (operand_rows (schema_top name) ops) ∷ []
@@ -449,6 +468,16 @@ module _ (word : Text) (words : List Text) (m : ArgMatches) (a : App) (name : Te
       table_named name ops (sym reads.fault ∙ p.faultless refl)
       ∙ (λ i. found_value m _ (codes "STORE") rows i ∷ found_value m _ (codes "NAME") rows i ∷ [])
 
+  apply_found : a ≡ apply_app name → (ops : List Text) → operands words ≡ Some ops
+      → ops ≡ value_of (found_of m) (codes "STORE") ∷ value_of (found_of m) (codes "SCRIPT") ∷ []
+  unfolding clap_on_literals
+  apply_found is ops e =
+      let reads = reads_operands (apply_app name) word words ops e refl refl (apply_plain name) in
+      let p : Parsed (apply_app name) (word ∷ words) m = subst (λ (x : App). Parsed x (word ∷ words) m) is parsed in
+      let rows = (p.matches refl).0 ∙ reads.rows in
+      apply_named name ops (sym reads.fault ∙ p.faultless refl)
+      ∙ (λ i. found_value m _ (codes "STORE") rows i ∷ found_value m _ (codes "SCRIPT") rows i ∷ [])
+
   schema_found : a ≡ schema_app name → (ops : List Text) → operands words ≡ Some ops
       → (ops ≡ value_of (found_of m) (codes "STORE") ∷ value_of (found_of m) (codes "NAME") ∷ []) × (one_text (found_of m) (codes "fields") ≡ Some (codes "false"))
   unfolding clap_on_literals
@@ -610,6 +639,10 @@ module _ (word : Text) (words : List Text) (m : ArgMatches) (a : App) (own : IsO
       → ops ≡ value_of (found_of m) (codes "STORE") ∷ value_of (found_of m) (codes "NAME") ∷ []
   names_one_table is ops e = table_found word words m a word parsed (subst (λ (b : Parameters). IsAppWith word b a) is own) ops e
 
+  names_script : parameters_of word ≡ parameters.Script → (ops : List Text) → operands words ≡ Some ops
+      → ops ≡ value_of (found_of m) (codes "STORE") ∷ value_of (found_of m) (codes "SCRIPT") ∷ []
+  names_script is ops e = apply_found word words m a word parsed (subst (λ (b : Parameters). IsAppWith word b a) is own) ops e
+
   names_schema : parameters_of word ≡ parameters.TableToDescribe → (ops : List Text) → operands words ≡ Some ops
       → (ops ≡ value_of (found_of m) (codes "STORE") ∷ value_of (found_of m) (codes "NAME") ∷ []) × (one_text (found_of m) (codes "fields") ≡ Some (codes "false"))
   names_schema is ops e = schema_found word words m a word parsed (subst (λ (b : Parameters). IsAppWith word b a) is own) ops e
@@ -697,6 +730,9 @@ module _ (word : Text) (words : List Text) (m : ArgMatches) (a : App) (own : IsO
   names_command (requests.Salvage file name) is found =
       named (requests.Salvage file name)
       (λ ops e. names_one_table (of_word (codes "salvage") parameters.Table is refl) ops e ∙ (λ i. sym found.0 i ∷ sym found.1 i ∷ []))
+  names_command (requests.Apply file script) is found =
+      named (requests.Apply file script)
+      (λ ops e. names_script (of_word (codes "apply") parameters.Script is refl) ops e ∙ (λ i. sym found.0 i ∷ sym found.1 i ∷ []))
   names_command (requests.Replay script) is found = named (requests.Replay script) (λ ops e. tt)
   names_command (requests.Command file commands.Tables) is found =
       named (requests.Command file commands.Tables)

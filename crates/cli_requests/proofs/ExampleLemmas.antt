@@ -15,7 +15,7 @@ use Rattle.clap.specs.Lexer.{usize_max}
 use Rattle.clap.specs.declared.builder.value_parser.ValueParser.TheVariants as parsers
 use Rattle.clap.proofs.OnLiterals.{clap_on_literals}
 use Rattle.clap.specs.declared.builder.value_parser.ValueParser.{ValueParser}
-use Rattle.cli_requests.specs.Apps.{AreForms, AreDateForms, is_form, is_date_form, IsOwnApp, info_app, format_app, schema_app, import_app, create_app, query_app, replay_app, append_app, other_parameters, parameters_of}
+use Rattle.cli_requests.specs.Apps.{AreForms, AreDateForms, is_form, is_date_form, IsOwnApp, info_app, format_app, apply_app, schema_app, import_app, create_app, query_app, replay_app, append_app, other_parameters, parameters_of}
 use Rattle.cli_requests.specs.Examples.{AreExamples, AreFound, AreReadAs, AreValuesRead, IsHow, IsVersion, Valued, called}
 use Rattle.cli_requests.specs.Numbers.{is_number, is_number_if_any}
 use Rattle.cli_requests.specs.Operands.{names_file, names_table}
@@ -67,6 +67,10 @@ module _ (first flag : Text → Option Text) where
   info_takable : IsTakable (codes "info") first flag
   unfolding makes_word
   info_takable = plain_takable (codes "info") refl refl (λ e. absurd (true≢false (sym e))) (λ e. absurd (true≢false (sym e))) refl refl
+
+  apply_takable : IsTakable (codes "apply") first flag
+  unfolding makes_word
+  apply_takable = plain_takable (codes "apply") refl refl (λ e. absurd (true≢false (sym e))) (λ e. absurd (true≢false (sym e))) refl refl
 
   create_takable : (first (codes "like") ≡ None) ⊎ (first (codes "FIELD") ≡ None) → IsTakable (codes "create") first flag
   unfolding makes_word
@@ -155,6 +159,11 @@ info_example : AreReadAs (called (codes "info" ∷ codes "--json" ∷ codes "sto
     ((codes "STORE", codes "store" ∷ []) ∷ (codes "json", codes "true" ∷ []) ∷ [])
 unfolding names_file names_table other_parameters parameters_of first_word makes_word is_number walked clap_on_literals
 info_example = read_as _ _ (info_app (codes "info")) (λ command own. sym own) refl (info_takable _ _) (refl, (refl, tt))
+
+apply_example : AreReadAs (called (codes "apply" ∷ codes "store" ∷ codes "-" ∷ codes "--wait" ∷ []))
+    ((codes "STORE", codes "store" ∷ []) ∷ (codes "SCRIPT", codes "-" ∷ []) ∷ (codes "wait", codes "true" ∷ []) ∷ [])
+unfolding names_file names_table other_parameters parameters_of first_word makes_word is_number walked clap_on_literals
+apply_example = read_as _ _ (apply_app (codes "apply")) (λ command own. sym own) refl (apply_takable _ _) (refl, (refl, (refl, tt)))
 
 like_example : AreReadAs (called (codes "create" ∷ codes "store" ∷ codes "copy" ∷ codes "--like" ∷ codes "readings" ∷ []))
     ((codes "STORE", codes "store" ∷ []) ∷ (codes "NAME", codes "copy" ∷ []) ∷ (codes "like", codes "readings" ∷ []) ∷ [])
@@ -260,6 +269,11 @@ info_values : (file : Text) → AreReadAs (called (codes "info" ∷ codes "--jso
     ((codes "STORE", file ∷ []) ∷ (codes "json", codes "true" ∷ []) ∷ [])
 unfolding names_file names_table other_parameters parameters_of first_word makes_word is_number walked clap_on_literals
 info_values file = read_as _ _ (info_app (codes "info")) (λ command own. sym own) refl (info_takable _ _) (refl, (refl, tt))
+
+apply_values : (file script : Text) → AreReadAs (called (codes "apply" ∷ codes "--wait" ∷ codes "--" ∷ file ∷ script ∷ []))
+    ((codes "STORE", file ∷ []) ∷ (codes "SCRIPT", script ∷ []) ∷ (codes "wait", codes "true" ∷ []) ∷ [])
+unfolding names_file names_table other_parameters parameters_of first_word makes_word is_number walked clap_on_literals
+apply_values file script = read_as _ _ (apply_app (codes "apply")) (λ command own. sym own) refl (apply_takable _ _) (refl, (refl, (refl, tt)))
 
 like_values : (table file name : Text) → AreReadAs (called (codes "create" ∷ (codes "--like=" ++ table) ∷ codes "--" ∷ file ∷ name ∷ []))
     ((codes "STORE", file ∷ []) ∷ (codes "NAME", name ∷ []) ∷ (codes "like", table ∷ []) ∷ [])
@@ -588,6 +602,7 @@ examples = record {
   printed = printed_example;
   objects = objects_example;
   saved = saved_example;
+  applied = apply_example;
   replay = replay_example;
 }
 
@@ -605,5 +620,6 @@ values_read = record {
   saved = saved_values;
   dated_objects = dated_objects_values;
   dated_saved = dated_saved_values;
+  applied = apply_values;
   replay = λ sectors fail stop choice version file s f k named known. replay_values sectors fail stop choice file version s f k named known;
 }

@@ -28,7 +28,7 @@ use Rattle.clap.specs.declared.parser.matches.ArgMatches.{ArgMatches}
 use Rattle.clap.specs.declared.parser.matches.Found.{Found}
 use Rattle.clap.proofs.OnLiterals.{clap_on_literals}
 use Rattle.clap.specs.Walk.{walked}
-use Rattle.cli_requests.specs.Apps.{info_app, format_app, copy_app, table_app, schema_app, import_app, rename_app, create_app, append_app, query_app, other_parameters, parameters_of, AreForms, AreDateForms, IsAppWith, IsOwnApp}
+use Rattle.cli_requests.specs.Apps.{info_app, format_app, copy_app, apply_app, table_app, schema_app, import_app, rename_app, create_app, append_app, query_app, other_parameters, parameters_of, AreForms, AreDateForms, IsAppWith, IsOwnApp}
 use Rattle.cli_requests.specs.Apps.{HasFound, IsOfMemory, value_of}
 use Rattle.cli_requests.specs.Numbers.{is_number, is_number_if_any}
 use Rattle.cli_requests.specs.Operands.{is_option, operands, names_file, names_table}
@@ -40,8 +40,8 @@ use Rattle.cli_requests.specs.declared.store_command_line.Mistake.{Mistake}
 use Rattle.cli_requests.specs.declared.store_words.StoreRequest.{StoreRequest}
 use Rattle.cli_requests.proofs.NumberLemmas.{signed_is_none}
 use Rattle.cli_requests.proofs.OperandLemmas.{operands_fault, reads_operands, level_with, words_read, words_faultless}
-use Rattle.cli_requests.proofs.AppLemmas.{Parsed, file_app, file_top, info_top, table_top, schema_top, import_top, rename_top, format_top, copy_top, append_top, create_top, query_top, file_and_table, field_met, condition_met}
-use Rattle.cli_requests.proofs.AppLemmas.{file_plain, info_plain, table_plain, schema_plain, import_plain, rename_plain, format_plain, copy_plain, append_plain, create_plain, query_plain, found_first, found_one}
+use Rattle.cli_requests.proofs.AppLemmas.{Parsed, file_app, file_top, info_top, apply_top, table_top, schema_top, import_top, rename_top, format_top, copy_top, append_top, create_top, query_top, file_and_table, field_met, condition_met}
+use Rattle.cli_requests.proofs.AppLemmas.{file_plain, info_plain, apply_plain, table_plain, schema_plain, import_plain, rename_plain, format_plain, copy_plain, append_plain, create_plain, query_plain, found_first, found_one}
 use Rattle.cli_requests.proofs.AppLemmas.{names_sectors, asks_newest, names_new_store, asks_own_fields, asks_no_end, asks_all}
 
 -- ---- numbers
@@ -90,6 +90,13 @@ full_table name [] e = absurd (omega (arith, e))
 full_table name (a ∷ []) e = absurd (omega (arith, e))
 full_table name (a ∷ b ∷ []) e = refl
 full_table name (a ∷ b ∷ c ∷ rest) e = absurd (omega (arith, e))
+
+full_apply : (name : Text) (ops : List Text) → length ops ≡ 2 → operands_fault (apply_top name) ops ≡ []
+unfolding clap_on_literals
+full_apply name [] e = absurd (omega (arith, e))
+full_apply name (a ∷ []) e = absurd (omega (arith, e))
+full_apply name (a ∷ b ∷ []) e = refl
+full_apply name (a ∷ b ∷ c ∷ rest) e = absurd (omega (arith, e))
 
 full_schema : (name : Text) (ops : List Text) → length ops ≡ 2 → operands_fault (schema_top name) ops ≡ []
 unfolding clap_on_literals
@@ -214,6 +221,9 @@ module _ (word : Text) (words ops : List Text) (is : operands words ≡ Some ops
   right_faultless parameters.NewStore a own right =
       subst (λ (x : App). IsFaultless x (word ∷ words)) (sym own)
       (refl, (reads_operands (copy_app word) word words ops is refl refl (copy_plain word)).fault ∙ full_copy word ops right)
+  right_faultless parameters.Script a own right =
+      subst (λ (x : App). IsFaultless x (word ∷ words)) (sym own)
+      (refl, (reads_operands (apply_app word) word words ops is refl refl (apply_plain word)).fault ∙ full_apply word ops (eqb-true (length ops) 2 right))
   right_faultless parameters.TableAndFields a own right =
       subst (λ (x : App). IsFaultless x (word ∷ words)) (sym own)
       (refl, (reads_operands (create_app word) word words ops is refl refl (create_plain word)).fault ∙ full_create word ops right few)
@@ -380,6 +390,7 @@ own_free word parameters.TableToImport a own = rw own refl
 own_free word parameters.TableAndNewName a own = rw own refl
 own_free word parameters.Sectors a own = rw own refl
 own_free word parameters.NewStore a own = rw own refl
+own_free word parameters.Script a own = rw own refl
 own_free word parameters.TableAndFields a own = rw own refl
 own_free word parameters.TableAndRows a own = rw own.4 refl
 own_free word parameters.TableAndQuery a own = rw own.2 refl

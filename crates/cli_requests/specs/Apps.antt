@@ -69,6 +69,10 @@ new_file_app name = with_rule (store_app name) (required_rule (codes "NEW"))
 abbrev pub copy_app : Text → App
 copy_app name = with_rule (new_file_app name) sectors_rule
 
+-- a command that also names a script
+abbrev pub apply_app : Text → App
+apply_app name = with_rule (store_app name) (required_rule (codes "SCRIPT"))
+
 -- a command that also names a table, and one that gives the table another name
 abbrev pub table_app : Text → App
 table_app name = with_rule (store_app name) (required_rule (codes "NAME"))
@@ -166,6 +170,7 @@ IsAppWith name parameters.TableToImport command = command ≡ import_app name
 IsAppWith name parameters.TableAndNewName command = command ≡ rename_app name
 IsAppWith name parameters.Sectors command = command ≡ format_app name
 IsAppWith name parameters.NewStore command = command ≡ copy_app name
+IsAppWith name parameters.Script command = command ≡ apply_app name
 IsAppWith name parameters.TableAndFields command = command ≡ create_app name
 IsAppWith name parameters.TableAndRows command =
     (forms : ValueParser) × AreForms forms × (dates : ValueParser) × AreDateForms dates × (command ≡ append_app forms dates name)
@@ -179,7 +184,7 @@ other_parameters word =
     else (if bytes_eq (codes "copy") word then parameters.NewStore else (if bytes_eq (codes "create") word then parameters.TableAndFields else (if bytes_eq
     (codes "append") word then parameters.TableAndRows else (if bytes_eq (codes "replay") word then parameters.ScriptAndFaults else (if bytes_eq
     (codes "info") word then parameters.FileAndForm else (if bytes_eq (codes "import") word then parameters.TableToImport else (if bytes_eq
-    (codes "schema") word then parameters.TableToDescribe else parameters.TableAndQuery)))))))
+    (codes "schema") word then parameters.TableToDescribe else (if bytes_eq (codes "apply") word then parameters.Script else parameters.TableAndQuery))))))))
 
 unfoldable pub parameters_of : Text → Parameters
 parameters_of word =
@@ -280,6 +285,7 @@ HasFound found (requests.Copy path new sectors) =
     (path.now ≡ value_of found (codes "STORE")) × (new.now ≡ value_of found (codes "NEW")) × IsNumber (value_of found (codes "SECTORS")) sectors
 HasFound found (requests.Salvage path name) = (path.now ≡ value_of found (codes "STORE")) × (name.now ≡ value_of found (codes "NAME"))
 HasFound found (requests.Replay words) = HasScript found words
+HasFound found (requests.Apply path script) = (path.now ≡ value_of found (codes "STORE")) × (script.now ≡ value_of found (codes "SCRIPT"))
 
 -- memory was refused
 abbrev pub IsOfMemory : Mistake → Type 0

@@ -36,6 +36,7 @@ request_word (requests.Format path sectors version) = codes "format"
 request_word (requests.Copy path new sectors) = codes "copy"
 request_word (requests.Salvage path name) = codes "salvage"
 request_word (requests.Replay words) = codes "replay"
+request_word (requests.Apply path script) = codes "apply"
 request_word (requests.Command path command) = command_word command
 
 abbrev pub is_saving : StoreCommand → Bool
@@ -52,4 +53,5 @@ changes (requests.Format path sectors version) = true
 changes (requests.Copy path new sectors) = true
 changes (requests.Salvage path name) = false
 changes (requests.Replay words) = false
+changes (requests.Apply path script) = true
 changes (requests.Command path command) = not (only_reads command)

@@ -50,6 +50,8 @@ pub record AreExamples : Type 0 where
       ∷ (codes "limit", codes "10" ∷ []) ∷ (codes "objects", codes "true" ∷ []) ∷ [])
   pub saved : AreReadAs (called (codes "query" ∷ codes "--save=chosen" ∷ codes "store" ∷ codes "readings" ∷ []))
       ((codes "STORE", codes "store" ∷ []) ∷ (codes "NAME", codes "readings" ∷ []) ∷ (codes "save", codes "chosen" ∷ []) ∷ [])
+  pub applied : AreReadAs (called (codes "apply" ∷ codes "store" ∷ codes "-" ∷ codes "--wait" ∷ []))
+      ((codes "STORE", codes "store" ∷ []) ∷ (codes "SCRIPT", codes "-" ∷ []) ∷ (codes "wait", codes "true" ∷ []) ∷ [])
   pub replay : AreReadAs
       (called (codes "replay" ∷ codes "script" ∷ codes "--sectors" ∷ codes "16" ∷ codes "--stop" ∷ codes "8" ∷ codes "--choice" ∷ codes "new" ∷ []))
       ((codes "SCRIPT", codes "script" ∷ []) ∷ (codes "sectors", codes "16" ∷ []) ∷ (codes "stop", codes "8" ∷ []) ∷ (codes "choice", codes "new" ∷ []) ∷ [])
@@ -62,7 +64,7 @@ IsVersion word = (word ≡ codes "1") ⊎ (word ≡ codes "2")
 abbrev pub IsHow : Text → Type 0
 IsHow word = (word ≡ codes "number") ⊎ (word ≡ codes "iso")
 
--- each command with all options that go together but `--wait`, whatever the values are, and without `--dates` too
+-- each command with all options that go together, whatever the values are, and without `--dates` too; `--wait` only where it is the only option
 pub record AreValuesRead : Type 0 where
   pub format : (version file number : Text) → IsVersion version → is_number number ≡ true
       → AreReadAs (called (codes "format" ∷ (codes "--format-version=" ++ version) ∷ codes "--" ∷ file ∷ number ∷ []))
@@ -106,6 +108,8 @@ pub record AreValuesRead : Type 0 where
       ∷ codes "--" ∷ file ∷ name ∷ conditions))
       ((codes "STORE", file ∷ []) ∷ (codes "NAME", name ∷ []) ∷ (codes "CONDITION", conditions) ∷ (codes "columns", columns ∷ [])
       ∷ (codes "limit", limit ∷ []) ∷ (codes "save", new ∷ []) ∷ (codes "dates", how ∷ []) ∷ [])
+  pub applied : (file script : Text) → AreReadAs (called (codes "apply" ∷ codes "--wait" ∷ codes "--" ∷ file ∷ script ∷ []))
+      ((codes "STORE", file ∷ []) ∷ (codes "SCRIPT", script ∷ []) ∷ (codes "wait", codes "true" ∷ []) ∷ [])
   pub replay : (sectors fail stop choice version file : Text) → is_number sectors ≡ true → is_number fail ≡ true → is_number stop ≡ true → NamesChoice choice
       → IsVersion version
       → AreReadAs

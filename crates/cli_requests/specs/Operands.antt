@@ -81,13 +81,14 @@ IsWithoutOptions (commands.SaveAs from to query) = ⊥
 IsWithoutOptions (commands.Info as_json) = as_json ≡ false
 IsWithoutOptions _ = Unit {0}
 
--- these words name the request's files and tables, or its number of sectors; without its option a store is made in the newest version
+-- these words name the request's files and tables, its script or its number of sectors; without its option a store is made in the newest version
 unfoldable pub IsNamedBy : StoreRequest → List Text → Type 0
 IsNamedBy (requests.Command path command) words = (words ≡ path.now ∷ names_in command) × IsWithoutOptions command
 IsNamedBy (requests.Format path sectors version) words =
     (number : Text) × (words ≡ path.now ∷ number ∷ []) × IsNumber number sectors × (version ≡ Two)
 IsNamedBy (requests.Copy path new sectors) words = (number : Text) × (words ≡ path.now ∷ new.now ∷ number ∷ []) × IsNumber number sectors
 IsNamedBy (requests.Salvage path name) words = words ≡ path.now ∷ name.now ∷ []
+IsNamedBy (requests.Apply path script) words = words ≡ path.now ∷ script.now ∷ []
 -- a script is played with options, which are not operands
 IsNamedBy (requests.Replay script) words = Unit {0}
 

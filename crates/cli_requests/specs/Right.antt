@@ -21,7 +21,7 @@ abbrev pub are_files_and_number : List Text → Bool
 are_files_and_number (file ∷ new ∷ number ∷ []) = is_number number
 are_files_and_number _ = false
 
--- the operands that a command takes; no script is played without an option
+-- the operands that a command takes; no script is played on a device in memory without an option
 abbrev pub takes : Parameters → List Text → Bool
 takes parameters.Nothing words = length words == 1
 takes parameters.FileAndForm words = length words == 1
@@ -31,6 +31,7 @@ takes parameters.TableToImport words = length words == 2
 takes parameters.TableAndNewName words = length words == 3
 takes parameters.Sectors words = are_file_and_number words
 takes parameters.NewStore words = are_files_and_number words
+takes parameters.Script words = length words == 2
 takes parameters.TableAndFields words = nat_le 2 (length words)
 takes parameters.TableAndRows words = length words == 2
 takes parameters.TableAndQuery words = nat_le 2 (length words)

@@ -4,9 +4,9 @@ use Rattle.std.specs.List.{list_any, starts_with}
 use Rattle.std.specs.Str.{bytes_eq}
 use Rattle.clap.specs.Words.{Text}
 
--- commands that read standard input
+-- commands that read standard input; `apply` does so if `-` stands for its script
 unfoldable pub takes_input_word : Text → Bool
-takes_input_word word = bytes_eq (codes "import") word || bytes_eq (codes "append") word
+takes_input_word word = bytes_eq (codes "import") word || (bytes_eq (codes "append") word || bytes_eq (codes "apply") word)
 
 -- commands that change the tables, or where their rows lie
 unfoldable pub changes_word : Text → Bool
@@ -30,7 +30,7 @@ makes_word word = bytes_eq (codes "format") word || bytes_eq (codes "copy") word
 
 -- commands that ask for something else than a command of an open store
 unfoldable pub has_own_request : Text → Bool
-has_own_request word = makes_word word || (bytes_eq (codes "salvage") word || bytes_eq (codes "replay") word)
+has_own_request word = makes_word word || (bytes_eq (codes "salvage") word || (bytes_eq (codes "replay") word || bytes_eq (codes "apply") word))
 
 unfoldable pub is_store_word : Text → Bool
 is_store_word word = changes_word word || (makes_word word || (bytes_eq (codes "replay") word || reads_word word))

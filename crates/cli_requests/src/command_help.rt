@@ -9,7 +9,7 @@ pub(crate) struct CommandHelp {
 }
 
 // In the order of the help.
-pub(crate) const COMMANDS: [CommandHelp; 17] = [
+pub(crate) const COMMANDS: [CommandHelp; 18] = [
     CommandHelp {
         name: "format",
         about: abouts::FORMAT,
@@ -79,6 +79,23 @@ since 1970-01-01; with --dates iso they are as in 2026-11-30 or
         name: "drop",
         about: abouts::DROP,
         example: "Example: arrowstore drop store measurements",
+    },
+    CommandHelp {
+        name: "apply",
+        about: abouts::APPLY,
+        example: "Example: arrowstore apply store script
+where each line of script is one of these, with single spaces between the words:
+create NAME FIELD .., import NAME FILE, append NAME FILE, rename NAME NEW, drop NAME or
+save NAME NEW [--columns A,B] [--] CONDITION ..
+A word with spaces stands in quotation marks, and a mark in it is written twice.
+
+The lines see what the lines before them have done. So this script deletes rows:
+save readings kept \"value >= 7\"
+drop readings
+rename kept readings
+
+All files are read before the store is opened. If a line is refused, so is the whole
+script, with the number of the line, as in T1 Line 3 S2 NameTaken. It prints ok once.",
     },
     CommandHelp {
         name: "tables",

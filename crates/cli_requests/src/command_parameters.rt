@@ -3,7 +3,7 @@ ghost use Rattle.std.specs.Prelude.{◌≡◌, false, codes, IfOk};
 ghost use Rattle.clap.specs.Words.{app_of, new_app, rule_of, with_rule};
 ghost use Rattle.clap.specs.declared.builder.value_parser.ValueParser.{ValueParser};
 ghost use Rattle.cli_requests.specs.Apps.{required_rule, flag_rule, sectors_rule, version_rule, repeated_rule, option_rule, form_rule, null_rule, dates_rule, query_dates_rule, limit_rule};
-ghost use Rattle.cli_requests.specs.Apps.{store_app, info_app, format_app, new_file_app, copy_app, table_app, import_app, rename_app, fields_app, schema_app, create_app, append_app, conditions_app, query_app};
+ghost use Rattle.cli_requests.specs.Apps.{store_app, info_app, format_app, new_file_app, copy_app, table_app, apply_app, import_app, rename_app, fields_app, schema_app, create_app, append_app, conditions_app, query_app};
 ghost use Rattle.cli_requests.specs.Apps.{AreForms, AreDateForms, other_parameters, parameters_of, IsOwnApp};
 ghost use Rattle.cli_requests.specs.Operands.{names_file, names_table};
 
@@ -26,6 +26,7 @@ enum Parameters {
     FileAndForm,
     Sectors,
     NewStore,
+    Script,
     Table,
     TableToDescribe,
     TableToImport,
@@ -176,6 +177,7 @@ fn other_parameters(word: &str) -> Parameters
         "info" => Parameters::FileAndForm,
         "import" => Parameters::TableToImport,
         "schema" => Parameters::TableToDescribe,
+        "apply" => Parameters::Script,
         _ => Parameters::TableAndQuery,
     }
 }
@@ -226,6 +228,16 @@ fn with_form<'a>(alloc: Global, name: &'a str) -> Result<Command<'a>, AllocError
     ensures { IfOk result (λ c. app_of c ≡ info_app name.now) }
 {
     with_file(alloc, name)?.arg(flag(alloc, "json", "Prints one JSON object on one line"))
+}
+
+fn with_script<'a>(alloc: Global, name: &'a str) -> Result<Command<'a>, AllocError>
+    ensures { IfOk result (λ c. app_of c ≡ apply_app name.now) }
+{
+    with_file(alloc, name)?.arg(required(
+        alloc,
+        "SCRIPT",
+        "The file of the script; - reads the script from standard input",
+    ))
 }
 
 fn with_table<'a>(alloc: Global, name: &'a str) -> Result<Command<'a>, AllocError>
@@ -318,7 +330,7 @@ pub(crate) fn with_new_table<'a>(alloc: Global, name: &'a str) -> Result<Command
 }
 
 // Makes a command that takes the form of its input, and whether a stream must have its end.
-fn with_rows<'a>(alloc: Global, name: &'a str) -> Result<Command<'a>, AllocError>
+pub(crate) fn with_rows<'a>(alloc: Global, name: &'a str) -> Result<Command<'a>, AllocError>
     ensures { IfOk result (λ c. (forms : ValueParser) × AreForms forms × (dates : ValueParser) × AreDateForms dates
         × (app_of c ≡ append_app forms dates name.now)) }
 {
@@ -380,6 +392,7 @@ fn command<'a>(alloc: Global, name: &'a str) -> Result<Command<'a>, AllocError>
         Parameters::TableAndNewName => with_new_name(alloc, name),
         Parameters::Sectors => with_sectors(alloc, name),
         Parameters::NewStore => with_new_store(alloc, name),
+        Parameters::Script => with_script(alloc, name),
         Parameters::TableAndFields => with_new_table(alloc, name),
         Parameters::TableAndRows => with_rows(alloc, name),
         Parameters::TableAndQuery => with_query(alloc, name),

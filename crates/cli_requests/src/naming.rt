@@ -221,12 +221,15 @@ fn word_of<'a>(
         (
             StoreRequest::Format { path, .. }
             | StoreRequest::Salvage { path, .. }
+            | StoreRequest::Apply { path, .. }
             | StoreRequest::Command { path, .. },
             Refusal::Opening(_),
         )
         // `format` is refused for its number of sectors
         | (
-            StoreRequest::Salvage { path, .. } | StoreRequest::Command { path, .. },
+            StoreRequest::Salvage { path, .. }
+            | StoreRequest::Apply { path, .. }
+            | StoreRequest::Command { path, .. },
             Refusal::BadSize,
         ) => named(Role::File, Some(path)),
         (StoreRequest::Salvage { name, .. }, Refusal::Store(tables::Refusal::NoTable)) => {

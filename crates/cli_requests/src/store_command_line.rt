@@ -110,6 +110,7 @@ fn asked<'a>(
         "copy" => copy_request(path, words),
         "salvage" => Ok(salvage_request(path, words)),
         "replay" => replay_request(alloc, words),
+        "apply" => Ok(apply_request(path, words)),
         _ => command_request(alloc, path, command, words),
     }
 }
@@ -195,6 +196,17 @@ fn salvage_request<'a>(path: &'a str, words: &ArgMatches<'a>) -> StoreRequest<'a
     StoreRequest::Salvage {
         path,
         name: word(words, "NAME"),
+    }
+}
+
+fn apply_request<'a>(path: &'a str, words: &ArgMatches<'a>) -> StoreRequest<'a>
+    requires { path.now ≡ value_of (found_of words.now) (codes "STORE") }
+    ensures word { request_word result ≡ codes "apply" }
+    ensures named { HasFound (found_of words.now) result }
+{
+    StoreRequest::Apply {
+        path,
+        script: word(words, "SCRIPT"),
     }
 }
 

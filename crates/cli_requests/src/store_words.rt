@@ -41,6 +41,11 @@ pub enum StoreRequest<'a> {
     },
     /// Plays a script on a device in memory.
     Replay(ReplayWords<'a>),
+    /// Executes all lines of a script as one change of the store, or none. The script `-` is standard input.
+    Apply {
+        path: &'a str,
+        script: &'a str,
+    },
     /// Executes a command on an existing store.
     Command {
         path: &'a str,
@@ -159,7 +164,9 @@ impl StoreRequest<'_> {
         ensures { result ≡ changes self.now }
     {
         match self {
-            StoreRequest::Format { .. } | StoreRequest::Copy { .. } => true,
+            StoreRequest::Format { .. } | StoreRequest::Copy { .. } | StoreRequest::Apply { .. } => {
+                true
+            }
             StoreRequest::Salvage { .. } | StoreRequest::Replay(_) => false,
             StoreRequest::Command { command, .. } => !command.only_reads(),
         }
@@ -170,7 +177,7 @@ impl StoreRequest<'_> {
 fn takes_input_word(word: &str) -> bool
     ensures { result ≡ takes_input_word word.now }
 {
-    matches!(word, "import" | "append")
+    matches!(word, "import" | "append" | "apply")
 }
 
 #[tactic(auto, unfolding(crate::specs::StoreWords::changes_word))]
@@ -219,7 +226,7 @@ pub fn is_of_store<S: AsStr>(arguments: &[S]) -> bool
     }
 }
 
-/// Returns whether the arguments name a command that reads standard input.
+/// Returns whether the arguments name a command that reads standard input, or may do so.
 #[tactic(auto, unfolding(crate::specs::StoreWords::takes_input))]
 pub fn takes_input<S: AsStr>(arguments: &[S]) -> bool
     ensures { result ≡ takes_input (map S.text arguments.now) }

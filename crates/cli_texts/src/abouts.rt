@@ -18,6 +18,8 @@ pub const RENAME: &str = "Gives a table another name";
 
 pub const DROP: &str = "Removes a table with all its rows";
 
+pub const APPLY: &str = "Applies the lines of a script as one commit: all of them, or none";
+
 pub const TABLES: &str = "Prints a line for each table: its name and its number of rows";
 
 pub const SCHEMA: &str = "Prints a line for each field of a table";

@@ -6,7 +6,7 @@ use crate::abouts;
 use std::alloc::{AllocError, Global};
 
 /// The help of the program: strings to be joined, among them what each command does.
-pub const HELP: [&str; 37] = [
+pub const HELP: [&str; 39] = [
     "A crash-safe store of named tables in the Apache Arrow format
 
 Usage: arrowstore <COMMAND>
@@ -35,6 +35,9 @@ Commands:
     "
   drop     ",
     abouts::DROP,
+    "
+  apply    ",
+    abouts::APPLY,
     "
   tables   ",
     abouts::TABLES,

@@ -34,6 +34,7 @@ fn main(rt: HostRuntime) -> ExitCode {
                 noted_at(audience, &failures),
                 target,
                 asks_to_wait(arguments.as_slice()),
+                arguments.as_slice(),
             ),
             arguments.as_slice(),
             &mut KeptStart::new(

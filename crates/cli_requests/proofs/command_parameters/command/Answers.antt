@@ -25,6 +25,9 @@ returns-in-Sectors c = own_of _ _ _ _ c.parameters_of.ensures c.in-Sectors.is c.
 pub returns-in-NewStore : goal.returns-in-NewStore
 returns-in-NewStore c = own_of _ _ _ _ c.parameters_of.ensures c.in-NewStore.is c.with_new_store.ensures
 
+pub returns-in-Script : goal.returns-in-Script
+returns-in-Script c = own_of _ _ _ _ c.parameters_of.ensures c.in-Script.is c.with_script.ensures
+
 pub returns-in-TableAndFields : goal.returns-in-TableAndFields
 returns-in-TableAndFields c = own_of _ _ _ _ c.parameters_of.ensures c.in-TableAndFields.is c.with_new_table.ensures
 

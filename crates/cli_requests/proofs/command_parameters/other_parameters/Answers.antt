@@ -16,4 +16,5 @@ returns-in_default c =
     let info = other_word (codes "info") word other.not-info in
     let import = other_word (codes "import") word other.not-import in
     let schema = other_word (codes "schema") word other.not-schema in
-    rw (format, copy, create, append, replay, info, import, schema) refl
+    let apply = other_word (codes "apply") word other.not-apply in
+    rw (format, copy, create, append, replay, info, import, schema, apply) refl
