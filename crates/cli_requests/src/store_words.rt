@@ -164,13 +164,8 @@ impl StoreRequest<'_> {
         ensures { result ≡ changes self.now }
     {
         match self {
-<<<<<<< HEAD
             StoreRequest::Format { .. } | StoreRequest::Copy { .. } => true,
             StoreRequest::Apply { .. } => true,
-=======
-            StoreRequest::Format { .. } | StoreRequest::Copy { .. } | StoreRequest::Apply { .. } =>
-                { true }
->>>>>>> a73bf9c3aeed2696134824338b247ea6699e32bc
             StoreRequest::Salvage { .. } | StoreRequest::Replay(_) => false,
             StoreRequest::Command { command, .. } => !command.only_reads(),
         }
