@@ -1,5 +1,5 @@
 -- Whether bytes are whole messages.
-use Rattle.std.proofs.Common.{◌≡◌, ◌≢◌, ◌↔◌, ◌∙◌, ◌+◌, ◌++◌, ℕ, List, [], ◌∷◌, length, drop, refl, sym, ap, subst, arith, Result, Ok, Err, append_assoc}
+use Rattle.std.proofs.Common.{◌≡◌, ◌≢◌, ◌↔◌, ◌∙◌, ◌+◌, ◌++◌, ℕ, List, [], ◌∷◌, length, drop, refl, sym, ap, subst, arith, Result, Ok, Err, append_assoc, length-append}
 use Rattle.ipc_message.specs.declared.fault.Fault.{Fault}
 use Rattle.ipc_message.specs.Framing.{Envelope, NextMessage, message, end_of_stream, next_message, taken, continuation_marker, IsMessage, Framed, Frames}
 use Rattle.cli_commands.specs.Complete.{LacksEnd}
@@ -21,8 +21,18 @@ drop_front (x ∷ xs) rest = drop_front xs rest
 others_are : (bytes others : List ℕ) (m : Envelope) → Framed bytes m others → drop (taken (message m)) bytes ≡ others
 others_are bytes others m f =
     let front : List ℕ = continuation_marker ++ (f.size ++ (m.metadata ++ m.body)) in
-    let all : front ++ others ≡ bytes = simp (append_assoc, f.parts) in
-    let long : length front ≡ taken (message m) = simp (f.four, arith) in
+    let flat : front ++ others ≡ continuation_marker ++ (f.size ++ (m.metadata ++ (m.body ++ others))) = simp append_assoc in
+    let all : front ++ others ≡ bytes = flat ∙ sym f.parts in
+    let marker : length continuation_marker ≡ 4 = refl in
+    let long : length front ≡ taken (message m) =
+    omega (
+      arith,
+      f.four,
+      marker,
+      length-append continuation_marker (f.size ++ (m.metadata ++ m.body)),
+      length-append f.size (m.metadata ++ m.body),
+      length-append m.metadata m.body,
+    ) in
     subst (λ (b : List ℕ). drop (taken (message m)) b ≡ others) all (subst (λ (n : ℕ). drop n (front ++ others) ≡ others) long (drop_front front others))
 
 module _ (framed : IsFramed) (read : IsReadBack) where

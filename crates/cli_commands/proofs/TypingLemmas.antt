@@ -1,9 +1,10 @@
 -- The lines of fields that can be typed in.
-use Rattle.std.proofs.Common.{◌≡◌, ◌∙◌, ◌+◌, ◌<◌, ◌≤◌, ◌++◌, ℕ, get_or, arith, add-one, eqb-false, eqb-true, inr, zero, suc, Bool, true, false, List, [], ◌∷◌, length, map, take, refl, sym, ap, subst, codes, append_assoc, append-nil, true≢false}
+use Rattle.std.proofs.Common.{◌≡◌, ◌∙◌, ◌+◌, ◌<◌, ◌≤◌, ◌++◌, ℕ, get_or, arith, add-one, eqb-true, inr, zero, suc, Bool, true, false, List, [], ◌∷◌, length, map, take, refl, sym, ap, subst, codes, append_assoc, append-nil, true≢false}
 use Rattle.std.specs.Prelude.{Option, Some, None, slice_get, String, string_bytes}
 use Rattle.std.specs.Global.{Global, Vec}
 use Rattle.std.specs.List.{AllByRecursion, list_any}
 use Rattle.std.specs.Str.{chars}
+use Rattle.std.proofs.lemmas.Bool.{eqb-false}
 use Rattle.std.proofs.lemmas.List.{length-map}
 use Rattle.std.proofs.lemmas.Option.{none-some, same_Some}
 use Rattle.arrow_schema.specs.Column.{Column, Pair, PlainSchema}
@@ -44,7 +45,9 @@ lines_next : (columns : List Column) (i : ℕ) (c : Column) → slice_get column
 lines_next [] i c at = absurd (none-some c at)
 lines_next (x ∷ xs) zero c at =
     let same : x ≡ c = same_Some x c at in
-    ap (λ (y : Column). field_text plain y ++ codes "\n") same
+    let one : field_text plain x ++ (codes "\n" ++ []) ≡ field_text plain x ++ codes "\n" =
+    ap (λ (end : List ℕ). field_text plain x ++ end) (append-nil (codes "\n")) in
+    subst (λ (y : Column). field_text plain x ++ (codes "\n" ++ []) ≡ field_text plain y ++ codes "\n") same one
 lines_next (x ∷ xs) (suc i) c at =
     ap (λ (rest : List ℕ). field_text plain x ++ codes "\n" ++ rest) (lines_next xs i c at)
     ∙ sym (simp append_assoc)

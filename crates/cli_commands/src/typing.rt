@@ -58,7 +58,7 @@ fn lines_of_schema(alloc: Global, schema: Schema) -> Result<String, Refusal>
     let text = typed_lines(alloc, &schema.fields)?;
     match schema.check() {
         Ok(()) => Ok(text),
-        Err(_) => Err(Refusal::Fields(ParseError::Limit)),
+        Err(_exceeded) => Err(Refusal::Fields(ParseError::Limit)),
     }
 }
 

@@ -9,7 +9,7 @@ pub returns-in_err-bytes-clause-refused : goal.returns-in_err-bytes-clause-refus
 returns-in_err-bytes-clause-refused g c =
     let p = err_from_is_err_and c.from_residual.result c.from_residual.ensures.1 in
     let e = c.in_err-bytes.ensures in
-    rw (p.1, p.2) (refuses_stream (Vec ℕ) _ _ c.in_err-bytes.field-0 e.told e.too_many e.few)
+    rw (p.1, p.2) (refuses_stream (Vec ℕ) _ _ c.in_err-bytes.field-0.0 e.told e.too_many e.few)
 
 pub returns-then-lacks_end-clause-refused : goal.returns-then-lacks_end-clause-refused
 returns-then-lacks_end-clause-refused g c =

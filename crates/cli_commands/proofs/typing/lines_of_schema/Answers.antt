@@ -11,7 +11,7 @@ returns-then-not-is_empty-clause-refused c = inl (refl, pairs_there c.args.schem
 pub returns-in_err-text-clause-refused : goal.returns-in_err-text-clause-refused
 returns-in_err-text-clause-refused c =
     let p = err_from_is_err_and c.from_residual.result c.from_residual.ensures.1 in
-    rw (p.1, p.2) (refuses_typed (schema_of c.args.schema) c.in_err-text.field-0 (rw c.deref.ensures.value at c.in_err-text.ensures.refused))
+    rw (p.1, p.2) (refuses_typed (schema_of c.args.schema) c.in_err-text.field-0.0 (rw c.deref.ensures.value at c.in_err-text.ensures.refused))
 
 pub returns-in-Ok-clause-stated : goal.returns-in-Ok-clause-stated
 returns-in-Ok-clause-stated c =

@@ -24,7 +24,7 @@ pub returns-in_err-text-clause-told : goal.returns-in_err-text-clause-told
 returns-in_err-text-clause-told g c =
     let p = err_from_is_err_and c.from_residual-in_err-text.result c.from_residual-in_err-text.ensures.1 in
     let found = c.in_ok-schema.ensures.found in
-    rw (p.1, p.2) (typing_refused _ _ (schema_of c.in_ok-schema.schema) c.in_err-text.field-0 found.0 found.1 c.in_err-text.ensures.refused)
+    rw (p.1, p.2) (typing_refused _ _ (schema_of c.in_ok-schema.schema) c.in_err-text.field-0.0 found.0 found.1 c.in_err-text.ensures.refused)
 
 pub returns-clause-written : goal.returns-clause-written
 returns-clause-written g c =
