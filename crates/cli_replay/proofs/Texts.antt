@@ -65,12 +65,14 @@ query_right : (texts : List (List ℕ)) (columns : Option (List ℕ)) → are_co
 query_right texts columns are none =
     let stated = all_stated texts are in
     some_is_not_none (stated_by stated.0) (sym (ap stated_as stated.1) ∙ none) where
-  stated_by : List PlainCondition → PlainQuery
-  stated_by cs = record { columns = named_columns columns; conditions = cs; limit = None; dates = Numbers }
-  stated_as : Option (List PlainCondition) → Option PlainQuery
-  stated_as found = option_map stated_by found
-  some_is_not_none : (q : PlainQuery) → Some q ≡ None → ⊥
-  some_is_not_none q is = absurd cc
+      stated_by : List PlainCondition → PlainQuery
+      stated_by cs = record { columns = named_columns columns; conditions = cs; limit = None; dates = Numbers }
+
+      stated_as : Option (List PlainCondition) → Option PlainQuery
+      stated_as found = option_map stated_by found
+
+      some_is_not_none : (q : PlainQuery) → Some q ≡ None → ⊥
+      some_is_not_none q is = absurd cc
 
 -- so only memory is refused
 pub words_memory : (texts : List (List ℕ)) (columns : Option (List ℕ)) → are_conditions texts ≡ true → (e : Refusal) → RefusesWords (stated_query texts columns None Numbers) e → e ≡ refusals.OutOfMemory

@@ -46,13 +46,17 @@ returns-in_err-store-clause-applies g c =
 
 pub returns-clause-applies : goal.returns-clause-applies
 returns-clause-applies g c = record {
-  applies = inr (c.in_ok-script.script.items, c.in_ok-script.ensures.read, inr (record {
-    commands = c.in_ok-commands.commands.items;
-    of_script = rw c.deref.ensures.value at c.in_ok-commands.ensures.commands;
-    old = c.in_ok-store.store;
-    opens = c.in_ok-store.ensures.opened;
-    new = c.apply_commands.new.store;
-    carries = record { goes = c.apply_commands.ensures.goes; told = c.apply_commands.ensures.told; written = c.apply_commands.ensures.written };
-  }));
+  applies = inr (
+    c.in_ok-script.script.items,
+    c.in_ok-script.ensures.read,
+    inr (record {
+      commands = c.in_ok-commands.commands.items;
+      of_script = rw c.deref.ensures.value at c.in_ok-commands.ensures.commands;
+      old = c.in_ok-store.store;
+      opens = c.in_ok-store.ensures.opened;
+      new = c.apply_commands.new.store;
+      carries = record { goes = c.apply_commands.ensures.goes; told = c.apply_commands.ensures.told; written = c.apply_commands.ensures.written };
+    }),
+  );
   unread = c.in_ok-script.ensures.unread;
 }

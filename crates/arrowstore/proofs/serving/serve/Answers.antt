@@ -1,5 +1,5 @@
-use Rattle.std.specs.Prelude.{◌≡◌, ℕ, List, Option, Result, refl}
-use Rattle.std.proofs.Common.{ap, sym, subst}
+use Rattle.std.specs.Prelude.{◌≡◌, ℕ, true, List, codes, Option, Result, refl}
+use Rattle.std.proofs.Common.{◌∙◌, ap, inl, sym, subst}
 use Rattle.sector_dev.specs.declared.device.SectorDevice.{Ghosts}
 use Rattle.cli_refusals.specs.declared.refusal.Refusal.{Refusal}
 use Rattle.cli_requests.specs.declared.replaying.ReplayWords.{ReplayWords}
@@ -7,6 +7,7 @@ use Rattle.cli_requests.specs.declared.store_words.StoreRequest.{StoreRequest}
 use Rattle.arrowstore.specs.OnFiles.{ServesRequest}
 use Rattle.arrowstore.specs.Serving.{Channels}
 use Rattle.cli_requests.specs.Asked.{request_word}
+use Rattle.cli_requests.specs.StoreWords.{takes_input_word}
 use Rattle.arrowstore.proofs.FileLemmas.{silent_but_io, silent_but_broken_off}
 use Rattle.arrowstore.proofs.serving.serve.Goals as goal
 
@@ -45,6 +46,13 @@ returns-in-Copy-clause-serves g c = served_as _ _ _ _ _ _ _ _ _ _ _ _ _ c.in-Cop
 
 pub returns-in-Salvage-clause-serves : goal.returns-in-Salvage-clause-serves
 returns-in-Salvage-clause-serves g c = served_as _ _ _ _ _ _ _ _ _ _ _ _ _ c.in-Salvage.is (c.serve_salvage.ensures.salvages, refl)
+
+takes_script : takes_input_word (codes "apply") ≡ true
+unfolding takes_input_word
+takes_script = refl
+
+pub returns-in-Apply-clause-unread : goal.returns-in-Apply-clause-unread
+returns-in-Apply-clause-unread g c = inl (ap (λ (r : StoreRequest). takes_input_word (request_word r)) c.in-Apply.is ∙ takes_script)
 
 pub returns-in-Apply-clause-serves : goal.returns-in-Apply-clause-serves
 returns-in-Apply-clause-serves g c = served_as _ _ _ _ _ _ _ _ _ _ _ _ _ c.in-Apply.is (c.serve_apply.ensures.applies, refl, refl)
