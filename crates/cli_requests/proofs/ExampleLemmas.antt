@@ -322,7 +322,7 @@ module _ (forms dates : ValueParser) (known : AreForms forms) (dated : AreDateFo
 
   whole_free : fault_of (append_app forms dates (codes "append")) whole_words ≡ []
   unfolding walked clap_on_literals
-  whole_free = λ i. or_else (past (past (past (name_fault forms (known (codes "stream") i))))) (default_fault dates (dated (codes "number") i))
+  whole_free = λ i. past (or_else (name_fault forms (known (codes "stream") i)) (past (name_fault dates (dated (codes "number") i))))
 
 append_whole_values : (file name : Text) → AreReadAs (called (codes "append" ∷ codes "--complete" ∷ codes "--" ∷ file ∷ name ∷ []))
     ((codes "STORE", file ∷ []) ∷ (codes "NAME", name ∷ []) ∷ (codes "as", codes "stream" ∷ []) ∷ (codes "complete", codes "true" ∷ []) ∷ [])

@@ -204,10 +204,8 @@ fn apply_request<'a>(path: &'a str, words: &ArgMatches<'a>) -> StoreRequest<'a>
     ensures word { request_word result ≡ codes "apply" }
     ensures named { HasFound (found_of words.now) result }
 {
-    StoreRequest::Apply {
-        path,
-        script: word(words, "SCRIPT"),
-    }
+    let script = word(words, "SCRIPT");
+    StoreRequest::Apply { path, script }
 }
 
 fn date_form(words: &ArgMatches<'_>) -> DateForm
