@@ -242,7 +242,7 @@ pub record CarriesList {D : Type 0} {g : Ghosts D} {W : Type 0} (contents : W �
 pub record AppliesLines {D : Type 0} (g : Ghosts D) (is_opened : D → Type 0) {F W : Type 0} (of_file : F → Option (List ℕ)) (contents : W → Option (List ℕ))
     (script : List ℕ) (output output' : W) (result : Result (Unit {0}) Refusal) : Type 0 where
   pub commands : List Command
-  pub have : HasCommands of_file script commands
+  pub of_script : HasCommands of_file script commands
   pub old : Store D g
   pub opens : OpensStore g is_opened old
   pub new : Store D g

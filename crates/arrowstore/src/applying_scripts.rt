@@ -6,7 +6,7 @@ use crate::serving::reserve_standard_descriptors;
 use cli_commands::{apply_commands, read_input};
 use cli_refusals::{Refusal, Side};
 use cli_replay::{read_script, script_commands};
-use sector_dev::{FileDevice, LockFile, SectorDevice, SystemFile};
+use sector_dev::{FileDevice, FileError, LockFile, SectorDevice, SystemFile};
 use std::fs::OpenFile;
 use std::io::{Read, Seek, Write};
 use std::rt::Files;
@@ -35,6 +35,15 @@ fn script_named<F: Read + OpenFile + Drop, H: Files<File = F> + AllocGlobal, R: 
     }
 }
 
+fn device_to_change<
+    F: Read + Write + Seek + OpenFile + LockFile + Drop,
+    H: Files<File = F> + AllocGlobal,
+>(rt: &H, path: &str) -> Result<FileDevice<SystemFile<F>>, FileError>
+    ensures opened { IfOk result (λ device. IsOpenedFile device) }
+{
+    FileDevice::open(rt, path)
+}
+
 // Opens the store in a file for changes.
 fn open_to_change<
     F: Read + Write + Seek + OpenFile + LockFile + Drop,
@@ -43,7 +52,7 @@ fn open_to_change<
     ensures opened { IfOk result (OpensStore ⟦<FileDevice<SystemFile<F>> as SectorDevice>⟧ IsOpenedFile) }
     ensures refused { IfErr result (FailsToOpen ⟦<FileDevice<SystemFile<F>> as SectorDevice>⟧ IsOpenedFile) }
 {
-    let device = FileDevice::open(rt, path)?;
+    let device = device_to_change(rt, path)?;
     match Store::open(rt.alloc(), device) {
         Ok(store) => Ok(store),
         Err((refusal, _back)) => Err(Refusal::Opening(refusal)),

@@ -68,9 +68,8 @@ pub(crate) fn refused_sectors(request: &StoreRequest<'_>) -> Option<u64> {
     let sectors = match request {
         StoreRequest::Format { sectors, .. } | StoreRequest::Copy { sectors, .. } => *sectors,
         StoreRequest::Replay(words) => words.sectors,
-        StoreRequest::Salvage { .. }
-        | StoreRequest::Apply { .. }
-        | StoreRequest::Command { .. } => return None,
+        StoreRequest::Salvage { .. } | StoreRequest::Apply { .. } | StoreRequest::Command { .. } =>
+            return None,
     };
     if is_size_of_store(sectors) {
         None

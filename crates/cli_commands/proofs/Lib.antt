@@ -11,3 +11,4 @@ mod ConditionLemmas
 mod SelectingLemmas
 mod TypingLemmas
 mod EndLemmas
+mod ListLemmas

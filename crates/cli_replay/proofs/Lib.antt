@@ -1,5 +1,7 @@
 pub mod Scripts
 pub mod LineCalls
+pub mod Changes
+pub mod Texts
 pub mod Inputs
 pub mod Results
 pub mod Plays

@@ -1,5 +1,5 @@
 // The commands of a script that is applied as one commit.
-ghost use Rattle.std.specs.Prelude.{◌≡◌, ℕ, List, map, Ok, IfOk, IfErr};
+ghost use Rattle.std.specs.Prelude.{ℕ, List, map, Ok, IfOk, IfErr};
 ghost use Rattle.std.specs.List.{AllByRecursion};
 ghost use Rattle.cli_scripts.specs.Plain.{plain_lines, plain_words};
 ghost use Rattle.cli_scripts.specs.Script.{IsScriptOfChanges};

@@ -501,8 +501,8 @@ module _ (columns limit how file name : Text) where
       let rows = dated_objects_before dates in
       clap.leaf_fault (built (query_app dates (codes "query"))) nothing_held (drop 1 (dated_objects_words (c ∷ rest))) refl
       ∙ (λ i. level_with (query_shape dates)
-          (or_else (past (past (number_kinds (number_accepted limit is i)))) (or_else (past (name_fault dates (dated i))) (conditions_free dates rows c rest i)))
-          (conditions_held dates rows c rest i))
+      (or_else (past (past (number_kinds (number_accepted limit is i)))) (or_else (past (name_fault dates (dated i))) (conditions_free dates rows c rest i)))
+      (conditions_held dates rows c rest i))
       ∙ words_free c rest few
 
   dated_objects_rows : (dates : ValueParser) (conditions : List Text) → is_number limit ≡ true
@@ -544,8 +544,8 @@ module _ (columns limit new how file name : Text) where
       let rows = dated_saved_before dates in
       clap.leaf_fault (built (query_app dates (codes "query"))) nothing_held (drop 1 (dated_saved_words (c ∷ rest))) refl
       ∙ (λ i. level_with (query_shape dates)
-          (or_else (past (past (number_kinds (number_accepted limit is i)))) (or_else (past (name_fault dates (dated i))) (conditions_free dates rows c rest i)))
-          (conditions_held dates rows c rest i))
+      (or_else (past (past (number_kinds (number_accepted limit is i)))) (or_else (past (name_fault dates (dated i))) (conditions_free dates rows c rest i)))
+      (conditions_held dates rows c rest i))
       ∙ words_free c rest few
 
   dated_saved_rows : (dates : ValueParser) (conditions : List Text) → is_number limit ≡ true

@@ -100,8 +100,8 @@ change_kept all i item lines found line lt here read some so_far =
     let is = subst (λ (o : Option ScriptLine). ReadsChange (plain_words item) (option_map plain_line o)) some read in (
       line_kept all i item lines (Some line) line lt here is.0 refl so_far.0,
       ap (list_all changes_tables) (map-append plain_line lines (line ∷ []))
-      ∙ list_all-append changes_tables (plain_lines lines) (plain_line line ∷ [])
-      ∙ and_from _ _ so_far.1 (and_from _ _ is.1 refl),
+          ∙ list_all-append changes_tables (plain_lines lines) (plain_line line ∷ [])
+          ∙ and_from _ _ so_far.1 (and_from _ _ is.1 refl),
     )
 
 -- the first one that does not change tables

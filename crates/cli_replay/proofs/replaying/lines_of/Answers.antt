@@ -1,5 +1,6 @@
 use Rattle.std.proofs.Common.{map}
-use Rattle.cli_scripts.specs.Plain.{plain_words}
+use Rattle.cli_scripts.specs.Plain.{plain_lines, plain_words}
+use Rattle.cli_replay.proofs.Changes.{tested_lines}
 use Rattle.cli_replay.proofs.replaying.lines_of.Goals as goal
 
 pub returns-in-Ok-clause-lines : goal.returns-in-Ok-clause-lines
@@ -7,3 +8,6 @@ returns-in-Ok-clause-lines c = λ script have. (map plain_words c.args.words.now
 
 pub returns-in-Err-BadLine-clause-told : goal.returns-in-Err-BadLine-clause-told
 returns-in-Err-BadLine-clause-told c = λ script have. (map plain_words c.args.words.now, have, rw c.in-Err-BadLine.field-0-is at c.in-Err-BadLine.ensures)
+
+pub returns-in-Ok-clause-tested : goal.returns-in-Ok-clause-tested
+returns-in-Ok-clause-tested c = tested_lines (map plain_words c.args.words.now) (plain_lines c.in-Ok.lines.items) c.in-Ok.ensures
