@@ -164,8 +164,8 @@ impl StoreRequest<'_> {
         ensures { result ≡ changes self.now }
     {
         match self {
-            StoreRequest::Format { .. } | StoreRequest::Copy { .. } | StoreRequest::Apply { .. } =>
-                { true }
+            StoreRequest::Format { .. } | StoreRequest::Copy { .. } => true,
+            StoreRequest::Apply { .. } => true,
             StoreRequest::Salvage { .. } | StoreRequest::Replay(_) => false,
             StoreRequest::Command { command, .. } => !command.only_reads(),
         }
