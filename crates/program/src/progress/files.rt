@@ -271,13 +271,11 @@ fn replaced() -> io::Error {
     io::Error::other("it was replaced or removed meanwhile")
 }
 
-impl<C: Clock, T: Write + Copy, F: OpenFile + Drop, H: Files<File = F>> ProgressFile<
-    '_,
-    C,
-    T,
-    F,
-    H,
-> {
+impl<C: Clock, T: Write + Copy, F, H> ProgressFile<'_, C, T, F, H>
+where
+    F: OpenFile + Drop,
+    H: Files<File = F>,
+{
     // Returns whether to wait for a lock that was refused so, and says that.
     fn is_to_wait(&self, refused: &io::Result<()>) -> bool {
         if !self.waits || !is_held(refused) {
@@ -315,8 +313,11 @@ impl<C: Clock, T: Write + Copy, F: OpenFile + Drop, H: Files<File = F>> Progress
     }
 }
 
-impl<C: Clock, T: Write + Copy, F: LockFile + OpenFile + Drop, H: Files<File = F>> LockFile
-    for ProgressFile<'_, C, T, F, H> {
+impl<C: Clock, T: Write + Copy, F, H> LockFile for ProgressFile<'_, C, T, F, H>
+where
+    F: LockFile + OpenFile + Drop,
+    H: Files<File = F>,
+{
     fn lock_to_write(&self) -> io::Result<()> {
         let locked = self.file.lock_to_write();
         if self.is_to_wait(&locked) {
