@@ -187,6 +187,8 @@ pub shown_front : {E : Type 0} (result : Result ℕ E) (bytes : List ℕ) (plain
 shown_front (Err e) bytes plain before after fits none few wrote = tt
 shown_front (Ok n) bytes plain before after fits none few wrote =
     let size : length (take plain bytes) ≡ plain = length-take-le plain bytes fits in
-    let within : n ≤ plain = subst (λ (k : ℕ). n ≤ k) size few in
-    (take n bytes, plain_front n bytes (λ k h. none k (omega (arith, h, within))),
-    subst (λ (xs : List ℕ). Appends before after xs) (take-take n plain bytes within) wrote)
+    let within : n ≤ plain = subst (λ (k : ℕ). n ≤ k) size few in (
+      take n bytes,
+      plain_front n bytes (λ k h. none k (omega (arith, h, within))),
+      subst (λ (xs : List ℕ). Appends before after xs) (take-take n plain bytes within) wrote,
+    )

@@ -22,6 +22,8 @@ pub returns-in_ok-write_all-in_default-clause-shown : goal.returns-in_ok-write_a
 returns-in_ok-write_all-in_default-clause-shown g c =
     let is = c.control_length.ensures in
     let some : 0 < c.control_length.result = omega (arith, c) in
-    let bytes = c.in_ok-write_all-in_default.ensures.bytes in
-    (_, escaped_first c.args.buf.now c.control_length.result (sym is) some,
-    subst (λ (xs : List ℕ). Appends (g.W.Write.contents c.args.self.now.output) (g.W.Write.contents c.write_all.new.self) xs) c.escape_of.ensures bytes)
+    let bytes = c.in_ok-write_all-in_default.ensures.bytes in (
+      _,
+      escaped_first c.args.buf.now c.control_length.result (sym is) some,
+      subst (λ (xs : List ℕ). Appends (g.W.Write.contents c.args.self.now.output) (g.W.Write.contents c.write_all.new.self) xs) c.escape_of.ensures bytes,
+    )
