@@ -1,6 +1,6 @@
 -- Whether bytes are whole messages.
-use Rattle.std.proofs.Common.{◌≡◌, ◌≢◌, ◌↔◌, ◌∙◌, ◌+◌, ◌++◌, ℕ, List, [], ◌∷◌, length, drop, refl, sym, ap, subst, arith, Result, Ok, Err, append_assoc, length-append}
-use Rattle.ipc_message.specs.declared.fault.Fault.{Fault}
+use Rattle.std.proofs.Common.{◌≡◌, ◌≢◌, ◌↔◌, ◌∙◌, ◌+◌, ◌-◌, ◌++◌, ℕ, List, [], ◌∷◌, length, take, drop, refl, sym, ap, subst, arith, Result, Ok, Err, append_assoc, length-append, length-drop}
+use Rattle.std.proofs.lemmas.List.{take_all}
 use Rattle.ipc_message.specs.Framing.{Envelope, NextMessage, message, end_of_stream, next_message, taken, continuation_marker, IsMessage, Framed, Frames}
 use Rattle.cli_commands.specs.Complete.{LacksEnd}
 
@@ -10,8 +10,8 @@ IsFramed = (bytes : List ℕ) (m : Envelope) → next_message bytes ≡ Ok (mess
 abbrev pub IsReadBack : Type 0
 IsReadBack = (bytes others : List ℕ) (m : Envelope) → IsMessage m → Framed bytes m others → next_message bytes ≡ Ok (message m)
 
-same_message : (m n : Envelope) → Ok {Fault} (message m) ≡ Ok (message n) → m ≡ n
-same_message m n e = search (e)
+same_message : (bytes : List ℕ) (m n : Envelope) → next_message bytes ≡ Ok (message m) → next_message bytes ≡ Ok (message n) → m ≡ n
+same_message bytes m n one other = cc (one, other)
 
 drop_front : (front rest : List ℕ) → drop (length front) (front ++ rest) ≡ rest
 drop_front [] rest = refl
@@ -43,9 +43,9 @@ module _ (framed : IsFramed) (read : IsReadBack) where
   )
     where
       shorter : (ms : List Envelope) → Frames bytes ms [] → LacksEnd (drop (taken (message m)) bytes)
-      shorter [] is = absurd cc
+      shorter [] is = absurd (cc (sym is ∙ (framed bytes m next).1.parts))
       shorter (n ∷ ms) is =
-          let same : n ≡ m = same_message n m (sym (read bytes is.1.0 n is.0 is.1.1) ∙ next) in
+          let same : n ≡ m = same_message bytes n m (read bytes is.1.0 n is.0 is.1.1) next in
           let others : drop (taken (message n)) bytes ≡ is.1.0 = others_are bytes is.1.0 n is.1.1 in
           (ms, subst (λ (b : List ℕ). Frames b ms []) (sym others ∙ ap (λ (x : Envelope). drop (taken (message x)) bytes) same) is.1.2)
 
@@ -56,6 +56,10 @@ module _ (framed : IsFramed) (read : IsReadBack) where
       without : (ms : List Envelope) → ¬ Frames bytes ms []
       without [] is = some is
       without (n ∷ ms) is = none n (read bytes is.1.0 n is.0 is.1.1)
+
+-- the slice from a place to the end has all bytes from there on
+pub rest_of : (start : ℕ) (bytes : List ℕ) → take (length bytes - start) (drop start bytes) ≡ drop start bytes
+rest_of start bytes = take_all (length bytes - start) (drop start bytes) (omega (arith, length-drop start bytes))
 
 -- nothing is left
 pub at_end : (bytes : List ℕ) → bytes ≡ [] → LacksEnd bytes

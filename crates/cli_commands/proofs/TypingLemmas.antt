@@ -45,9 +45,7 @@ lines_next : (columns : List Column) (i : ℕ) (c : Column) → slice_get column
 lines_next [] i c at = absurd (none-some c at)
 lines_next (x ∷ xs) zero c at =
     let same : x ≡ c = same_Some x c at in
-    let one : field_text plain x ++ (codes "\n" ++ []) ≡ field_text plain x ++ codes "\n" =
-    ap (λ (end : List ℕ). field_text plain x ++ end) (append-nil (codes "\n")) in
-    subst (λ (y : Column). field_text plain x ++ (codes "\n" ++ []) ≡ field_text plain y ++ codes "\n") same one
+    simp append-nil (ap (λ (y : Column). field_text plain y ++ codes "\n") same)
 lines_next (x ∷ xs) (suc i) c at =
     ap (λ (rest : List ℕ). field_text plain x ++ codes "\n" ++ rest) (lines_next xs i c at)
     ∙ sym (simp append_assoc)
@@ -79,20 +77,23 @@ at_place (x ∷ xs) (suc i) d h = at_place xs i d (omega (arith, h))
 abbrev HasFirst : List Field → ℕ → List ℕ → Type 0
 HasFirst fields i text = (text ≡ lines_of (typed_texts (take i (map column_of fields)))) × HaveLines (take i (map column_of fields))
 
-pub next_field : (fields : List Field) (i : ℕ) (d : Field) (line : String Global) (old one two : List ℕ) → i < length fields
-    → IsLineIfAny (column_of (get_or fields i d)) (Some line) → HasFirst fields i old → one ≡ old ++ string_bytes line → two ≡ one ++ codes "\n"
-    → HasFirst fields (i + 1) two
-next_field fields i d line old one two h is before first second =
-    rw (add-one i) (next_line (map column_of fields) i (column_of (get_or fields i d)) old (string_bytes line) one two (at_place fields i d h) is before first second)
+column_at : (fields : List Field) (i : ℕ) (f : Field) → i < length fields → get_or fields i f ≡ f → slice_get (map column_of fields) i ≡ Some (column_of f)
+column_at fields i f h at = at_place fields i f h ∙ ap (λ (g : Field). Some (column_of g)) at
 
-pub first_without : (fields : List Field) (i : ℕ) (d : Field) (text : List ℕ) → i < length fields → IsLineIfAny (column_of (get_or fields i d)) None
+pub next_field : (fields : List Field) (i : ℕ) (f : Field) (line : String Global) (old one two : List ℕ) → i < length fields → get_or fields i f ≡ f
+    → IsLineIfAny (column_of f) (Some line) → HasFirst fields i old → one ≡ old ++ string_bytes line → two ≡ one ++ codes "\n"
+    → HasFirst fields (i + 1) two
+next_field fields i f line old one two h at is before first second =
+    rw (add-one i) (next_line (map column_of fields) i (column_of f) old (string_bytes line) one two (column_at fields i f h at) is before first second)
+
+pub first_without : (fields : List Field) (i : ℕ) (f : Field) (text : List ℕ) → i < length fields → get_or fields i f ≡ f → IsLineIfAny (column_of f) None
     → HasFirst fields i text → IsFirstWithout (map column_of fields) (i + 1)
-first_without fields i d text h none before = record {
+first_without fields i f text h at none before = record {
   place = i;
   counted = refl;
   before = before.1;
-  column = column_of (get_or fields i d);
-  at = at_place fields i d h;
+  column = column_of f;
+  at = column_at fields i f h at;
   none = none;
 }
 
@@ -122,6 +123,9 @@ states_schema s none have within = (
 
 pub past_limits : (s : PlainSchema) → s.pairs ≡ [] → ¬ IsWithinLimits s → ¬ IsWithinLimits (schema_with s.columns)
 past_limits s none past within = past (subst (λ (pairs : List Pair). IsWithinLimits (record { columns = s.columns; pairs = pairs })) (sym none) within)
+
+pub refuses_limits : (s : PlainSchema) (refusal : Refusal) → s.pairs ≡ [] → (refusal ≡ Fields Limit) × ¬ IsWithinLimits s → RefusesTyped s refusal
+refuses_limits s refusal none is = subst (RefusesTyped s) (sym is.0) (past_limits s none is.1)
 
 -- why the lines of the columns are refused is why the schema is
 pub refuses_typed : (s : PlainSchema) (refusal : Refusal) → RefusesFields s.columns refusal → RefusesTyped s refusal

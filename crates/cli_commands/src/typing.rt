@@ -1,6 +1,7 @@
 // Prints the fields of a table as they are typed in.
 ghost use Rattle.std.specs.Prelude.{◌≡◌, ◌≢◌, map, string_bytes, Some, IfErr, IfOk, OnOk};
 ghost use Rattle.std.specs.Io.KnownBytes.{Appends};
+ghost use Rattle.arrow_schema.specs.Limits.{IsWithinLimits};
 ghost use Rattle.arrow_schema.specs.View.{column_of, schema_of};
 ghost use Rattle.catalogue.specs.Edits.{entry_of};
 ghost use Rattle.store.specs.Fits.{is_halted, listed_in};
@@ -45,6 +46,17 @@ fn typed_lines(alloc: Global, fields: &[Field]) -> Result<String, Refusal>
     Ok(text)
 }
 
+// Refuses a schema that exceeds a limit.
+fn test_limits(schema: &Schema) -> Result<(), Refusal>
+    ensures within { OnOk result (IsWithinLimits (schema_of schema.now)) }
+    ensures refused { IfErr result (λ refusal. (refusal ≡ Refusal.Fields ParseError.Limit) × ¬ IsWithinLimits (schema_of schema.now)) }
+{
+    match schema.check() {
+        Ok(()) => Ok(()),
+        Err(_exceeded) => Err(Refusal::Fields(ParseError::Limit)),
+    }
+}
+
 // Returns the lines of a schema that the texts on them state.
 fn lines_of_schema(alloc: Global, schema: Schema) -> Result<String, Refusal>
     ensures lines { IfOk result (λ text. string_bytes text ≡ lines_of (typed_texts (schema_of schema).columns)) }
@@ -56,10 +68,8 @@ fn lines_of_schema(alloc: Global, schema: Schema) -> Result<String, Refusal>
         return Err(Refusal::NoText(0));
     }
     let text = typed_lines(alloc, &schema.fields)?;
-    match schema.check() {
-        Ok(()) => Ok(text),
-        Err(_exceeded) => Err(Refusal::Fields(ParseError::Limit)),
-    }
+    test_limits(&schema)?;
+    Ok(text)
 }
 
 /// Prints a line for each field of a table: the text by which it is typed in.
