@@ -1,5 +1,5 @@
 -- Texts that were parsed once are parsed again.
-use Rattle.std.proofs.Common.{◌≡◌, ◌≢◌, ◌⊎◌, ◌<◌, ◌∙◌, ◌&&◌, ◌∷◌, [], ℕ, zero, suc, Bool, true, List, length, map, get_or, Option, Some, None, option_map, Ok, Err, inl, inr, ap, sym, refl, subst}
+use Rattle.std.proofs.Common.{◌≡◌, ◌≢◌, ◌⊎◌, ◌<◌, ◌∙◌, ◌&&◌, ◌∷◌, [], ℕ, zero, suc, Bool, true, List, length, map, get_or, Option, Some, None, option_map, Ok, Err, inl, inr, ap, sym, refl, subst, arith}
 use Rattle.std.specs.Prelude.{is_some}
 use Rattle.std.proofs.lemmas.Bool.{and_parts}
 use Rattle.arrow_schema.specs.Column.{Column}
@@ -16,16 +16,17 @@ use Rattle.tables.specs.declared.refusal.QueryRefusal.{QueryRefusal}
 use Rattle.tables.specs.declared.refusal.QueryRefusal.TheVariants.{BadCondition}
 use Rattle.cli_refusals.specs.declared.refusal.Refusal.{Refusal}
 use Rattle.cli_refusals.specs.declared.refusal.Refusal.TheVariants as refusals
+use Rattle.cli_commands.specs.Changing.{RefusesFields}
 use Rattle.cli_commands.specs.Selecting.{conditions_of, named_columns, stated_query, RefusesWords}
 use Rattle.cli_scripts.specs.Script.{are_conditions, StateFields}
 
 -- ---- fields
 
 text_at : (texts : List (List ℕ)) (columns : List Column) (i : ℕ) → AreTextsOf texts columns → i < length texts → IsFieldText true (get_or texts i [])
-text_at [] columns i are lt = absurd cc
+text_at [] columns i are lt = absurd (omega (arith, lt))
 text_at (t ∷ ts) [] i are lt = absurd are
 text_at (t ∷ ts) (c ∷ cs) zero are lt = (c, are.0)
-text_at (t ∷ ts) (c ∷ cs) (suc i) are lt = text_at ts cs i are.1 (omega lt)
+text_at (t ∷ ts) (c ∷ cs) (suc i) are lt = text_at ts cs i are.1 (omega (arith, lt))
 
 -- a text is that of one column at most
 abbrev pub IsUnique : Type 0
@@ -46,6 +47,11 @@ fields_right unique texts Limit other state (inl past) = past.first.refused (tex
 fields_right unique texts Limit other state (inr past) =
     past.past (subst (λ (cs : List Column). IsWithinLimits (schema_with cs)) (same_columns unique texts state.0 past.columns state.1.0 past.texts_of) state.1.1)
 fields_right unique texts OutOfMemory other state memory = other refl
+
+pub fields_parsed : IsUnique → (texts : List (List ℕ)) (e : Refusal) (r s : ParseError) → s ≢ OutOfMemory → StateFields true texts → e ≡ refusals.Fields r → r ≡ s
+    → RefusesFields texts e → ⊥
+fields_parsed unique texts e r s other state is same refused =
+    fields_right unique texts s other state (subst (λ (error : ParseError). IsReported texts (Err error)) same (subst (RefusesFields texts) is refused))
 
 -- ---- conditions
 

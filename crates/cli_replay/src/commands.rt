@@ -29,7 +29,8 @@ fn create(alloc: Global, name: &str, fields: &[&str]) -> Result<Command, AllocEr
     one_column_of_a_text();
     match new_table(alloc, name, fields) {
         Ok(new) => Ok(Command::Create(new)),
-        Err(Refusal::Fields(ParseError::BadText(_) | ParseError::Limit)) => unreachable!(),
+        Err(Refusal::Fields(ParseError::BadText(_))) => unreachable!(),
+        Err(Refusal::Fields(ParseError::Limit)) => unreachable!(),
         // Nothing but memory is refused otherwise.
         Err(_) => Err(AllocError),
     }
