@@ -1,5 +1,5 @@
 -- Lines that can be parsed, those that change tables, and their commands, one after another.
-use Rattle.std.proofs.Common.{◌≡◌, ◌≢◌, ◌<◌, ◌+◌, ◌++◌, ◌∷◌, [], ℕ, suc, Bool, true, false, List, length, take, map, get_or, Option, Some, None, Ok, Err, inl, inr, ap, sym, refl, subst}
+use Rattle.std.proofs.Common.{◌≡◌, ◌≢◌, ◌<◌, ◌+◌, ◌++◌, ◌∷◌, [], ℕ, zero, suc, Bool, true, false, List, length, take, map, get_or, Option, Some, None, Ok, Err, inl, inr, ap, sym, refl, subst, arith}
 use Rattle.std.specs.List.{list_all, AllByRecursion}
 use Rattle.std.proofs.lemmas.Bool.{and_parts}
 use Rattle.std.proofs.lemmas.List.{take_more, map-append}
@@ -31,9 +31,9 @@ pub line_at : (P : PlainLine → Type 0) (lines : List ScriptLine) (i : ℕ) (li
     → P (plain_line line)
 line_at P lines i line lt is all = subst (λ (l : ScriptLine). P (plain_line l)) (sym is) (at lines i lt all) where
   at : (lines : List ScriptLine) (i : ℕ) → i < length lines → AllByRecursion P (plain_lines lines) → P (plain_line (get_or lines i line))
-  at [] i lt all = absurd cc
-  at (l ∷ ls) 0 lt all = all.0
-  at (l ∷ ls) (suc i) lt all = at ls i (omega lt) all.1
+  at [] i lt all = absurd (omega (arith, lt))
+  at (l ∷ ls) zero lt all = all.0
+  at (l ∷ ls) (suc i) lt all = at ls i (omega (arith, lt)) all.1
 
 -- ---- their commands
 

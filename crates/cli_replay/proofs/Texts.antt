@@ -1,5 +1,5 @@
 -- Texts that were parsed once are parsed again.
-use Rattle.std.proofs.Common.{◌≡◌, ◌≢◌, ◌⊎◌, ◌<◌, ◌∙◌, ◌&&◌, ◌∷◌, [], ℕ, suc, Bool, true, List, length, map, get_or, Option, Some, None, option_map, Ok, Err, inl, inr, ap, sym, refl, subst}
+use Rattle.std.proofs.Common.{◌≡◌, ◌≢◌, ◌⊎◌, ◌<◌, ◌∙◌, ◌&&◌, ◌∷◌, [], ℕ, zero, suc, Bool, true, List, length, map, get_or, Option, Some, None, option_map, Ok, Err, inl, inr, ap, sym, refl, subst, arith}
 use Rattle.std.specs.Prelude.{is_some}
 use Rattle.std.proofs.lemmas.Bool.{and_parts}
 use Rattle.arrow_schema.specs.Column.{Column}
@@ -12,6 +12,7 @@ use Rattle.field_texts.specs.declared.parse.ParseError.TheVariants.{BadText, Lim
 use Rattle.query.specs.ConditionText.{condition_of}
 use Rattle.query.specs.Query.{PlainCondition, PlainQuery}
 use Rattle.query.specs.Selection.{joined}
+use Rattle.tables.specs.declared.refusal.QueryRefusal.{QueryRefusal}
 use Rattle.tables.specs.declared.refusal.QueryRefusal.TheVariants.{BadCondition}
 use Rattle.cli_refusals.specs.declared.refusal.Refusal.{Refusal}
 use Rattle.cli_refusals.specs.declared.refusal.Refusal.TheVariants as refusals
@@ -22,10 +23,10 @@ use Rattle.cli_scripts.specs.Script.{are_conditions, StateFields}
 -- ---- fields
 
 text_at : (texts : List (List ℕ)) (columns : List Column) (i : ℕ) → AreTextsOf texts columns → i < length texts → IsFieldText true (get_or texts i [])
-text_at [] columns i are lt = absurd cc
+text_at [] columns i are lt = absurd (omega (arith, lt))
 text_at (t ∷ ts) [] i are lt = absurd are
-text_at (t ∷ ts) (c ∷ cs) 0 are lt = (c, are.0)
-text_at (t ∷ ts) (c ∷ cs) (suc i) are lt = text_at ts cs i are.1 (omega lt)
+text_at (t ∷ ts) (c ∷ cs) zero are lt = (c, are.0)
+text_at (t ∷ ts) (c ∷ cs) (suc i) are lt = text_at ts cs i are.1 (omega (arith, lt))
 
 -- a text is that of one column at most
 abbrev pub IsUnique : Type 0
@@ -46,6 +47,11 @@ fields_right unique texts Limit other state (inl past) = past.first.refused (tex
 fields_right unique texts Limit other state (inr past) =
     past.past (subst (λ (cs : List Column). IsWithinLimits (schema_with cs)) (same_columns unique texts state.0 past.columns state.1.0 past.texts_of) state.1.1)
 fields_right unique texts OutOfMemory other state memory = other refl
+
+pub fields_parsed : IsUnique → (texts : List (List ℕ)) (e : Refusal) (r s : ParseError) → s ≢ OutOfMemory → StateFields true texts → e ≡ refusals.Fields r → r ≡ s
+    → RefusesFields texts e → ⊥
+fields_parsed unique texts e r s other state is same refused =
+    fields_right unique texts s other state (subst (λ (error : ParseError). IsReported texts (Err error)) same (subst (RefusesFields texts) is refused))
 
 -- ---- conditions
 
@@ -74,15 +80,13 @@ query_right texts columns are none =
       some_is_not_none : (q : PlainQuery) → Some q ≡ None → ⊥
       some_is_not_none q is = absurd cc
 
--- so only memory is refused
-pub words_memory : (texts : List (List ℕ)) (columns : Option (List ℕ)) → are_conditions texts ≡ true → (e : Refusal) → RefusesWords (stated_query texts columns None Numbers) e → e ≡ refusals.OutOfMemory
-words_memory texts columns are (refusals.Query BadCondition) refused = absurd (query_right texts columns are refused)
-words_memory texts columns are refusals.OutOfMemory refused = refl
-words_memory texts columns are _ refused = absurd refused
-
-pub fields_memory : IsUnique → (texts : List (List ℕ)) → StateFields true texts → (e : Refusal) → RefusesFields texts e → (e ≡ refusals.OutOfMemory) ⊎ (e ≡ refusals.Fields OutOfMemory)
-fields_memory unique texts state (refusals.Fields OutOfMemory) refused = inr refl
-fields_memory unique texts state (refusals.Fields (BadText number)) refused = absurd (fields_right unique texts (BadText number) (λ is. cc is) state refused)
-fields_memory unique texts state (refusals.Fields Limit) refused = absurd (fields_right unique texts Limit (λ is. cc is) state refused)
-fields_memory unique texts state refusals.OutOfMemory refused = inl refl
-fields_memory unique texts state _ refused = absurd refused
+-- so the words are not refused
+pub words_right : (texts slice : List (List ℕ)) (columns : Option (List ℕ)) (e : Refusal) (r : QueryRefusal) → slice ≡ texts → are_conditions texts ≡ true → e ≡ refusals.Query r
+    → RefusesWords (stated_query slice columns None Numbers) e → ⊥
+words_right texts slice columns e r same are is refused =
+    by r (subst (λ (ts : List (List ℕ)). RefusesWords (stated_query ts columns None Numbers) (refusals.Query r)) same
+    (subst (RefusesWords (stated_query slice columns None Numbers)) is refused))
+  where
+    by : (r : QueryRefusal) → RefusesWords (stated_query texts columns None Numbers) (refusals.Query r) → ⊥
+    by BadCondition none = query_right texts columns are none
+    by _ none = none

@@ -29,8 +29,10 @@ fn create(alloc: Global, name: &str, fields: &[&str]) -> Result<Command, AllocEr
     one_column_of_a_text();
     match new_table(alloc, name, fields) {
         Ok(new) => Ok(Command::Create(new)),
-        Err(Refusal::OutOfMemory | Refusal::Fields(ParseError::OutOfMemory)) => Err(AllocError),
-        Err(_) => unreachable!(),
+        Err(Refusal::Fields(ParseError::BadText(_))) => unreachable!(),
+        Err(Refusal::Fields(ParseError::Limit)) => unreachable!(),
+        // Nothing but memory is refused otherwise.
+        Err(_) => Err(AllocError),
     }
 }
 
@@ -47,8 +49,9 @@ fn save(alloc: Global, from: &str, to: &str, rows: &SavedRows<'_>) -> Result<Com
         DateForm::Numbers,
     ) {
         Ok(query) => query,
-        Err(Refusal::OutOfMemory) => return Err(AllocError),
-        Err(_) => unreachable!(),
+        Err(Refusal::Query(_)) => unreachable!(),
+        // Nothing but memory is refused otherwise.
+        Err(_) => return Err(AllocError),
     };
     Ok(Command::SaveAs {
         from: String::from_str(alloc, from)?,
