@@ -76,6 +76,7 @@ vectors: bin/arrowstore
 	tests/recipes bin/arrowstore
 	tests/program bin/arrowstore
 	tests/stores bin/arrowstore
+	tests/apply bin/arrowstore
 	tests/images_open bin/arrowstore
 	tests/sizes bin/arrowstore
 	tests/queries bin/arrowstore

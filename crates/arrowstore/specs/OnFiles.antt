@@ -1,6 +1,7 @@
 -- What a request of a store does, on devices of one kind.
-use Rattle.std.specs.Prelude.{◌≡◌, ◌⊎◌, ◌≤◌, ℕ, Bool, true, List, [], ◌∷◌, codes, Option, Some, None, IsSome, Result, Ok, Err, IfErr, OnOk, IsErrAnd}
+use Rattle.std.specs.Prelude.{◌≡◌, ◌⊎◌, ◌≤◌, ℕ, Bool, true, false, List, [], ◌∷◌, codes, Option, Some, None, IsSome, Result, Ok, Err, IfErr, OnOk, IsErrAnd}
 use Rattle.std.specs.Io.KnownBytes.{Appends}
+use Rattle.std.specs.Str.{bytes_eq}
 use Rattle.std.specs.declared.io.traits.Read.{Ghosts as ReadGhosts}
 use Rattle.std.specs.declared.io.traits.Write.{Ghosts as WriteGhosts}
 use Rattle.std.specs.declared.io.traits.Seek.{Ghosts as SeekGhosts}
@@ -15,8 +16,14 @@ use Rattle.commit.specs.Standing.{is_size}
 use Rattle.store.specs.declared.store.Store.{Store}
 use Rattle.commit.specs.declared.sector.FormatVersion.{FormatVersion}
 use Rattle.catalogue.specs.Edits.{entry_of}
-use Rattle.store_runs.specs.Calls.{done}
-use Rattle.store.specs.Fits.{commit_of, device_of, is_halted, listed_in, IsNewStore}
+use Rattle.tables.specs.Tables.{Tables}
+use Rattle.tables.specs.View.{list_of}
+use Rattle.tables.specs.declared.command.Command.{Command}
+use Rattle.store.specs.Applying.{GoesOn}
+use Rattle.store_runs.specs.Calls.{apply_call, done}
+use Rattle.store_runs.specs.Machine.{Machine}
+use Rattle.store.specs.Fits.{commit_of, device_of, is_halted, listed_in, IsNewStore, StoreFits}
+use Rattle.store.specs.Lists.{ended_list}
 use Rattle.store.specs.Reading.{OnlyReadsStore}
 use Rattle.store.specs.Salvaging.{SalvagesAt, RefusesSalvage}
 use Rattle.store.specs.Answering.{LeavesUnformatted}
@@ -24,7 +31,9 @@ use Rattle.cli_refusals.specs.declared.refusal.Refusal.{Refusal}
 use Rattle.cli_refusals.specs.declared.refusal.Refusal.TheVariants as refusals
 use Rattle.cli_refusals.specs.declared.refusal.Side.TheVariants as sides
 use Rattle.tables.specs.declared.refusal.Refusal as tables
+use Rattle.cli_commands.specs.Applying.{AnsweredList, AnswersList}
 use Rattle.cli_commands.specs.Copying.{Copies}
+use Rattle.cli_commands.specs.Given.{IsWholeInput, RefusesInput}
 use Rattle.cli_commands.specs.Reading.{OfStore, refusal_ended}
 use Rattle.cli_commands.specs.Salvaging.{IsBrokenOff}
 use Rattle.cli_refusals.specs.declared.hint.Hint.{Hint}
@@ -43,6 +52,8 @@ use Rattle.cli_requests.specs.Operands.{Names}
 use Rattle.cli_requests.specs.Right.{AreRightWords, IsReadFrom}
 use Rattle.cli_requests.specs.StoreWords.{first_word, ask_for_help}
 use Rattle.sector_dev.specs.declared.model.ModelDevice.{ModelDevice}
+use Rattle.cli_replay.specs.Listed.{HasCommands, RefusesCommands}
+use Rattle.cli_replay.specs.Replay as replay
 use Rattle.cli_replay.specs.Replay.{IsReplayOfFile, RefusesReplay}
 use Rattle.cli_requests.specs.declared.replaying.ReplayWords.{ReplayWords}
 use Rattle.cli_requests.specs.declared.store_words.StoreCommand.{StoreCommand}
@@ -200,21 +211,85 @@ Replays g of_file of_none contents words output output' result =
     OnOk result (IsReplayOfFile g of_file of_none words.sectors words.version words.fail words.stop words.choice (contents output) (contents output'))
     × IfErr result (RefusesReplay of_file words.sectors)
 
+-- ---- a script that is applied as one commit
+
+-- the name that stands for the input
+abbrev pub is_input : List ℕ → Bool
+is_input name = bytes_eq (codes "-") name
+
+-- a script of this name: the whole input, or the bytes of some file
+abbrev pub IsScriptNamed : {F : Type 0} → (of_file : F → Option (List ℕ)) → (input : Option (List ℕ)) → (is_input : Bool) → List ℕ → Type 0
+IsScriptNamed of_file input true script = IsWholeInput input script
+IsScriptNamed of_file input false script = replay.IsOfFile of_file script
+
+-- why none is read
+abbrev pub RefusesReading : (old new : Option (List ℕ)) → (is_input : Bool) → Refusal → Type 0
+RefusesReading old new true refusal = RefusesInput old new refusal
+RefusesReading old new false refusals.TooManyBytes = Unit {0}
+RefusesReading old new false (refusals.Io sides.File) = Unit {0}
+RefusesReading old new false refusals.OutOfMemory = Unit {0}
+RefusesReading old new false _ = ⊥
+
+-- several commands were given to a store as one, and `ok` was written once they were done (`apply_commands`)
+pub record CarriesList {D : Type 0} {g : Ghosts D} {W : Type 0} (contents : W → Option (List ℕ)) (commands : List Command) (old new : Store D g)
+    (output output' : W) (result : Result (Unit {0}) Refusal) : Type 0 where
+  pub goes : g.tells ≡ true → (base : Tables) (m : Machine) → StoreFits g.size g.story base m old
+      → AnsweredList (λ answer. GoesOn g.size g.story g.failed base m (apply_call (list_of commands)) (ended_list answer) old new) result
+  pub told : AnsweredList (λ answer. AnswersList g.size g.story g.failed g.tells commands answer old new) result
+  pub written : OnOk result (Appends (contents output) (contents output') (codes "ok\n"))
+
+-- the commands of the lines of a script were given to a store that was opened for it
+pub record AppliesLines {D : Type 0} (g : Ghosts D) (is_opened : D → Type 0) {F W : Type 0} (of_file : F → Option (List ℕ)) (contents : W → Option (List ℕ))
+    (script : List ℕ) (output output' : W) (result : Result (Unit {0}) Refusal) : Type 0 where
+  pub commands : List Command
+  pub have : HasCommands of_file script commands
+  pub old : Store D g
+  pub opens : OpensStore g is_opened old
+  pub new : Store D g
+  pub carries : CarriesList contents commands old new output output' result
+
+-- why a script is not given to a store: it has no commands, or no store is opened for it
+abbrev pub RefusesLines : {D : Type 0} → (g : Ghosts D) → (is_opened : D → Type 0) → {F : Type 0} → (of_file : F → Option (List ℕ)) → (script : List ℕ)
+    → Refusal → Type 0
+RefusesLines g is_opened of_file script refusal =
+    RefusesCommands script refusal ⊎ ((commands : List Command) × HasCommands of_file script commands × FailsToOpen g is_opened refusal)
+
+-- the script was applied so, or it was refused before a store was opened and nothing was written
+abbrev pub AppliesRead : {D : Type 0} → (g : Ghosts D) → (is_opened : D → Type 0) → {F W : Type 0} → (of_file : F → Option (List ℕ))
+    → (contents : W → Option (List ℕ)) → (script : List ℕ) → (output output' : W) → Result (Unit {0}) Refusal → Type 0
+AppliesRead g is_opened of_file contents script output output' result =
+    IsErrAnd result (λ refusal. RefusesLines g is_opened of_file script refusal × (output' ≡ output))
+    ⊎ AppliesLines g is_opened of_file contents script output output' result
+
+-- the script of this name was read and applied so, or it is not read and nothing was written; the input is read only if the name stands for it
+pub record AppliesScript {D : Type 0} (g : Ghosts D) (is_opened : D → Type 0) {F R W : Type 0} (of_file : F → Option (List ℕ))
+    (remaining : R → Option (List ℕ)) (contents : W → Option (List ℕ)) (name : List ℕ) (input input' : R) (output output' : W)
+    (result : Result (Unit {0}) Refusal) : Type 0 where
+  pub applies : IsErrAnd result (λ refusal. RefusesReading (remaining input) (remaining input') (is_input name) refusal × (output' ≡ output))
+      ⊎ ((script : List ℕ) × IsScriptNamed of_file (remaining input) (is_input name) script
+      × AppliesRead g is_opened of_file contents script output output' result)
+  pub unread : is_input name ≡ false → input' ≡ input
+
 -- ---- requests
 
--- what a request does and what it leaves out, which is nothing unless it is a salvage; `replays` says what a script does
-abbrev pub ServesRequest : {D : Type 0} → (g : Ghosts D) → (is_opened : D → Type 0) → {R W : Type 0} → (remaining : R → Option (List ℕ))
-    → (contents : W → Option (List ℕ)) → (replays : ReplayWords → W → W → Result (Unit {0}) Refusal → Type 0) → StoreRequest → (before after : Channels R W)
+-- what a request does and what it leaves out, which is nothing unless it is a salvage; `replays` says what the replay of a script does, and `of_file` which
+-- bytes a file has
+abbrev pub ServesRequest : {D : Type 0} → (g : Ghosts D) → (is_opened : D → Type 0) → {F R W : Type 0} → (of_file : F → Option (List ℕ))
+    → (remaining : R → Option (List ℕ)) → (contents : W → Option (List ℕ))
+    → (replays : ReplayWords → W → W → Result (Unit {0}) Refusal → Type 0) → StoreRequest → (before after : Channels R W)
     → (left left' : List (ℕ × ℕ)) → Result (Unit {0}) Refusal → Type 0
-ServesRequest g is_opened remaining contents replays (requests.Format path sectors version) before after left left' result =
+ServesRequest g is_opened of_file remaining contents replays (requests.Format path sectors version) before after left left' result =
     Formats g contents sectors version before.output after.output result × (after.hint ≡ before.hint) × (left' ≡ left)
-ServesRequest g is_opened remaining contents replays (requests.Copy path new sectors) before after left left' result =
+ServesRequest g is_opened of_file remaining contents replays (requests.Copy path new sectors) before after left left' result =
     CopiesStore g is_opened contents sectors before.output after.output result × (after.hint ≡ before.hint) × (left' ≡ left)
-ServesRequest g is_opened remaining contents replays (requests.Salvage path name) before after left left' result =
+ServesRequest g is_opened of_file remaining contents replays (requests.Salvage path name) before after left left' result =
     SalvagesFile g is_opened contents name.now before.output after.output left left' result × (after.hint ≡ before.hint)
-ServesRequest g is_opened remaining contents replays (requests.Replay words) before after left left' result =
+ServesRequest g is_opened of_file remaining contents replays (requests.Apply path script) before after left left' result =
+    AppliesScript g is_opened of_file remaining contents script.now before.input after.input before.output after.output result × (after.hint ≡ before.hint)
+    × (left' ≡ left)
+ServesRequest g is_opened of_file remaining contents replays (requests.Replay words) before after left left' result =
     replays words before.output after.output result × (after.hint ≡ before.hint) × (left' ≡ left)
-ServesRequest g is_opened remaining contents replays (requests.Command path command) before after left left' result =
+ServesRequest g is_opened of_file remaining contents replays (requests.Command path command) before after left left' result =
     ServesCommand g is_opened remaining contents command before after result × (left' ≡ left)
 
 -- the refusals after which some output may have been written: a write of it failed, or a salvage was broken off
@@ -250,13 +325,14 @@ HasTold reported audience word left output output' errors errors' ended known =
     HasReported reported audience known left (WritesPart word) output output' errors errors' ended
 
 -- a request was served, and what was left out or hinted was reported
-pub record ServesTold {D : Type 0} (g : Ghosts D) (is_opened : D → Type 0) {R W E : Type 0} (remaining : R → Option (List ℕ)) (contents : W → Option (List ℕ))
-    (replays : ReplayWords → W → W → Result (Unit {0}) Refusal → Type 0) (reported : E → Option (List ℕ)) (audience : Audience) (request : StoreRequest)
+pub record ServesTold {D : Type 0} (g : Ghosts D) (is_opened : D → Type 0) {F R W E : Type 0} (of_file : F → Option (List ℕ)) (remaining : R → Option (List ℕ))
+    (contents : W → Option (List ℕ)) (replays : ReplayWords → W → W → Result (Unit {0}) Refusal → Type 0) (reported : E → Option (List ℕ))
+    (audience : Audience) (request : StoreRequest)
     (before after : Ends R W E) (ended : Ended) : Type 0 where
   pub hinted : Option Hinted
   pub left : List (ℕ × ℕ)
   pub result : Result (Unit {0}) Refusal
-  pub serves : ServesRequest g is_opened remaining contents replays request (channels before.input before.output None)
+  pub serves : ServesRequest g is_opened of_file remaining contents replays request (channels before.input before.output None)
       (channels after.input after.output hinted) [] left result
   pub ends : ended.status ≡ status_of result left
   pub known : Known
@@ -272,12 +348,13 @@ abbrev pub IsAskedBy : (arguments : List (List ℕ)) → StoreRequest → Type 0
 IsAskedBy arguments request = (request_word request ≡ first_word arguments) × Names arguments request × IsReadFrom arguments request
 
 -- that request was served
-pub record ServesAsked {D : Type 0} (g : Ghosts D) (is_opened : D → Type 0) {R W E : Type 0} (remaining : R → Option (List ℕ)) (contents : W → Option (List ℕ))
-    (replays : ReplayWords → W → W → Result (Unit {0}) Refusal → Type 0) (reported : E → Option (List ℕ)) (audience : Audience) (arguments : List (List ℕ))
+pub record ServesAsked {D : Type 0} (g : Ghosts D) (is_opened : D → Type 0) {F R W E : Type 0} (of_file : F → Option (List ℕ)) (remaining : R → Option (List ℕ))
+    (contents : W → Option (List ℕ)) (replays : ReplayWords → W → W → Result (Unit {0}) Refusal → Type 0) (reported : E → Option (List ℕ))
+    (audience : Audience) (arguments : List (List ℕ))
     (before after : Ends R W E) (ended : Ended) : Type 0 where
   pub request : StoreRequest
   pub asks : IsAskedBy arguments request
-  pub served : ServesTold g is_opened remaining contents replays reported audience request before after ended
+  pub served : ServesTold g is_opened of_file remaining contents replays reported audience request before after ended
 
 -- help that was asked for is given, or the words are reported as wrong and nothing is written
 abbrev pub GivesHelpOrWrong : {W : Type 0} → (contents : W → Option (List ℕ)) → (asks_for_help : Bool) → (output output' : W) → Status → Type 0
@@ -290,10 +367,11 @@ AsksForNone contents arguments output output' status =
     GivesHelpOrWrong contents (ask_for_help arguments) output output' status × (AreRightWords arguments → status ≡ Refused refusals.OutOfMemory)
 
 -- arguments for a store: none of their commands is served and nothing is read, or the request that they state was served
-abbrev pub RunsOnStore : {D : Type 0} → (g : Ghosts D) → (is_opened : D → Type 0) → {R W E : Type 0} → (remaining : R → Option (List ℕ))
+abbrev pub RunsOnStore : {D : Type 0} → (g : Ghosts D) → (is_opened : D → Type 0) → {F R W E : Type 0} → (of_file : F → Option (List ℕ))
+    → (remaining : R → Option (List ℕ))
     → (contents : W → Option (List ℕ)) → (replays : ReplayWords → W → W → Result (Unit {0}) Refusal → Type 0) → (reported : E → Option (List ℕ)) → Audience
     → (arguments : List (List ℕ)) → (before after : Ends R W E) → Ended → Type 0
-RunsOnStore g is_opened remaining contents replays reported audience arguments before after ended =
+RunsOnStore g is_opened of_file remaining contents replays reported audience arguments before after ended =
     (AsksForNone contents arguments before.output after.output ended.status × (after.input ≡ before.input)
     × HasReportedHint HintsText reported audience before.output after.output before.errors after.errors ended)
-    ⊎ ServesAsked g is_opened remaining contents replays reported audience arguments before after ended
+    ⊎ ServesAsked g is_opened of_file remaining contents replays reported audience arguments before after ended

@@ -42,6 +42,10 @@ pub(crate) fn cause_of(failure: &Option<Failure>) -> FileCause {
 fn may_be_shown(request: &StoreRequest<'_>, path: &str) -> bool {
     match request {
         StoreRequest::Replay(words) => path == words.script || path.len() <= MOST_SHOWN,
+        StoreRequest::Apply {
+            path: store,
+            script,
+        } => path == *store || path == *script || path.len() <= MOST_SHOWN,
         _ => true,
     }
 }
@@ -54,9 +58,10 @@ fn unopened(alloc: Global, error: &io::Error) -> Option<FileReason> {
 fn makes(request: &StoreRequest<'_>, path: &str) -> bool {
     match request {
         StoreRequest::Format { path: new, .. } | StoreRequest::Copy { new, .. } => *new == path,
-        StoreRequest::Salvage { .. } | StoreRequest::Replay(_) | StoreRequest::Command { .. } => {
-            false
-        }
+        StoreRequest::Salvage { .. }
+        | StoreRequest::Replay(_)
+        | StoreRequest::Apply { .. }
+        | StoreRequest::Command { .. } => false,
     }
 }
 

@@ -12,6 +12,7 @@
 #![tactic(auto)]
 
 mod about_words;
+mod applying_scripts;
 mod asking_again;
 mod block_devices;
 mod command_line;

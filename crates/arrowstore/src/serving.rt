@@ -8,6 +8,7 @@ ghost use Rattle.cli_requests.specs.StoreWords.{takes_input_word};
 ghost use Rattle.arrowstore.specs.OnFiles.{IsOpenedFile, FailsToFormat, RefusesFormat, Formats, Replays, ServesCommand, ServesRequest, WritesPart};
 ghost use Rattle.arrowstore.specs.Serving.{channels};
 
+use crate::applying_scripts::serve_apply;
 use crate::copying_files::serve_copy;
 use crate::open_command::stated;
 use crate::replaying::serve_replay;
@@ -256,7 +257,7 @@ pub(crate) fn serve<
     hint: &mut Option<Hinted>,
     left_out: &mut Vec<LeftOut>,
 ) -> Result<(), Refusal>
-    ensures serves { ServesRequest ⟦<FileDevice<SystemFile<F>> as SectorDevice>⟧ IsOpenedFile R.remaining W.contents
+    ensures serves { ServesRequest ⟦<FileDevice<SystemFile<F>> as SectorDevice>⟧ IsOpenedFile F.remaining R.remaining W.contents
         (Replays ⟦<ModelDevice as SectorDevice>⟧ F.remaining ⟦<Empty as Read>⟧.remaining W.contents) request.now
         (channels input.old output.old hint.old) (channels input.new output.new hint.new)
         (plain_left left_out.old.items) (plain_left left_out.new.items) result }
@@ -272,6 +273,7 @@ pub(crate) fn serve<
         } => serve_format(rt, path, *sectors, *version, output),
         StoreRequest::Copy { path, new, sectors } => serve_copy(rt, path, new, *sectors, output),
         StoreRequest::Salvage { path, name } => serve_salvage(rt, path, name, output, left_out),
+        StoreRequest::Apply { path, script } => serve_apply(rt, path, script, input, output),
         StoreRequest::Replay(words) => serve_replay(rt, words, output),
         StoreRequest::Command { path, command } => {
             serve_command(rt, path, command, input, output, hint)

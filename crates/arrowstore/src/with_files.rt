@@ -193,7 +193,7 @@ fn serve_and_report<
     failures: &Failures,
     audience: Audience,
 ) -> Ended
-    ensures serves { ServesTold ⟦<FileDevice<SystemFile<F>> as SectorDevice>⟧ IsOpenedFile R.remaining W.contents
+    ensures serves { ServesTold ⟦<FileDevice<SystemFile<F>> as SectorDevice>⟧ IsOpenedFile F.remaining R.remaining W.contents
         (Replays ⟦<ModelDevice as SectorDevice>⟧ F.remaining ⟦<Empty as Read>⟧.remaining W.contents) E.contents
         (audience_after_output audience (W.unread output.new)) request.now
         (ends_of input.old output.old errors.old) (ends_of input.new output.new errors.new) result }
@@ -271,7 +271,7 @@ fn run_on_store<
     audience: Audience,
 ) -> Ended
     requires { is_of_store (map S.text arguments.now) ≡ true }
-    ensures serves { RunsOnStore ⟦<FileDevice<SystemFile<F>> as SectorDevice>⟧ IsOpenedFile R.remaining W.contents
+    ensures serves { RunsOnStore ⟦<FileDevice<SystemFile<F>> as SectorDevice>⟧ IsOpenedFile F.remaining R.remaining W.contents
         (Replays ⟦<ModelDevice as SectorDevice>⟧ F.remaining ⟦<Empty as Read>⟧.remaining W.contents) E.contents
         (audience_after_output audience (W.unread output.new)) (map S.text arguments.now)
         (ends_of input.old output.old errors.old) (ends_of input.new output.new errors.new) result }
@@ -327,7 +327,7 @@ pub fn run_with_files<
     // store was open, or what the words state was executed on one. If a word asks for help, that may be given instead, and wrong words are
     // reported; right ones are not.
     ensures serves { is_of_store (map S.text arguments.now) ≡ true
-        → RunsOnStore ⟦<FileDevice<SystemFile<F>> as SectorDevice>⟧ IsOpenedFile R.remaining W.contents
+        → RunsOnStore ⟦<FileDevice<SystemFile<F>> as SectorDevice>⟧ IsOpenedFile F.remaining R.remaining W.contents
         (Replays ⟦<ModelDevice as SectorDevice>⟧ F.remaining ⟦<Empty as Read>⟧.remaining W.contents) E.contents
         (audience_after_output audience (W.unread output.new)) (map S.text arguments.now)
         (ends_of input.old output.old errors.old) (ends_of input.new output.new errors.new) result }

@@ -13,8 +13,11 @@ use tables::{Limit, MAX_IMPORT_BYTES};
 /// The maximum length of an input in bytes: that of the longest stream that can be imported.
 pub const LARGEST_INPUT: usize = MAX_IMPORT_BYTES;
 
-// Reads to the end, but at most one byte more than an input may have.
-pub(crate) fn read_input<R: Read>(alloc: Global, reader: &mut R) -> Result<Vec<u8>, Refusal>
+/// Reads to the end, but at most one byte more than an input may have.
+///
+/// # Errors
+/// `TooManyBytes` if it is longer than `LARGEST_INPUT`; `Io` of the input if a read fails; `OutOfMemory`.
+pub fn read_input<R: Read>(alloc: Global, reader: &mut R) -> Result<Vec<u8>, Refusal>
     ensures all { IfOk result (λ bytes. IfSome (R.remaining reader.old) (λ input. bytes.items ≡ input)) }
     ensures end { OnOk result (IsAtEnd (R.remaining reader.new)) }
     ensures within { IfOk result (λ bytes. vec_len bytes ≤ LARGEST_INPUT) }

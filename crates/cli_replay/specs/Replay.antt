@@ -57,7 +57,7 @@ IsFrontOfFile {F} remaining bytes = (file : F) × IfSome (remaining file) (λ al
 abbrev pub SavesRows : (from to : List ℕ) → PlainRows → PlainCommand → Type 0
 SavesRows from to rows command = (query : PlainQuery) × (stated_query rows.conditions rows.columns None Numbers ≡ Some query) × (command ≡ commands.save_as from to query)
 
--- the command of a line
+-- the command of a line that changes tables
 abbrev pub IsCommandOfLine : {F : Type 0} → (remaining : F → Option (List ℕ)) → PlainLine → PlainCommand → Type 0
 IsCommandOfLine remaining (create name texts) command = (s : PlainSchema) × StateSchema texts s × (command ≡ commands.create name s)
 IsCommandOfLine remaining (import_file name path) command = (bytes : List ℕ) × IsFrontOfFile remaining bytes × (command ≡ commands.import_stream name bytes)
@@ -75,23 +75,11 @@ IsCallOfLine remaining upgrade calls.Upgrade = Unit {0}
 IsCallOfLine remaining reopen calls.Open = Unit {0}
 IsCallOfLine remaining _ _ = ⊥
 
--- these commands are those of the calls of lines, each of which applies a command
-abbrev pub AreCommandsOfLines : {F : Type 0} → (remaining : F → Option (List ℕ)) → List PlainLine → List Command → Type 0
-AreCommandsOfLines remaining [] [] = Unit {0}
-AreCommandsOfLines remaining (line ∷ lines) (command ∷ more) = IsCommandOfLine remaining line (command_of command) × AreCommandsOfLines remaining lines more
-AreCommandsOfLines remaining _ _ = ⊥
-
--- the call of an item: that of its line, or one that applies the commands of all lines of a list as one
-abbrev pub IsCallOfItem : {F R : Type 0} → (remaining : F → Option (List ℕ)) → PlainItem → Call R → Type 0
-IsCallOfItem remaining (alone line) call = IsCallOfLine remaining line call
-IsCallOfItem remaining (listed begun lines) (calls.ApplyAll all) = AreCommandsOfLines remaining lines all.items
-IsCallOfItem remaining (listed begun lines) _ = ⊥
-
--- each item has its call
-abbrev pub AreCallsOfItems : {F R : Type 0} → (remaining : F → Option (List ℕ)) → List PlainItem → List (Call R) → Type 0
-AreCallsOfItems remaining [] [] = Unit {0}
-AreCallsOfItems remaining (item ∷ items) (call ∷ calls) = IsCallOfItem remaining item call × AreCallsOfItems remaining items calls
-AreCallsOfItems remaining _ _ = ⊥
+-- each line has its call
+abbrev pub AreCallsOfLines : {F R : Type 0} → (remaining : F → Option (List ℕ)) → List PlainLine → List (Call R) → Type 0
+AreCallsOfLines remaining [] [] = Unit {0}
+AreCallsOfLines remaining (line ∷ lines) (call ∷ calls) = IsCallOfLine remaining line call × AreCallsOfLines remaining lines calls
+AreCallsOfLines remaining _ _ = ⊥
 
 -- ---- the device
 

@@ -37,7 +37,10 @@ fn front_of_file<F: Read + OpenFile + Drop, H: Files<File = F> + AllocGlobal>(
 }
 
 /// Reads a whole script.
-pub(crate) fn read_script<F: Read + OpenFile + Drop, H: Files<File = F> + AllocGlobal>(
+///
+/// # Errors
+/// `TooManyBytes` if it is longer than a stream may be; `Io` of a file if it can't be read; `OutOfMemory`.
+pub fn read_script<F: Read + OpenFile + Drop, H: Files<File = F> + AllocGlobal>(
     rt: &H,
     path: &str,
 ) -> Result<Vec<u8>, Refusal>

@@ -1,5 +1,7 @@
 // Replays a whole script.
 ghost use Rattle.std.specs.Prelude.{◌≡◌, ◌≢◌, ◌++◌, ℕ, List, codes, map, string_bytes, Ok, IfOk, IfErr, OnOk};
+ghost use Rattle.std.specs.List.{AllByRecursion};
+ghost use Rattle.cli_replay.specs.Listed.{IsTested};
 ghost use Rattle.cli_replay.specs.Playing.{stop_text};
 ghost use Rattle.cli_replay.specs.Replay.{IsEmptyStore, IsOfPlaying, IsReplay, IsReplayOfFile, RefusesReplay, RefusesScript};
 ghost use Rattle.cli_scripts.specs.Plain.{plain_lines, plain_words};
@@ -80,6 +82,7 @@ fn lines_of<'a>(
 ) -> Result<Vec<ScriptLine<'a>>, Refusal>
     ensures lines { IfOk result (λ lines. (script : List ℕ) → HaveWords (lines_of script) (map plain_words words.now)
         → IsScript script (Ok (plain_lines lines.items))) }
+    ensures tested { IfOk result (λ lines. AllByRecursion IsTested (plain_lines lines.items)) }
     ensures told { IfErr result (λ refusal. (script : List ℕ) → HaveWords (lines_of script) (map plain_words words.now)
         → RefusesScript script refusal) }
 {

@@ -125,9 +125,13 @@ conditions_app name = with_rule (table_app name) (repeated_rule (codes "CONDITIO
 abbrev pub query_dates_rule : ValueParser → Rule
 query_dates_rule dates = record (option_rule (codes "dates")) { parser = Some dates }
 
+abbrev pub selection_app : Text → App
+selection_app name =
+    with_rule (with_rule (with_rule (with_rule (conditions_app name) (option_rule (codes "columns"))) limit_rule) (option_rule (codes "save")))
+    (flag_rule (codes "objects"))
+
 abbrev pub query_app : (dates : ValueParser) → Text → App
-query_app dates name = with_rule (with_rule (with_rule (with_rule (with_rule (conditions_app name) (option_rule (codes "columns"))) limit_rule) (option_rule (codes "save")))
-    (flag_rule (codes "objects"))) (query_dates_rule dates)
+query_app dates name = with_rule (selection_app name) (query_dates_rule dates)
 
 -- a script, and what goes wrong while it is played
 abbrev pub number_rule : Text → Rule

@@ -3,7 +3,7 @@ ghost use Rattle.std.specs.Prelude.{◌≡◌, false, codes, IfOk};
 ghost use Rattle.clap.specs.Words.{app_of, new_app, rule_of, with_rule};
 ghost use Rattle.clap.specs.declared.builder.value_parser.ValueParser.{ValueParser};
 ghost use Rattle.cli_requests.specs.Apps.{required_rule, flag_rule, sectors_rule, version_rule, repeated_rule, option_rule, form_rule, null_rule, dates_rule, query_dates_rule, limit_rule};
-ghost use Rattle.cli_requests.specs.Apps.{store_app, info_app, format_app, new_file_app, copy_app, table_app, apply_app, import_app, rename_app, fields_app, schema_app, create_app, append_app, conditions_app, query_app};
+ghost use Rattle.cli_requests.specs.Apps.{store_app, info_app, format_app, new_file_app, copy_app, table_app, apply_app, import_app, rename_app, fields_app, schema_app, create_app, append_app, conditions_app, selection_app, query_app};
 ghost use Rattle.cli_requests.specs.Apps.{AreForms, AreDateForms, other_parameters, parameters_of, IsOwnApp};
 ghost use Rattle.cli_requests.specs.Operands.{names_file, names_table};
 
@@ -351,9 +351,9 @@ fn with_conditions<'a>(alloc: Global, name: &'a str) -> Result<Command<'a>, Allo
     ))
 }
 
-/// Makes a command that takes a query, and how to print the rows or a name to save them under.
-pub(crate) fn with_query<'a>(alloc: Global, name: &'a str) -> Result<Command<'a>, AllocError>
-    ensures { IfOk result (λ c. (dates : ValueParser) × AreDateForms dates × (app_of c ≡ query_app dates name.now)) }
+// Makes a command that takes a query, and how to print the rows or a name to save them under.
+fn with_selection<'a>(alloc: Global, name: &'a str) -> Result<Command<'a>, AllocError>
+    ensures { IfOk result (λ c. app_of c ≡ selection_app name.now) }
 {
     let columns = option(
         alloc,
@@ -376,8 +376,15 @@ pub(crate) fn with_query<'a>(alloc: Global, name: &'a str) -> Result<Command<'a>
         .arg(columns)?
         .arg(limit(alloc))?
         .arg(save)?
-        .arg(objects)?
-        .arg(query_dates(alloc))
+        .arg(objects)
+}
+
+/// Makes a command that also takes how dates stand.
+pub(crate) fn with_query<'a>(alloc: Global, name: &'a str) -> Result<Command<'a>, AllocError>
+    ensures { IfOk result (λ c. (dates : ValueParser) × AreDateForms dates × (app_of c ≡ query_app dates name.now)) }
+{
+    let dates = query_dates(alloc);
+    with_selection(alloc, name)?.arg(dates)
 }
 
 fn command<'a>(alloc: Global, name: &'a str) -> Result<Command<'a>, AllocError>

@@ -1,14 +1,15 @@
 -- Lines and their words, one after another.
-use Rattle.std.proofs.Common.{◌≡◌, ◌==◌, ◌<◌, ◌+◌, ◌-◌, ◌++◌, ◌∙◌, ℕ, true, false, if◌then◌else◌, length, take, drop, get_or, map, append_assoc, List, [], ◌∷◌, Option, Some, None, option_map, String, string_bytes, sym, ap, subst, arith}
+use Rattle.std.proofs.Common.{◌≡◌, ◌==◌, ◌<◌, ◌+◌, ◌-◌, ◌++◌, ◌∙◌, ℕ, true, false, if◌then◌else◌, length, take, drop, get_or, map, append_assoc, List, [], ◌∷◌, Option, Some, None, option_map, String, string_bytes, refl, sym, ap, subst, arith}
 use Rattle.std.specs.Borrow.{Bor}
 use Rattle.std.specs.Global.{Global, Vec}
-use Rattle.std.specs.List.{slice_split}
-use Rattle.std.proofs.lemmas.Bool.{cond-true, cond-false}
+use Rattle.std.specs.List.{slice_split, list_all}
+use Rattle.std.proofs.lemmas.Bool.{cond-true, cond-false, and_from}
 use Rattle.std.proofs.lemmas.List.{take_more, take-map, get_or-map, length-map, map-append}
+use Rattle.std.proofs.lemmas.List.Folds.{list_all-append}
 use Rattle.facts.specs.Texts.{text_list}
 use Rattle.cli_scripts.specs.declared.line.ScriptLine.{ScriptLine}
 use Rattle.cli_scripts.specs.Plain.{plain_line, plain_lines, plain_words}
-use Rattle.cli_scripts.specs.Script.{PlainLine, HasLine, HasNone, ReadsLine, HaveLines, IsBadLine}
+use Rattle.cli_scripts.specs.Script.{PlainLine, HasLine, HasNone, ReadsLine, HaveLines, IsBadLine, changes_tables, HasNoChange, ReadsChange, HaveChanges, IsNoChange}
 use Rattle.cli_scripts.specs.Words.{lines_of, ends_empty, HasWords, HaveWords}
 
 -- ---- the lines of a script
@@ -87,6 +88,32 @@ bad_line all i item lines number counted lt here before none = record {
   front = plain_lines lines;
   before = before;
   bad = subst (λ (words : Option (List (List ℕ))). HasNone words) (ap plain_words here ∙ sym (get_or-map plain_words all i item None lt)) none;
+}
+
+-- ---- lines that change tables
+
+-- one more line
+pub change_kept : (all : List (Option (Vec (String Global)))) (i : ℕ) (item : Option (Vec (String Global))) (lines : List ScriptLine) (found : Option ScriptLine) (line : ScriptLine) → i < length all
+    → item ≡ get_or all i item → ReadsChange (plain_words item) (option_map plain_line found) → found ≡ Some line → HaveChanges (take i (map plain_words all)) (plain_lines lines)
+    → HaveChanges (take (i + 1) (map plain_words all)) (plain_lines (lines ++ line ∷ []))
+change_kept all i item lines found line lt here read some so_far =
+    let is = subst (λ (o : Option ScriptLine). ReadsChange (plain_words item) (option_map plain_line o)) some read in (
+      line_kept all i item lines (Some line) line lt here is.0 refl so_far.0,
+      ap (list_all changes_tables) (map-append plain_line lines (line ∷ []))
+          ∙ list_all-append changes_tables (plain_lines lines) (plain_line line ∷ [])
+          ∙ and_from _ _ so_far.1 (and_from _ _ is.1 refl),
+    )
+
+-- the first one that does not change tables
+pub no_change : (all : List (Option (Vec (String Global)))) (i : ℕ) (item : Option (Vec (String Global))) (lines : List ScriptLine) (number : ℕ) → number ≡ i + 1 → i < length all
+    → item ≡ get_or all i item → HaveChanges (take i (map plain_words all)) (plain_lines lines) → HasNoChange (plain_words item) → IsNoChange (map plain_words all) number
+no_change all i item lines number counted lt here before none = record {
+  index = i;
+  counted = counted;
+  among = omega (arith, lt, length-map all plain_words);
+  front = plain_lines lines;
+  before = before;
+  bad = subst (λ (words : Option (List (List ℕ))). HasNoChange words) (ap plain_words here ∙ sym (get_or-map plain_words all i item None lt)) none;
 }
 
 -- the texts of one more word

@@ -1,4 +1,3 @@
 pub mod Words
 pub mod Script
-pub mod Items
 pub mod Plain

@@ -5,11 +5,8 @@ use Rattle.std.specs.Option.{option_copied}
 use Rattle.facts.specs.Texts.{text_list}
 use Rattle.cli_scripts.specs.declared.line.SavedRows.{SavedRows}
 use Rattle.cli_scripts.specs.declared.line.ScriptLine.{ScriptLine}
-use Rattle.cli_scripts.specs.declared.line.ScriptLine.TheVariants.{Create, Import, Append, Save, Rename, Drop, Compact, Upgrade, Reopen, Begin, Commit}
-use Rattle.cli_scripts.specs.declared.items.ScriptItem.{ScriptItem}
-use Rattle.cli_scripts.specs.declared.items.ScriptItem.TheVariants.{Line, List as Listed}
-use Rattle.cli_scripts.specs.Items.{PlainItem, alone, listed}
-use Rattle.cli_scripts.specs.Script.{PlainRows, PlainLine, create, import_file, append_file, save, rename, drop, compact, upgrade, reopen, begin_list, commit_list}
+use Rattle.cli_scripts.specs.declared.line.ScriptLine.TheVariants.{Create, Import, Append, Save, Rename, Drop, Compact, Upgrade, Reopen}
+use Rattle.cli_scripts.specs.Script.{PlainRows, PlainLine, create, import_file, append_file, save, rename, drop, compact, upgrade, reopen}
 
 abbrev pub plain_words : Option (Vec (String Global)) → Option (List (List ℕ))
 plain_words words = option_map (λ v. map string_bytes v.items) words
@@ -27,12 +24,6 @@ plain_line (Drop name) = drop name.now
 plain_line Compact = compact
 plain_line Upgrade = upgrade
 plain_line Reopen = reopen
-plain_line Begin = begin_list
-plain_line Commit = commit_list
 
 abbrev pub plain_lines : List ScriptLine → List PlainLine
 plain_lines lines = map plain_line lines
-
-abbrev pub plain_item : ScriptItem → PlainItem
-plain_item (Line line) = alone (plain_line line)
-plain_item (Listed begun lines) = listed begun (plain_lines lines.items)

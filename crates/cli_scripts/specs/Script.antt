@@ -1,5 +1,5 @@
 -- Scripts: one command on each line (`docs/using.md`).
-use Rattle.std.specs.Prelude.{◌≡◌, ◌≢◌, ◌<◌, ◌+◌, ℕ, Bool, true, false, if◌then◌else◌, List, [], ◌∷◌, length, take, get_or, codes, Option, Some, None, is_some, Result, Ok, Err}
+use Rattle.std.specs.Prelude.{◌≡◌, ◌≢◌, ◌⊎◌, ◌<◌, ◌+◌, ℕ, Bool, true, false, if◌then◌else◌, List, [], ◌∷◌, length, take, get_or, codes, Option, Some, None, is_some, Result, Ok, Err}
 use Rattle.std.specs.List.{list_all}
 use Rattle.std.specs.Str.{bytes_eq}
 use Rattle.arrow_schema.specs.Column.{Column}
@@ -27,8 +27,6 @@ pub data PlainLine : Type 0 where
   compact : PlainLine
   upgrade : PlainLine
   reopen : PlainLine
-  begin_list : PlainLine
-  commit_list : PlainLine
 
 -- ---- what the words ask for
 
@@ -36,9 +34,7 @@ unfoldable pub alone : List ℕ → Option PlainLine
 alone word =
     if bytes_eq (codes "compact") word then Some compact
     else if bytes_eq (codes "upgrade") word then Some upgrade
-    else if bytes_eq (codes "reopen") word then Some reopen
-    else if bytes_eq (codes "begin") word then Some begin_list
-    else if bytes_eq (codes "commit") word then Some commit_list else None
+    else if bytes_eq (codes "reopen") word then Some reopen else None
 
 unfoldable pub with_name : List ℕ → List ℕ → Option PlainLine
 with_name word name = if bytes_eq (codes "drop") word then Some (drop name) else None
@@ -150,3 +146,45 @@ AreParsed texts (Err OutOfMemory) = Unit {0}
 -- the lines of a script, or its first invalid line
 abbrev pub IsScript : List ℕ → Result (List PlainLine) ScriptError → Type 0
 IsScript script parsed = (texts : List (Option (List (List ℕ)))) × HaveWords (lines_of script) texts × AreParsed texts parsed
+
+-- ---- a script that is applied as one commit: each line changes tables
+
+abbrev pub changes_tables : PlainLine → Bool
+changes_tables compact = false
+changes_tables upgrade = false
+changes_tables reopen = false
+changes_tables _ = true
+
+-- these words are those of such a line
+abbrev pub HasChange : Option (List (List ℕ)) → PlainLine → Type 0
+HasChange words line = HasLine words line × (changes_tables line ≡ true)
+
+-- they have no line, or that of another command
+abbrev pub HasNoChange : Option (List (List ℕ)) → Type 0
+HasNoChange words = HasNone words ⊎ ((line : PlainLine) × HasLine words line × (changes_tables line ≡ false))
+
+abbrev pub ReadsChange : Option (List (List ℕ)) → Option PlainLine → Type 0
+ReadsChange words (Some line) = HasChange words line
+ReadsChange words None = HasNoChange words
+
+abbrev pub HaveChanges : List (Option (List (List ℕ))) → List PlainLine → Type 0
+HaveChanges texts lines = HaveLines texts lines × (list_all changes_tables lines ≡ true)
+
+-- the first line that does not change tables; its number counts from 1
+pub record IsNoChange (texts : List (Option (List (List ℕ)))) (number : ℕ) : Type 0 where
+  pub index : ℕ
+  pub counted : number ≡ index + 1
+  pub among : index < length texts
+  pub front : List PlainLine
+  pub before : HaveChanges (take index texts) front
+  pub bad : HasNoChange (get_or texts index None)
+
+-- the lines that words have, or the first line that does not change tables
+abbrev pub AreChanges : List (Option (List (List ℕ))) → Result (List PlainLine) ScriptError → Type 0
+AreChanges texts (Ok lines) = HaveChanges texts lines
+AreChanges texts (Err (BadLine number)) = IsNoChange texts number
+AreChanges texts (Err OutOfMemory) = Unit {0}
+
+-- the lines of a script that is applied as one commit, or its first line that can't be
+abbrev pub IsScriptOfChanges : List ℕ → Result (List PlainLine) ScriptError → Type 0
+IsScriptOfChanges script parsed = (texts : List (Option (List (List ℕ)))) × HaveWords (lines_of script) texts × AreChanges texts parsed

@@ -6,14 +6,12 @@
 //! ```
 #![tactic(auto)]
 
-mod items;
 mod laws;
 mod line;
 mod script;
 mod words;
 
-pub use items::{ScriptItem, items_of};
 pub use laws::{a_line_has_one_list_of_words, written_words_are_read};
 pub use line::{SavedRows, ScriptLine, line_of};
-pub use script::{ScriptError, parse_script};
+pub use script::{ScriptError, parse_changes, parse_script};
 pub use words::script_words;

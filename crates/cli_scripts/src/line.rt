@@ -52,10 +52,6 @@ pub enum ScriptLine<'a> {
     Upgrade,
     /// Closes the store and opens it again.
     Reopen,
-    /// Begins a list of lines that are one commit.
-    Begin,
-    /// Ends such a list.
-    Commit,
 }
 
 #[tactic(auto, unfolding(crate::specs::Script::alone))]
@@ -68,10 +64,6 @@ fn alone<'a>(word: &str) -> Option<ScriptLine<'a>>
         Some(ScriptLine::Upgrade)
     } else if word == "reopen" {
         Some(ScriptLine::Reopen)
-    } else if word == "begin" {
-        Some(ScriptLine::Begin)
-    } else if word == "commit" {
-        Some(ScriptLine::Commit)
     } else {
         None
     }

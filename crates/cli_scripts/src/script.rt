@@ -3,7 +3,7 @@ ghost use Rattle.std.specs.Prelude.{◌≡◌, IfOk, IfErr, option_map, map, str
 ghost use Rattle.std.specs.Result.{result_map_both};
 ghost use Rattle.facts.specs.Texts.{text_list};
 ghost use Rattle.cli_scripts.specs.Plain.{plain_words, plain_line, plain_lines};
-ghost use Rattle.cli_scripts.specs.Script.{StateFields, are_conditions, AreTested, ReadsLine, AreParsed};
+ghost use Rattle.cli_scripts.specs.Script.{StateFields, are_conditions, AreTested, ReadsLine, ReadsChange, AreParsed, AreChanges, changes_tables};
 ghost use Rattle.cli_scripts.specs.declared.script.ScriptError.TheVariants.{OutOfMemory};
 
 use crate::ScriptLine;
@@ -121,6 +121,54 @@ pub fn parse_script<'a>(
     let mut lines = Vec::with_capacity(alloc, words.len())?;
     for (place, found) in words.iter().enumerate() {
         match read_line(alloc, found)? {
+            Some(line) => lines.push(line)?,
+            None => return Err(ScriptError::BadLine(place as u64 + 1)),
+        }
+    }
+    Ok(lines)
+}
+
+fn changes_tables(line: &ScriptLine<'_>) -> bool
+    ensures { result ≡ changes_tables (plain_line line.now) }
+{
+    match line {
+        ScriptLine::Compact | ScriptLine::Upgrade | ScriptLine::Reopen => false,
+        _ => true,
+    }
+}
+
+// Reads a line that changes tables. Any other line is `None`.
+fn read_change<'a>(
+    alloc: Global,
+    words: &'a Option<Vec<String>>,
+) -> Result<Option<ScriptLine<'a>>, ScriptError>
+    ensures read { IfOk result (λ found. ReadsChange (plain_words words.now) (option_map plain_line found)) }
+    ensures memory { IfErr result (λ e. e ≡ ScriptError.OutOfMemory) }
+{
+    let Some(line) = read_line(alloc, words)? else {
+        return Ok(None);
+    };
+    if changes_tables(&line) {
+        Ok(Some(line))
+    } else {
+        Ok(None)
+    }
+}
+
+/// Parses the lines of a script that is applied as one commit, from their words, as [`crate::script_words`] returns them.
+///
+/// # Errors
+/// `BadLine` with the number of the first line that has no words, whose words are no command, or whose command does not change tables, counted from 1;
+/// `OutOfMemory`.
+pub fn parse_changes<'a>(
+    alloc: Global,
+    words: &'a [Option<Vec<String>>],
+) -> Result<Vec<ScriptLine<'a>>, ScriptError>
+    ensures { AreChanges (map plain_words words.now) (result_map_both (λ lines. plain_lines lines.items) (λ e. e) result) }
+{
+    let mut lines = Vec::with_capacity(alloc, words.len())?;
+    for (place, found) in words.iter().enumerate() {
+        match read_change(alloc, found)? {
             Some(line) => lines.push(line)?,
             None => return Err(ScriptError::BadLine(place as u64 + 1)),
         }

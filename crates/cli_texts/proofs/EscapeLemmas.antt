@@ -1,6 +1,9 @@
 -- Bytes with escapes in place of control characters.
-use Rattle.std.proofs.Common.{◌≡◌, ◌∙◌, ◌<◌, ◌≤◌, ◌+◌, ◌++◌, ◌&&◌, ◌==◌, ℕ, zero, suc, Bool, true, false, not, List, [], ◌∷◌, length, take, drop, refl, sym, ap, subst, arith, cond, append_assoc, true≢false}
-use Rattle.std.specs.Prelude.{◌/◌, ◌%◌, nat_lt, nat_le, if◌then◌else◌}
+use Rattle.std.proofs.Common.{◌≡◌, ◌∙◌, ◌<◌, ◌≤◌, ◌+◌, ◌-◌, ◌++◌, ◌&&◌, ◌==◌, ℕ, zero, suc, Bool, true, false, not, List, [], ◌∷◌, length, take, drop, refl, sym, ap, subst, arith, cond, append_assoc, true≢false}
+use Rattle.std.specs.Prelude.{◌/◌, ◌%◌, nat_lt, nat_le, if◌then◌else◌, slice_index, Option, Result, Ok, Err, IfOk}
+use Rattle.std.specs.Io.{WritesAtMost}
+use Rattle.std.specs.Io.KnownBytes.{Appends, WriteAppends}
+use Rattle.std.proofs.lemmas.List.{length-take-le, take-take}
 use Rattle.std.proofs.Common.{eqb-true, ltb-true, ltb-false, append-nil}
 use Rattle.std.proofs.lemmas.Bool.{and_parts}
 use Rattle.cli_texts.specs.Escaped.{are_clean, are_control, control_length, escape, escaped, hex_digit, is_delete, shown_bytes}
@@ -135,3 +138,55 @@ next_plain bytes n before at k below = by_test (nat_lt k n) refl
         let above = ltb-false k n e in
         let same : n ≡ k = omega (arith, above, below) in
         subst (λ (i : ℕ). control_length (drop i bytes) ≡ 0) same at
+
+-- ---- what is written of a text
+
+one_fits : (d : Bool) → (if d then 1 else 0) ≤ 1
+one_fits true = omega arith
+one_fits false = omega arith
+
+two_fit : (d k : Bool) (n : ℕ) → (if d then 1 else (if k then 2 else 0)) ≤ suc (suc n)
+two_fit true k n = omega arith
+two_fit false true n = omega arith
+two_fit false false n = omega arith
+
+pub control_fits : (bytes : List ℕ) → control_length bytes ≤ length bytes
+unfolding control_length
+control_fits [] = omega arith
+control_fits (b ∷ []) = one_fits (is_delete b)
+control_fits (b ∷ c ∷ rest) = two_fit (is_delete b) (are_control b c) (length rest)
+
+one_escape : (d : Bool) (b n : ℕ) → (if d then 1 else 0) ≡ n → 0 < n
+    → (if d then escape b else b ∷ []) ≡ escape (slice_index (b ∷ []) (n - 1)) ++ escaped (drop n (b ∷ []))
+unfolding escaped
+one_escape true b n is some =
+    subst (λ (k : ℕ). escape b ≡ escape (slice_index (b ∷ []) (k - 1)) ++ escaped (drop k (b ∷ []))) is refl
+one_escape false b n is some = absurd (omega (arith, is, some))
+
+two_escape : (d k : Bool) (b c : ℕ) (rest : List ℕ) (n : ℕ) → (if d then 1 else (if k then 2 else 0)) ≡ n → 0 < n
+    → (if d then escape b ++ escaped (c ∷ rest) else (if k then escape c ++ escaped rest else b ∷ escaped (c ∷ rest)))
+    ≡ escape (slice_index (b ∷ c ∷ rest) (n - 1)) ++ escaped (drop n (b ∷ c ∷ rest))
+two_escape true k b c rest n is some =
+    subst (λ (m : ℕ). escape b ++ escaped (c ∷ rest) ≡ escape (slice_index (b ∷ c ∷ rest) (m - 1)) ++ escaped (drop m (b ∷ c ∷ rest))) is refl
+two_escape false true b c rest n is some =
+    subst (λ (m : ℕ). escape c ++ escaped rest ≡ escape (slice_index (b ∷ c ∷ rest) (m - 1)) ++ escaped (drop m (b ∷ c ∷ rest))) is refl
+two_escape false false b c rest n is some = absurd (omega (arith, is, some))
+
+-- the character at the start is an escape
+pub escaped_first : (bytes : List ℕ) (n : ℕ) → control_length bytes ≡ n → 0 < n
+    → escaped bytes ≡ escape (slice_index bytes (n - 1)) ++ escaped (drop n bytes)
+unfolding escaped control_length
+escaped_first [] n is some = absurd (omega (arith, is, some))
+escaped_first (b ∷ []) n is some = one_escape (is_delete b) b n is some
+escaped_first (b ∷ c ∷ rest) n is some = two_escape (is_delete b) (are_control b c) b c rest n is some
+
+-- what is written of the bytes before the first of these characters is a front of the text
+pub shown_front : {E : Type 0} (result : Result ℕ E) (bytes : List ℕ) (plain : ℕ) (before after : Option (List ℕ)) → plain ≤ length bytes
+    → ((k : ℕ) → k < plain → control_length (drop k bytes) ≡ 0) → WritesAtMost result (take plain bytes) → WriteAppends before after result (take plain bytes)
+    → IfOk result (λ n. (shown : List ℕ) × (escaped bytes ≡ shown ++ escaped (drop n bytes)) × Appends before after shown)
+shown_front (Err e) bytes plain before after fits none few wrote = tt
+shown_front (Ok n) bytes plain before after fits none few wrote =
+    let size : length (take plain bytes) ≡ plain = length-take-le plain bytes fits in
+    let within : n ≤ plain = subst (λ (k : ℕ). n ≤ k) size few in
+    (take n bytes, plain_front n bytes (λ k h. none k (omega (arith, h, within))),
+    subst (λ (xs : List ℕ). Appends before after xs) (take-take n plain bytes within) wrote)

@@ -11,6 +11,8 @@ use std::alloc::{AllocError, Global};
 
 /// A catalogue: how it is read from the text that a commit names, and which runs it names itself. Commits need nothing else of it.
 pub trait ReadCatalogue: Drop {
+    ghost use Rattle.commit.specs.declared.sector.Commit.{Commit};
+
     /// The plain value of a catalogue in definitions.
     ghost Plain: { Type 0 };
 

@@ -9,8 +9,8 @@
 mod progress;
 
 use arrowstore::{
-    Audience, Failures, KeptStart, ShownOutput, WatchedOutput, asks_to_wait, report_stream_to_terminal,
-    report_unreadable_arguments, run_with_files, writes_stream,
+    Audience, Failures, KeptStart, ShownOutput, WatchedOutput, asks_to_wait,
+    report_stream_to_terminal, report_unreadable_arguments, run_with_files, writes_stream,
 };
 use progress::{ProgressFiles, ProgressLine, ProgressReader, ProgressWriter, Target};
 use std::env::{self, Env};
@@ -34,6 +34,7 @@ fn main(rt: HostRuntime) -> ExitCode {
                 noted_at(audience, &failures),
                 target,
                 asks_to_wait(arguments.as_slice()),
+                arguments.as_slice(),
             ),
             arguments.as_slice(),
             &mut KeptStart::new(

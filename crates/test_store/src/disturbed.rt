@@ -1,5 +1,6 @@
-// Scripts with steps of a compaction and exports. Each write or sync fails, or stops the device, in turn; each read fails in turn; and a second
-// stop comes after a first one. The device then has the tables of what was acknowledged, perhaps with the step in flight, and goes on.
+// Scripts with steps of a compaction, with exports, and with several commands as one. Each write or sync fails, or stops the
+// device, in turn; each read fails in turn; and a second stop comes after a first one. The device then has the tables of what
+// was acknowledged, perhaps with the step in flight, and goes on.
 use crate::inputs::{INT, Input};
 use crate::made::{NotMade, assert_no_row};
 use crate::openings::device_after;
@@ -10,8 +11,8 @@ use crate::stops::{CHOICES, count_below};
 use Input::Ints;
 use Kind::{FailedRead, Failure, Stop};
 use Step::{
-    Append, CloseExport, Compact, Create, Export, ExportNext, Format, Import, Open, OpenExport,
-    Remove,
+    Append, CloseExport, Compact, Create, Export, ExportNext, Format, Import, Keep, Open,
+    OpenExport, Remove,
 };
 use sector_dev::{CrashChoice, ModelDevice, SectorDevice};
 use std::alloc::Global;
@@ -93,11 +94,33 @@ const EXPORTED: Script = Script {
     layout: "epoch 6, 233 in 5, u: 4+1",
 };
 
-/// Returns the script of a number; there are two.
+const TOGETHER: Script = Script {
+    steps: &[
+        (Open, "ok"),
+        (Import("t", Ints(&[7, -1])), "ok"),
+        (OpenExport("t"), "export 0"),
+        (Keep("t", (&[], &["a >= 0"], None)), "ok"),
+        (Keep("u", (&[], &[], None)), "S1 NoTable of 0"),
+        (ExportNext(0), "152 bytes"),
+        (ExportNext(0), "160 bytes"),
+        (ExportNext(0), "8 bytes"),
+        (ExportNext(0), "no piece"),
+        (CloseExport(0), "ok"),
+    ],
+    states: &[
+        "", "", "t: 7 -1", "t: 7 -1", "t: 7", "t: 7", "t: 7", "t: 7", "t: 7", "t: 7", "t: 7",
+    ],
+    calls: &[1, 6, 6, 11, 11, 11, 11, 11, 11, 11],
+    opening: None,
+    layout: "epoch 3, 233 in 5, t: 2+1",
+};
+
+/// Returns the script of a number; there are three.
 pub fn script_of(number: usize) -> Option<Script> {
     match number {
         0 => Some(COMPACTED),
         1 => Some(EXPORTED),
+        2 => Some(TOGETHER),
         _ => None,
     }
 }
@@ -322,7 +345,7 @@ fn wrong_script(alloc: Global, made: Way) -> Result<Option<usize>, NotMade> {
 }
 
 #[test]
-fn each_call_of_a_compaction_and_an_export_fails_in_turn(rt: HostRuntime) {
+fn each_call_of_a_script_fails_in_turn(rt: HostRuntime) {
     assert_no_row(&rt, wrong_script(rt.alloc(), Way::EachCall));
     assert_no_row(&rt, wrong_script(rt.alloc(), Way::VersionOne));
 }

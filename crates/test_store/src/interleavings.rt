@@ -1,96 +1,25 @@
 // Random calls, in lists that `run` answers, compared with plain tables: each reply must be theirs, and a crash must leave the tables before the
 // command in flight or after it.
-use crate::inputs::Input;
+use crate::chance::Chance;
 use crate::made::{NotMade, assert_no_row};
-use crate::plain_tables::{FROM_TWENTY, NAMES, Plain};
+use crate::plain_tables::Plain;
 use crate::playing::{Slot, is_played, new_slot, replies_of_run, shut};
 use crate::shown::contents;
-use crate::steps::{Asked, Call, Step, Steps, call_of, says};
+use crate::steps::{Call, Step, Steps, call_of, says};
 use Step::{
-    Append, Close, CloseExport, Compact, Create, Export, ExportNext, Format, GiveTable, Import,
-    Open, OpenExport, Read, Remove, Rename, Save, Schema, Tables,
+    Close, CloseExport, Compact, Export, ExportNext, Format, Open, OpenExport, Read, Schema,
+    Tables, Together,
 };
 use sector_dev::{CrashChoice, SectorDevice};
 use std::alloc::Global;
 use store::{OpeningRefusal, Reply, StoreOrDevice};
 use tables::Refusal;
 
-const NARROW: &[&str] = &["a:int32?"];
-
-const WIDE: &[&str] = &["a:int64"];
-
-// Pseudo-random numbers: the upper bits of a linear congruential generator.
-#[derive(Clone, Copy)]
-struct Chance {
-    state: u64,
-    // The number of exports that were opened, or asked for, since the store was opened.
-    exports: u64,
-}
-
 impl Chance {
-    // Returns a number below this one.
-    fn below(&mut self, count: u64) -> u64 {
-        self.state = self
-            .state
-            .wrapping_mul(6_364_136_223_846_793_005)
-            .wrapping_add(1_442_695_040_888_963_407);
-        (self.state >> 33).checked_rem(count).unwrap_or(0)
-    }
-
-    fn name(&mut self) -> &'static str {
-        match NAMES.get(self.below(4) as usize) {
-            Some(name) => name,
-            None => "",
-        }
-    }
-
-    fn columns(&mut self) -> &'static [&'static str] {
-        if self.below(4) == 0 { WIDE } else { NARROW }
-    }
-
-    // Mostly few rows; now and then more than fit into one sector.
-    fn input(&mut self) -> Input {
-        let columns = self.columns();
-        let first = match self.below(3) {
-            0 => -4,
-            1 => 18,
-            _ => 2_147_483_600,
-        };
-        let count = match self.below(8) {
-            0 => 0,
-            1..=4 => 2,
-            5 | 6 => 9,
-            _ => 700,
-        };
-        Input::Range(columns, first, count)
-    }
-
-    fn query(&mut self) -> Asked {
-        let conditions: &'static [&'static str] = if self.below(2) == 0 {
-            FROM_TWENTY
-        } else {
-            &[]
-        };
-        let most = self.below(40);
-        (&[], conditions, if most > 9 { Some(most) } else { None })
-    }
-
     // Returns the id of one of the last exports that were asked for.
     fn id(&mut self) -> u64 {
         let back = self.below(4);
         self.exports.saturating_sub(back)
-    }
-
-    fn change(&mut self) -> Step {
-        match self.below(14) {
-            0 => Create(self.name(), self.columns()),
-            1..=3 => Import(self.name(), self.input()),
-            4..=7 => Append(self.name(), self.input()),
-            8 | 9 => GiveTable(self.name(), self.input()),
-            10 => Save(self.name(), self.name(), self.query()),
-            11 | 12 => Rename(self.name(), self.name()),
-            _ => Remove(self.name()),
-        }
     }
 
     fn reading(&mut self) -> Step {
@@ -119,7 +48,8 @@ impl Chance {
             0 => Open,
             1 => Close,
             2 => Format,
-            3..=16 => self.change(),
+            3..=13 => self.change(),
+            14..=16 => Together(self.state),
             17..=22 => self.reading(),
             23..=33 => self.export(),
             _ => Compact,
@@ -187,6 +117,9 @@ struct Seen {
     // A command in flight was done or not done.
     kept: u64,
     lost: u64,
+    // Several commands as one were done or refused.
+    together: u64,
+    refused_together: u64,
 }
 
 // A store and the plain tables that it is compared with.
@@ -208,12 +141,20 @@ impl Seen {
             full: 0,
             kept: 0,
             lost: 0,
+            together: 0,
+            refused_together: 0,
         }
     }
 
     // Returns whether everything happened at least once.
     fn is_all(self) -> bool {
-        self.merged > 0 && self.moved > 0 && self.full > 0 && self.kept > 0 && self.lost > 0
+        self.merged > 0
+            && self.moved > 0
+            && self.full > 0
+            && self.kept > 0
+            && self.lost > 0
+            && self.together > 0
+            && self.refused_together > 0
     }
 }
 
@@ -271,13 +212,31 @@ impl Pair {
         true
     }
 
+    // Returns whether several commands as one are answered rightly.
+    fn are_changed(&mut self, alloc: Global, seed: u64, reply: &Reply) -> Result<bool, NotMade> {
+        match (self.plain.change_together(alloc, seed)?, reply) {
+            (None, reply) => {
+                self.seen.together = self.seen.together.saturating_add(1);
+                says(alloc, reply, "ok")
+            }
+            (Some((place, answer)), Reply::RefusedAt { place: at, refusal }) => {
+                self.seen.refused_together = self.seen.refused_together.saturating_add(1);
+                Ok(*at == place && says(alloc, &Reply::Refused(*refusal), answer)?)
+            }
+            _ => Ok(false),
+        }
+    }
+
     // A command without enough room changes nothing.
     fn is_changed(&mut self, alloc: Global, step: Step, reply: &Reply) -> Result<bool, NotMade> {
         if matches!(reply, Reply::Refused(Refusal::NoRoom(_))) {
             self.seen.full = self.seen.full.saturating_add(1);
             return Ok(true);
         }
-        says(alloc, reply, self.plain.change(alloc, step)?)
+        match step {
+            Together(seed) => self.are_changed(alloc, seed, reply),
+            step => says(alloc, reply, self.plain.change(alloc, step)?),
+        }
     }
 
     // Returns whether an open store answers rightly.
@@ -345,7 +304,14 @@ impl Pair {
             return Ok(false);
         };
         self.seen.kept = self.seen.kept.saturating_add(1);
-        self.plain.change(alloc, step)?;
+        match step {
+            Together(seed) => {
+                self.plain.change_together(alloc, seed)?;
+            }
+            step => {
+                self.plain.change(alloc, step)?;
+            }
+        }
         self.shows(alloc, found)
     }
 

@@ -1,4 +1,5 @@
 // Tables and exports as plain values, and the answer to each call, to compare a store with. Each table has one column `a` of 32 or 64 bits.
+use crate::chance::drawn_commands;
 use crate::inputs::Input;
 use crate::made::NotMade;
 use crate::snapshot::Snapshot;
@@ -17,6 +18,8 @@ pub const FROM_TWENTY: &[&str] = &["a >= 20"];
 struct Rows {
     wide: bool,
     values: Vec<i32>,
+    // Whether one of several commands as one put rows into the table, which are written only after all of them.
+    unwritten: bool,
 }
 
 /// The tables by the places of their names, and the exports by their ids.
@@ -24,6 +27,8 @@ struct Rows {
 pub struct Plain {
     tables: Vec<Option<Rows>>,
     exports: Vec<Snapshot>,
+    // Whether several commands as one are executed.
+    together: bool,
 }
 
 // Returns the place of a name among these, or their number if it is not there.
@@ -65,6 +70,7 @@ fn rows_of(alloc: Global, input: Input) -> Result<Rows, NotMade> {
     add_input(&mut values, input)?;
     Ok(Rows {
         wide: is_wide(columns),
+        unwritten: !values.is_empty(),
         values,
     })
 }
@@ -90,7 +96,17 @@ fn kept(alloc: Global, asked: Asked, rows: &Rows) -> Result<Rows, NotMade> {
     add_kept(&mut values, asked, rows)?;
     Ok(Rows {
         wide: rows.wide,
+        unwritten: !values.is_empty(),
         values,
+    })
+}
+
+// Copies a table that stands on the device.
+fn copied(rows: &Rows) -> Result<Rows, NotMade> {
+    Ok(Rows {
+        wide: rows.wide,
+        values: rows.values.clone()?,
+        unwritten: false,
     })
 }
 
@@ -127,6 +143,7 @@ impl Plain {
         Ok(Plain {
             tables,
             exports: Vec::new(alloc),
+            together: false,
         })
     }
 
@@ -157,6 +174,7 @@ impl Plain {
         let rows = Rows {
             wide: is_wide(columns),
             values: Vec::new(alloc),
+            unwritten: false,
         };
         self.put(name, Some(rows));
         "ok"
@@ -176,7 +194,9 @@ impl Plain {
                 if rows.wide != is_wide(columns) && !of_any_schema {
                     return Ok("S4 SchemaMismatch");
                 }
+                let before = rows.values.len();
                 add_input(&mut rows.values, input)?;
+                rows.unwritten = rows.unwritten || rows.values.len() > before;
                 Ok("ok")
             }
             _ => Ok("S1 NoTable"),
@@ -195,6 +215,9 @@ impl Plain {
         };
         if self.get(to).is_some() {
             return Ok("S2 NameTaken");
+        }
+        if self.together && rows.unwritten {
+            return Ok("S16 RowsUnwritten");
         }
         let new = kept(alloc, asked, rows)?;
         self.put(to, Some(new));
@@ -236,6 +259,51 @@ impl Plain {
             Step::Remove(name) => Ok(self.remove(name)),
             _ => Err(NotMade),
         }
+    }
+
+    // Copies the tables.
+    fn copied(&self, alloc: Global) -> Result<Vec<Option<Rows>>, NotMade> {
+        let mut tables = Vec::new(alloc);
+        for table in &self.tables {
+            tables.push(match table {
+                Some(rows) => Some(copied(rows)?),
+                None => None,
+            })?;
+        }
+        Ok(tables)
+    }
+
+    // Executes commands one after another, up to the first one that is refused. Returns its place and its answer.
+    fn change_in_turn(
+        &mut self,
+        alloc: Global,
+        steps: &[Step],
+    ) -> Result<Option<(usize, &'static str)>, NotMade> {
+        for (place, step) in steps.iter().enumerate() {
+            let answer = self.change(alloc, *step)?;
+            if answer != "ok" {
+                return Ok(Some((place, answer)));
+            }
+        }
+        Ok(None)
+    }
+
+    /// Executes the commands that a number draws: all of them or none. Returns the place of the first one that is refused, and its answer.
+    pub fn change_together(
+        &mut self,
+        alloc: Global,
+        seed: u64,
+    ) -> Result<Option<(usize, &'static str)>, NotMade> {
+        let steps = drawn_commands(alloc, seed)?;
+        let before = self.copied(alloc)?;
+        self.tables = self.copied(alloc)?;
+        self.together = true;
+        let refused = self.change_in_turn(alloc, &steps)?;
+        self.together = false;
+        if refused.is_some() {
+            self.tables = before;
+        }
+        Ok(refused)
     }
 
     fn add_counts(&self, text: &mut String) -> Result<(), NotMade> {

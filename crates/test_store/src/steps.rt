@@ -1,4 +1,5 @@
 // Calls of a place as data, and replies as texts.
+use crate::chance::drawn_commands;
 use crate::inputs::{Given, Input, bytes_of, new_schema, rows_of};
 use crate::made::NotMade;
 use crate::pieces::{PieceReader, Pieces};
@@ -31,6 +32,10 @@ pub enum Step {
     Save(&'static str, &'static str, Asked),
     Rename(&'static str, &'static str),
     Remove(&'static str),
+    /// Several commands as one, drawn by this number.
+    Together(u64),
+    /// Several commands as one, after which the table has only the rows that a query selects.
+    Keep(&'static str, Asked),
     Tables,
     Schema(&'static str),
     Read(&'static str),
@@ -154,6 +159,18 @@ pub fn commands_of(alloc: Global, steps: &[Step]) -> Result<Vec<Command>, NotMad
     Ok(commands)
 }
 
+// Returns the commands that keep only these rows of a table.
+fn keeping(alloc: Global, name: &'static str, asked: Asked) -> Result<Vec<Command>, NotMade> {
+    commands_of(
+        alloc,
+        &[
+            Step::Save(name, "kept", asked),
+            Step::Remove(name),
+            Step::Rename("kept", name),
+        ],
+    )
+}
+
 fn reader(alloc: Global, input: Input, pieces: Pieces) -> Result<PieceReader, NotMade> {
     Ok(PieceReader::new(bytes_of(alloc, input)?, pieces))
 }
@@ -181,6 +198,10 @@ pub fn call_of(alloc: Global, step: Step) -> Result<Call, NotMade> {
             name: String::from_str(alloc, name)?,
             reader: reader(alloc, input, pieces)?,
         },
+        Step::Together(seed) => {
+            Call::ApplyAll(commands_of(alloc, &drawn_commands(alloc, seed)?)?)
+        }
+        Step::Keep(name, asked) => Call::ApplyAll(keeping(alloc, name, asked)?),
         command => Call::Apply(command_of(alloc, command)?),
     })
 }

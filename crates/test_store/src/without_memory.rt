@@ -269,3 +269,10 @@ fn an_export_gives_its_pieces_also_without_memory(rt: HostRuntime) {
     let second = is_script_done(rt.alloc(), 1);
     assert!(rt; is_one_well(first, second));
 }
+
+#[test]
+fn several_commands_are_all_done_or_none_also_without_memory(rt: HostRuntime) {
+    let first = is_script_done(rt.alloc(), 2);
+    let second = is_script_done(rt.alloc(), 2);
+    assert!(rt; is_one_well(first, second));
+}

@@ -1,8 +1,9 @@
-// Shows how much of a store's file was read and written, and notes failed calls. The file of the output is not opened.
+// Shows how much of a store's file was read and written, and notes failed calls. The file of the output is not opened. A locked file is opened once more.
 use super::{LONG_WORK, ProgressLine, Stage, Target};
 use arrowstore::{Failures, NotedFile};
 use sector_dev::LockFile;
 use std::alloc::{Allocator, Global};
+use std::cell::Cell;
 use std::fs::{Metadata, OpenFile, OpenOptions, Permissions};
 use std::io::{self, ErrorKind, PipeReader, PipeWriter, Read, Seek, SeekFrom, Write};
 use std::os::fd::BorrowedFd;
@@ -13,7 +14,7 @@ use std::rt::Files;
 use std::time::Clock;
 
 /// The files of `files`, except that of `output`. While one is read or written, the line shows how much; a failed call is noted in `failures`. If it
-/// `waits`, the lock of a file is waited for.
+/// `waits`, the lock of a file is waited for. A file at one of the `paths` is opened once more when it is locked.
 #[derive(Drop)]
 pub struct ProgressFiles<'a, C: Clock, T, H> {
     files: &'a H,
@@ -21,6 +22,8 @@ pub struct ProgressFiles<'a, C: Clock, T, H> {
     failures: Option<&'a Failures>,
     output: Target,
     waits: bool,
+    // A file keeps its path as one of these, so that no memory is taken for it.
+    paths: &'a [String],
 }
 
 impl<'a, C: Clock, T, H> ProgressFiles<'a, C, T, H> {
@@ -30,6 +33,7 @@ impl<'a, C: Clock, T, H> ProgressFiles<'a, C, T, H> {
         failures: Option<&'a Failures>,
         output: Target,
         waits: bool,
+        paths: &'a [String],
     ) -> ProgressFiles<'a, C, T, H> {
         ProgressFiles {
             files,
@@ -37,19 +41,24 @@ impl<'a, C: Clock, T, H> ProgressFiles<'a, C, T, H> {
             failures,
             output,
             waits,
+            paths,
         }
+    }
+
+    fn kept_path(&self, path: &str) -> Option<&'a str> {
+        let found = self.paths.iter().find(|kept| kept.as_str() == path)?;
+        Some(found.as_str())
     }
 }
 
 impl<C: Clock, T, H: Files> ProgressFiles<'_, C, T, H> {
-    // Opens a file, unless the output is written to it: that would spoil a store. Returns it with the number of its names.
-    fn open_unless_output(&self, how: &OpenOptions, path: &str) -> io::Result<(H::File, u64)> {
+    // Opens a file, unless the output is written to it: that would spoil a store.
+    fn open_unless_output(&self, how: &OpenOptions, path: &str) -> io::Result<H::File> {
         let file = self.files.open_file(how, path)?;
-        let found = file.metadata()?;
-        if self.output.is_file(&found) {
+        if self.output.is_file(&file.metadata()?) {
             return Err(io::Error::other("it is the output"));
         }
-        Ok((file, found.nlink()))
+        Ok(file)
     }
 }
 
@@ -63,7 +72,7 @@ impl<C: Clock, T, H: Alloc<A = Global>> Alloc for ProgressFiles<'_, C, T, H> {
 
 // Every method delegates, also those with a default: the trait's default costs more to prove than a call.
 impl<'a, C: Clock, T: Write + Copy, H: Files + AllocGlobal> Files for ProgressFiles<'a, C, T, H> {
-    type File = NotedFile<'a, ProgressFile<'a, C, T, H::File>>;
+    type File = NotedFile<'a, ProgressFile<'a, C, T, H::File, H>>;
 
     type Dir = H::Dir;
 
@@ -72,12 +81,13 @@ impl<'a, C: Clock, T: Write + Copy, H: Files + AllocGlobal> Files for ProgressFi
         if let Some(failures) = self.failures {
             failures.note_opening(self.files.alloc(), path, &opened);
         }
-        let (file, names) = opened?;
         let file = ProgressFile {
-            file,
+            file: opened?,
+            files: self.files,
+            path: self.kept_path(path),
+            again: Cell::new(None),
             line: self.line,
             waits: self.waits,
-            names,
             bytes_read: 0,
             bytes_written: 0,
         };
@@ -161,19 +171,20 @@ impl<'a, C: Clock, T: Write + Copy, H: Files + AllocGlobal> Files for ProgressFi
     }
 }
 
-/// A file whose reads and writes are shown, and that waits for its lock if it is to.
+/// A file whose reads and writes are shown. It waits for its lock if it is to, and is opened once more behind the lock.
 #[derive(Drop)]
-pub struct ProgressFile<'a, C: Clock, T, F> {
+pub struct ProgressFile<'a, C: Clock, T, F, H> {
     file: F,
+    files: &'a H,
+    path: Option<&'a str>,
+    again: Cell<Option<F>>,
     line: Option<&'a ProgressLine<'a, C, T>>,
     waits: bool,
-    // how many it had when it was opened
-    names: u64,
     bytes_read: u64,
     bytes_written: u64,
 }
 
-impl<C: Clock, T: Write + Copy, F> ProgressFile<'_, C, T, F> {
+impl<C: Clock, T: Write + Copy, F, H> ProgressFile<'_, C, T, F, H> {
     // Shows how many bytes were read or written in all; up to now they were `before`.
     fn tell(&self, stage: Stage, before: u64, bytes: u64) {
         if let Some(line) = self.line {
@@ -187,7 +198,7 @@ impl<C: Clock, T: Write + Copy, F> ProgressFile<'_, C, T, F> {
     }
 }
 
-impl<C: Clock, T: Write + Copy, F: Read> Read for ProgressFile<'_, C, T, F> {
+impl<C: Clock, T: Write + Copy, F: Read, H> Read for ProgressFile<'_, C, T, F, H> {
     ghost remaining = { λ file. F.remaining file.file };
 
     fn read(&mut self, buf: &mut [u8]) -> io::Result<usize> {
@@ -201,7 +212,7 @@ impl<C: Clock, T: Write + Copy, F: Read> Read for ProgressFile<'_, C, T, F> {
     }
 }
 
-impl<C: Clock, T: Write + Copy, F: Write> Write for ProgressFile<'_, C, T, F> {
+impl<C: Clock, T: Write + Copy, F: Write, H> Write for ProgressFile<'_, C, T, F, H> {
     ghost contents = { λ file. F.contents file.file };
 
     fn write(&mut self, buf: &[u8]) -> io::Result<usize> {
@@ -219,7 +230,7 @@ impl<C: Clock, T: Write + Copy, F: Write> Write for ProgressFile<'_, C, T, F> {
     }
 }
 
-impl<C: Clock, T, F: Seek> Seek for ProgressFile<'_, C, T, F> {
+impl<C: Clock, T, F: Seek, H> Seek for ProgressFile<'_, C, T, F, H> {
     ghost stream_position = { λ file. F.stream_position file.file };
 
     ghost stream_bytes = { λ file. F.stream_bytes file.file };
@@ -230,7 +241,7 @@ impl<C: Clock, T, F: Seek> Seek for ProgressFile<'_, C, T, F> {
 }
 
 // What a device asks of its file.
-impl<C: Clock, T, F: OpenFile> OpenFile for ProgressFile<'_, C, T, F> {
+impl<C: Clock, T, F: OpenFile, H> OpenFile for ProgressFile<'_, C, T, F, H> {
     fn metadata(&self) -> io::Result<Metadata> {
         self.file.metadata()
     }
@@ -248,7 +259,25 @@ impl<C: Clock, T, F: OpenFile> OpenFile for ProgressFile<'_, C, T, F> {
     }
 }
 
-impl<C: Clock, T: Write + Copy, F: OpenFile> ProgressFile<'_, C, T, F> {
+// Returns whether a lock was refused since another open file has one.
+fn is_held(refused: &io::Result<()>) -> bool {
+    match refused {
+        Err(error) => error.kind() == ErrorKind::WouldBlock,
+        Ok(()) => false,
+    }
+}
+
+fn replaced() -> io::Error {
+    io::Error::other("it was replaced or removed meanwhile")
+}
+
+impl<C: Clock, T: Write + Copy, F: OpenFile + Drop, H: Files<File = F>> ProgressFile<
+    '_,
+    C,
+    T,
+    F,
+    H,
+> {
     // Returns whether to wait for a lock that was refused so, and says that.
     fn is_to_wait(&self, refused: &io::Result<()>) -> bool {
         if !self.waits || !is_held(refused) {
@@ -260,32 +289,40 @@ impl<C: Clock, T: Write + Copy, F: OpenFile> ProgressFile<'_, C, T, F> {
         true
     }
 
-    // The lock that was waited for may be that of a file which another one has replaced since, so that it lost a name: what is done to it would be lost.
-    fn unless_replaced(&self, locked: io::Result<()>) -> io::Result<()> {
-        locked?;
-        let found = self.file.metadata()?;
-        if found.nlink() < self.names {
-            return Err(io::Error::other("it was replaced or removed meanwhile"));
+    // Keeps the file that is at the path now, if it is the locked one. What is done to another one would be lost, as after a replacement.
+    fn keep_again(&self, again: F) -> io::Result<()> {
+        let (locked, found) = (self.file.metadata()?, again.metadata()?);
+        if locked.dev() != found.dev() || locked.ino() != found.ino() {
+            return Err(replaced());
         }
+        self.again.set(Some(again));
         Ok(())
     }
-}
 
-// Returns whether a lock was refused since another open file has one.
-fn is_held(refused: &io::Result<()>) -> bool {
-    match refused {
-        Err(error) => error.kind() == ErrorKind::WouldBlock,
-        Ok(()) => false,
+    // A file system that asks its server only when a file is opened would show what it has kept from before the lock, so the file is opened once more.
+    // A file that was made such that it can't be opened is used as it is.
+    fn opened_again(&self, locked: io::Result<()>) -> io::Result<()> {
+        locked?;
+        let Some(path) = self.path else {
+            return Ok(());
+        };
+        match self.files.open_file(OpenOptions::new().read(true), path) {
+            Ok(again) => self.keep_again(again),
+            Err(error) if error.kind() == ErrorKind::PermissionDenied => Ok(()),
+            Err(error) if error.kind() == ErrorKind::NotFound => Err(replaced()),
+            Err(error) => Err(error),
+        }
     }
 }
 
-impl<C: Clock, T: Write + Copy, F: LockFile + OpenFile> LockFile for ProgressFile<'_, C, T, F> {
+impl<C: Clock, T: Write + Copy, F: LockFile + OpenFile + Drop, H: Files<File = F>> LockFile
+    for ProgressFile<'_, C, T, F, H> {
     fn lock_to_write(&self) -> io::Result<()> {
         let locked = self.file.lock_to_write();
         if self.is_to_wait(&locked) {
             self.wait_to_write()
         } else {
-            locked
+            self.opened_again(locked)
         }
     }
 
@@ -294,15 +331,15 @@ impl<C: Clock, T: Write + Copy, F: LockFile + OpenFile> LockFile for ProgressFil
         if self.is_to_wait(&locked) {
             self.wait_to_read()
         } else {
-            locked
+            self.opened_again(locked)
         }
     }
 
     fn wait_to_write(&self) -> io::Result<()> {
-        self.unless_replaced(self.file.wait_to_write())
+        self.opened_again(self.file.wait_to_write())
     }
 
     fn wait_to_read(&self) -> io::Result<()> {
-        self.unless_replaced(self.file.wait_to_read())
+        self.opened_again(self.file.wait_to_read())
     }
 }

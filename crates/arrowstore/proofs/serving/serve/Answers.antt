@@ -19,6 +19,9 @@ returns-in-Copy-clause-silent g c = silent_but_io _ _ _ c.serve_copy.result c.se
 pub returns-in-Salvage-clause-silent : goal.returns-in-Salvage-clause-silent
 returns-in-Salvage-clause-silent g c = silent_but_broken_off _ _ _ c.serve_salvage.result (ap request_word c.in-Salvage.is) c.serve_salvage.ensures.silent
 
+pub returns-in-Apply-clause-silent : goal.returns-in-Apply-clause-silent
+returns-in-Apply-clause-silent g c = silent_but_io _ _ _ c.serve_apply.result c.serve_apply.ensures.silent
+
 pub returns-in-Replay-clause-silent : goal.returns-in-Replay-clause-silent
 returns-in-Replay-clause-silent g c = silent_but_io _ _ _ c.serve_replay.result c.serve_replay.ensures.silent
 
@@ -26,22 +29,25 @@ pub returns-in-Command-clause-silent : goal.returns-in-Command-clause-silent
 returns-in-Command-clause-silent g c = silent_but_io _ _ _ c.serve_command.result c.serve_command.ensures.silent
 
 -- a request that has this form was served so
-served_as : {D R W : Type 0} (g : Ghosts D) (is_opened : D → Type 0) (remaining : R → Option (List ℕ)) (contents : W → Option (List ℕ))
+served_as : {D F R W : Type 0} (g : Ghosts D) (is_opened : D → Type 0) (of_file : F → Option (List ℕ)) (remaining : R → Option (List ℕ)) (contents : W → Option (List ℕ))
     (replays : ReplayWords → W → W → Result (Unit {0}) Refusal → Type 0) (before after : Channels R W) (left left' : List (ℕ × ℕ))
     (result : Result (Unit {0}) Refusal) (form request : StoreRequest) → request ≡ form
-    → ServesRequest g is_opened remaining contents replays form before after left left' result
-    → ServesRequest g is_opened remaining contents replays request before after left left' result
-served_as g is_opened remaining contents replays before after left left' result form request is serves =
-    subst (λ (r : StoreRequest). ServesRequest g is_opened remaining contents replays r before after left left' result) (sym is) serves
+    → ServesRequest g is_opened of_file remaining contents replays form before after left left' result
+    → ServesRequest g is_opened of_file remaining contents replays request before after left left' result
+served_as g is_opened of_file remaining contents replays before after left left' result form request is serves =
+    subst (λ (r : StoreRequest). ServesRequest g is_opened of_file remaining contents replays r before after left left' result) (sym is) serves
 
 pub returns-in-Format-clause-serves : goal.returns-in-Format-clause-serves
-returns-in-Format-clause-serves g c = served_as _ _ _ _ _ _ _ _ _ _ _ _ c.in-Format.is (c.serve_format.ensures.formats, refl, refl)
+returns-in-Format-clause-serves g c = served_as _ _ _ _ _ _ _ _ _ _ _ _ _ c.in-Format.is (c.serve_format.ensures.formats, refl, refl)
 
 pub returns-in-Copy-clause-serves : goal.returns-in-Copy-clause-serves
-returns-in-Copy-clause-serves g c = served_as _ _ _ _ _ _ _ _ _ _ _ _ c.in-Copy.is (c.serve_copy.ensures.copies, refl, refl)
+returns-in-Copy-clause-serves g c = served_as _ _ _ _ _ _ _ _ _ _ _ _ _ c.in-Copy.is (c.serve_copy.ensures.copies, refl, refl)
 
 pub returns-in-Salvage-clause-serves : goal.returns-in-Salvage-clause-serves
-returns-in-Salvage-clause-serves g c = served_as _ _ _ _ _ _ _ _ _ _ _ _ c.in-Salvage.is (c.serve_salvage.ensures.salvages, refl)
+returns-in-Salvage-clause-serves g c = served_as _ _ _ _ _ _ _ _ _ _ _ _ _ c.in-Salvage.is (c.serve_salvage.ensures.salvages, refl)
+
+pub returns-in-Apply-clause-serves : goal.returns-in-Apply-clause-serves
+returns-in-Apply-clause-serves g c = served_as _ _ _ _ _ _ _ _ _ _ _ _ _ c.in-Apply.is (c.serve_apply.ensures.applies, refl, refl)
 
 pub returns-in-Command-clause-serves : goal.returns-in-Command-clause-serves
-returns-in-Command-clause-serves g c = served_as _ _ _ _ _ _ _ _ _ _ _ _ c.in-Command.is (c.serve_command.ensures.serves, refl)
+returns-in-Command-clause-serves g c = served_as _ _ _ _ _ _ _ _ _ _ _ _ _ c.in-Command.is (c.serve_command.ensures.serves, refl)

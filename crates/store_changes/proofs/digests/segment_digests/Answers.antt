@@ -1,5 +1,5 @@
 use Rattle.std.specs.Prelude.{get_or}
-use Rattle.std.proofs.Common.{ℕ, [], List, Result, Err, refl, ap, ◌∙◌, subst, arith, take_all}
+use Rattle.std.proofs.Common.{◌≡◌, ℕ, true, [], List, Result, Err, refl, ap, ◌∙◌, subst, arith, take_all}
 use Rattle.sector_dev.specs.Disk.{now, shown_image}
 use Rattle.catalogue.specs.declared.entry.Segment.{Segment}
 use Rattle.commit.specs.Standing.{is_size}
@@ -53,7 +53,7 @@ loop-place-preserved g c =
     let mid = D.story c.loop-place.device in
     let image = shown_image (now before) in
     let other = shown_image (now mid) in
-    let same = λ told. image_then before mid (c.loop-place.invariant.reads.moments told) in
+    let same : D.tells ≡ true → other ≡ image = λ told. image_then before mid (c.loop-place.invariant.reads.moments told) in
     record {
       reads = reads_more D.size D.story D.failed D.tells done c.args.device.now c.loop-place.device c.digest_next.new.device c.loop-place.invariant.reads c.in-Ok.ensures.reads;
       light = c.in-Ok.ensures.light;

@@ -4,7 +4,7 @@ use Rattle.civil_days.specs.declared.date_form.DateForm.TheVariants.{Numbers}
 use Rattle.facts.specs.Texts.{text_list}
 use Rattle.query.specs.View.{query_in}
 use Rattle.cli_commands.specs.Selecting.{stated_query}
-use Rattle.cli_replay.proofs.calls.save.Goals as goal
+use Rattle.cli_replay.proofs.commands.save.Goals as goal
 
 pub returns : goal.returns
 returns c =

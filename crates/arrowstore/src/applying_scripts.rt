@@ -1,0 +1,69 @@
+// Applies a script to the store in a file as one commit.
+ghost use Rattle.std.specs.Prelude.{◌≡◌, ◌≢◌, false, IfOk, IfErr};
+ghost use Rattle.arrowstore.specs.OnFiles.{AppliesScript, FailsToOpen, IsOpenedFile, IsScriptNamed, OpensStore, RefusesReading, is_input};
+
+use crate::serving::reserve_standard_descriptors;
+use cli_commands::{apply_commands, read_input};
+use cli_refusals::{Refusal, Side};
+use cli_replay::{read_script, script_commands};
+use sector_dev::{FileDevice, LockFile, SectorDevice, SystemFile};
+use std::fs::OpenFile;
+use std::io::{Read, Seek, Write};
+use std::rt::Files;
+use store::Store;
+
+fn is_input(script: &str) -> bool
+    ensures { result ≡ is_input script.now }
+{
+    script == "-"
+}
+
+// Reads the script at a path, or the input for `-`.
+fn script_named<F: Read + OpenFile + Drop, H: Files<File = F> + AllocGlobal, R: Read>(
+    rt: &H,
+    script: &str,
+    input: &mut R,
+) -> Result<Vec<u8>, Refusal>
+    ensures read { IfOk result (λ bytes. IsScriptNamed F.remaining (R.remaining input.old) (is_input script.now) bytes.items) }
+    ensures told { IfErr result (RefusesReading (R.remaining input.old) (R.remaining input.new) (is_input script.now)) }
+    ensures unread { is_input script.now ≡ false → input.new ≡ input.old }
+{
+    if is_input(script) {
+        read_input(rt.alloc(), input)
+    } else {
+        read_script(rt, script)
+    }
+}
+
+// Opens the store in a file for changes.
+fn open_to_change<
+    F: Read + Write + Seek + OpenFile + LockFile + Drop,
+    H: Files<File = F> + AllocGlobal,
+>(rt: &H, path: &str) -> Result<Store<FileDevice<SystemFile<F>>>, Refusal>
+    ensures opened { IfOk result (OpensStore ⟦<FileDevice<SystemFile<F>> as SectorDevice>⟧ IsOpenedFile) }
+    ensures refused { IfErr result (FailsToOpen ⟦<FileDevice<SystemFile<F>> as SectorDevice>⟧ IsOpenedFile) }
+{
+    let device = FileDevice::open(rt, path)?;
+    match Store::open(rt.alloc(), device) {
+        Ok(store) => Ok(store),
+        Err((refusal, _back)) => Err(Refusal::Opening(refusal)),
+    }
+}
+
+/// Applies the lines of a script as one commit, and writes `ok`. The script and all files that its lines name are read before the store is opened.
+pub(crate) fn serve_apply<
+    F: Read + Write + Seek + OpenFile + LockFile + Drop,
+    H: Files<File = F> + AllocGlobal,
+    R: Read,
+    W: Write,
+>(rt: &H, path: &str, script: &str, input: &mut R, output: &mut W) -> Result<(), Refusal>
+    ensures applies { AppliesScript ⟦<FileDevice<SystemFile<F>> as SectorDevice>⟧ IsOpenedFile F.remaining R.remaining W.contents script.now
+        input.old input.new output.old output.new result }
+    ensures silent { IfErr result (λ refusal. refusal ≢ Refusal.Io Side.Output → output.new ≡ output.old) }
+{
+    let script = script_named(rt, script, input)?;
+    let commands = script_commands(rt, &script)?;
+    let _places = reserve_standard_descriptors(rt)?;
+    let mut store = open_to_change(rt, path)?;
+    apply_commands(rt.alloc(), &mut store, commands, output)
+}
