@@ -9,8 +9,6 @@ mod batches;
 #[cfg(test)]
 mod bitmaps;
 #[cfg(test)]
-mod dates;
-#[cfg(test)]
 mod dictionaries;
 #[cfg(test)]
 mod dictionary_batches;
@@ -22,8 +20,6 @@ mod made;
 mod messages;
 #[cfg(test)]
 mod queries;
-#[cfg(test)]
-mod query_dates;
 #[cfg(test)]
 mod read_streams;
 #[cfg(test)]
