@@ -159,10 +159,10 @@ def draw_script(pick, stores):
     if pick.random() < 0.4:
         text, facts, about = wrong_field(pick)
         line = " ".join(["create t", *pick.sample(("a:int8", "b:utf8?", "c:null?"), pick.randrange(3)), text])
-        # A text with a space is several texts for a script.
+        # A text with a space is several texts for a script, and one that begins with a quotation mark has to close it.
         about = ["word_field", *about] if shown(text) is not None else []
         facts.also(code="G3", role="field", word=text)
-        if " " in text:
+        if " " in text or text.startswith('"'):
             return draw_script(pick, stores)
     else:
         line = pick.choice(WRONG_LINES)
