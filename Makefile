@@ -57,6 +57,8 @@ test gate-cost:
 # The gate proves every crate from nothing and builds the program and the tests, which then run with refused memory.
 gate:
 	tools/wrong_bodies --texts
+	tools/invented_refusals
+	tests/invented_refusals
 	RT_JOBS=$${RT_JOBS:-$$(tools/proofs_at_once)} rt ci
 	@$(MAKE) --no-print-directory memory vectors
 	@tools/compare_dist crates/program/out/program
