@@ -1,6 +1,6 @@
 # The program, the gate, and the tests of both. `make` and `make install` need sh, make, gzip and sha256sum alone where dist/ holds the program of
 # the sources that are here; all else needs rt (the Rattle toolchain), gcc and python3.
-SOURCES := $(shell find crates.txt crates -name out -prune -o -type f -print)
+SOURCES := $(shell find crates.txt crates -name out -prune -o -type f ! -name README.md -print)
 
 # The crates with calls that are refused memory in turn, and their tests as they are built.
 REFUSING := $(sort $(shell find crates/*/src -type f -exec awk '/_also_without_memory/ { print FILENAME }' {} + | cut -d/ -f2))
