@@ -275,7 +275,7 @@ or appended. If no advice follows a fault, the cause is the program that wrote t
 - P3 NoText N: no field text makes the field N of the table, counted from 1, so `schema --fields` prints
   nothing. A name in it is empty or has a space or one of the characters `:,<>()?\"`, the item of a list is
   not named `item`, a timezone has a space, a parenthesis or a quotation mark, or a field has metadata. With
-  N = 0 the table itself has metadata.
+  N = 0 the table itself has metadata. Or a terminal can't be shown a name in it.
   ",
     FIELDS_OF_ANOTHER,
     "

@@ -16,7 +16,7 @@ pub const WRITE_AGAIN: &str =
 pub const GIVE_ALL: &str = "Give the whole stream.";
 
 pub const GIVE_A_STREAM: &str =
-    "Give an Arrow IPC stream, not an Arrow file (Feather), a Parquet file, or a stream of Arrow before 0.15. For CSV and JSON Lines use `append` with `--as`.";
+    "Give an Arrow IPC stream, not an Arrow file (Feather), a Parquet file, or one of Arrow before 0.15. For CSV and JSON Lines use `append` with `--as`, not a script.";
 
 pub const WRITE_V5: &str = "Have the stream written with metadata of version V5.";
 
@@ -42,7 +42,7 @@ pub const FEWER_ROWS: &str =
     "Give fewer rows. If one row alone is too heavy, give shorter texts, binaries and lists in it.";
 
 pub const WHOLE_STREAM: &str =
-    "Have the whole stream written again: whoever writes it may have ended early. If it ends its streams without the marker, leave `--complete` out.";
+    "Have the whole stream written again: whoever writes it may have ended early, or written nothing. If it ends its streams without the marker, leave `--complete` out.";
 
 // ---- G and C: files
 
@@ -60,7 +60,7 @@ pub const WAIT: &str =
     "Wait until the other program is done with it, and try again; with `--wait` the command does so.";
 
 pub const NEW_PATH: &str =
-    "Give a path where nothing is: no file is overwritten. This one may be what an interrupted `format` or `copy` has left.";
+    "Give a path where nothing is: no file is overwritten. A file there may be what an interrupted `format` or `copy` has left.";
 
 pub const FOLDER_OF_A_NEW_FILE: &str =
     "Check the path: its folder must exist, and you need the right to make files in it.";
@@ -189,15 +189,15 @@ pub const NAMES_OF_COLUMNS: &str =
     "Give names as `schema` prints them, without quotation marks, in `--columns` each once. A name that two columns have can't be used, nor can `--objects` then.";
 
 pub const FORM_OF_A_CONDITION: &str =
-    "Write `NAME OP LITERAL`, `NAME is null` or `NAME is not null`. OP is = != < <= > or >=. LITERAL is a value of the column's type; dates are integers.";
+    "Write `NAME OP LITERAL`, `NAME is null` or `NAME is not null`. OP is = != < <= > or >=. LITERAL is a value of the column's type; dates are integers, or with `--dates iso` as 2026-11-30.";
 
 pub const TEST_FOR_NULL: &str = "Use `is null` or `is not null` for such a column.";
 
 // ---- S: the open store
 
-pub const NAME_OF_A_TABLE: &str = "Give the name of a table: `tables` prints them.";
+pub const NAME_OF_A_TABLE: &str = "Give the name of a table: `tables` prints them. In a script also what the lines before have done counts.";
 
-pub const OTHER_NAME: &str = "Use another name: `tables` prints those in use.";
+pub const OTHER_NAME: &str = "Use another name: `tables` prints those in use. In a script also what the lines before have done counts.";
 
 pub const FORM_OF_A_NAME: &str = "Use a name of 1 to 64 ASCII letters, digits, `_`, `-` and `.`.";
 
@@ -223,7 +223,7 @@ pub const MORE_ROOM: &str =
     "Drop tables, use `compact`, or `copy` the store: the copy has longer free runs. If that does not help, or a `copy` is refused, give it more sectors.";
 
 pub const LOOK_AGAIN: &str =
-    "Check the disk, then run `check`: what it reads stays. `tables`, or `info` after a `compact`, then shows what is done.";
+    "Check the disk, then run `check` as a user that may write the file: what it reads stays. `tables`, or `info` after a `compact`, then shows what is done.";
 
 pub const IMPORT_AGAIN: &str =
     "Save the readable rows of the table with `salvage`, and drop it or import it again. Then run `check` once more: other tables may be damaged too.";

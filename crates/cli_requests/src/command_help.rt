@@ -52,7 +52,7 @@ where readings.csv begins with the line id,value
 With --dates iso, dates are written as in 2026-11-30, and timestamps as in
 2026-11-30T12:34:56.789Z, with an offset only if the column has a timezone.
 
-The whole table is read first, also for a single row, so append many rows at once.",
+A table of up to 1 MiB, and some others, are read first. Each append makes a segment. So append many rows at once.",
     },
     CommandHelp {
         name: "query",
