@@ -16,7 +16,7 @@ pub const WRITE_AGAIN: &str =
 pub const GIVE_ALL: &str = "Give the whole stream.";
 
 pub const GIVE_A_STREAM: &str =
-    "Give an Arrow IPC stream, not an Arrow file (Feather), a Parquet file, or one of Arrow before 0.15. For CSV and JSON Lines use `append` with `--as`, not a script.";
+    "Give an Arrow IPC stream, not an Arrow file (Feather), a Parquet file, or one before 0.15. For CSV and JSON Lines use `append` with `--as`, not a script.";
 
 pub const WRITE_V5: &str = "Have the stream written with metadata of version V5.";
 
@@ -42,7 +42,7 @@ pub const FEWER_ROWS: &str =
     "Give fewer rows. If one row alone is too heavy, give shorter texts, binaries and lists in it.";
 
 pub const WHOLE_STREAM: &str =
-    "Have the whole stream written again: whoever writes it may have ended early, or written nothing. If it ends its streams without the marker, leave `--complete` out.";
+    "Have the whole stream written again: whoever writes it may have ended early, or wrote nothing. If it ends streams without the marker, leave `--complete` out.";
 
 // ---- G and C: files
 
@@ -189,7 +189,7 @@ pub const NAMES_OF_COLUMNS: &str =
     "Give names as `schema` prints them, without quotation marks, in `--columns` each once. A name that two columns have can't be used, nor can `--objects` then.";
 
 pub const FORM_OF_A_CONDITION: &str =
-    "Write `NAME OP LITERAL`, `NAME is null` or `NAME is not null`. OP is = != < <= > or >=. LITERAL is a value of the column's type; dates are integers, or with `--dates iso` as 2026-11-30.";
+    "Write `NAME OP LITERAL`, `NAME is null` or `NAME is not null`. LITERAL is a value of the column's type; dates are integers without `--dates iso`.";
 
 pub const TEST_FOR_NULL: &str = "Use `is null` or `is not null` for such a column.";
 
