@@ -189,7 +189,7 @@ pub const NAMES_OF_COLUMNS: &str =
     "Give names as `schema` prints them, without quotation marks, in `--columns` each once. A name that two columns have can't be used, nor can `--objects` then.";
 
 pub const FORM_OF_A_CONDITION: &str =
-    "Write `NAME OP LITERAL`, `NAME is null` or `NAME is not null`. OP is = != < <= > or >=. LITERAL has the column's type: dates are integers but with `--dates iso`.";
+    "Write `NAME OP LITERAL`, `NAME is null` or `NAME is not null`. OP: = != < <= > or >=. LITERAL has the column's type: dates are integers unless `--dates iso`.";
 
 pub const TEST_FOR_NULL: &str = "Use `is null` or `is not null` for such a column.";
 
