@@ -3,7 +3,7 @@ ghost use Rattle.std.specs.Prelude.{◌≡◌, IfOk, option_map};
 ghost use Rattle.std.specs.Option.{option_copied};
 ghost use Rattle.facts.specs.Texts.{text_list};
 ghost use Rattle.cli_scripts.specs.Plain.{plain_line, plain_rows};
-ghost use Rattle.cli_scripts.specs.Script.{alone, with_name, with_two, other_of, create_of, option_at, option_or_at, limit_of, after_dashes, rows_of, save_of, save_or_other, line_of};
+ghost use Rattle.cli_scripts.specs.Script.{list_bound, alone, with_name, with_two, other_of, create_of, option_at, option_or_at, limit_of, after_dashes, rows_of, save_of, save_or_other, line_of};
 
 use cli_requests::number_of;
 use std::alloc::{AllocError, Global};
@@ -56,6 +56,22 @@ pub enum ScriptLine<'a> {
     Upgrade,
     /// Closes the store and opens it again.
     Reopen,
+    /// The lines after this one, up to `Commit`, are one commit.
+    Begin,
+    Commit,
+}
+
+#[tactic(auto, unfolding(crate::specs::Script::list_bound))]
+fn list_bound<'a>(word: &str) -> Option<ScriptLine<'a>>
+    ensures { option_map plain_line result ≡ list_bound word.now }
+{
+    if word == "begin" {
+        Some(ScriptLine::Begin)
+    } else if word == "commit" {
+        Some(ScriptLine::Commit)
+    } else {
+        None
+    }
 }
 
 #[tactic(auto, unfolding(crate::specs::Script::alone))]
@@ -69,7 +85,7 @@ fn alone<'a>(word: &str) -> Option<ScriptLine<'a>>
     } else if word == "reopen" {
         Some(ScriptLine::Reopen)
     } else {
-        None
+        list_bound(word)
     }
 }
 
@@ -135,7 +151,7 @@ fn option_at<'r, 'a>(option: &str, words: &'r [&'a str]) -> (Option<&'a str>, &'
 {
     match words {
         [word, value, more @ ..] => {
-            if *word == option {
+            if option == *word {
                 (Some(*value), more)
             } else {
                 (None, words)
@@ -152,7 +168,7 @@ fn option_or_at<'r, 'a>(
     option: &str,
     words: &'r [&'a str],
 ) -> (Option<&'a str>, &'r [&'a str])
-    ensures { (option_copied result.0, text_list result.1.now) ≡ option_or_at (option_copied found) option.now (text_list words.now) }
+    ensures { (option_copied result.0, text_list result.1.now) ≡ option_or_at (option_copied found.entry) option.now (text_list words.now) }
 {
     match found {
         None => option_at(option, words),
@@ -163,7 +179,7 @@ fn option_or_at<'r, 'a>(
 // Returns the limit that a text states, if there is one; `None` if it is no number.
 #[tactic(auto, unfolding(crate::specs::Script::limit_of))]
 fn limit_of(text: Option<&str>) -> Option<Option<u64>>
-    ensures { result ≡ limit_of (option_copied text) }
+    ensures { result ≡ limit_of (option_copied text.entry) }
 {
     let Some(text) = text else {
         return Some(None);
