@@ -45,7 +45,7 @@ fn save(alloc: Global, from: &str, to: &str, rows: &SavedRows<'_>) -> Result<Com
         alloc,
         &rows.conditions,
         rows.columns,
-        None,
+        rows.limit,
         DateForm::Numbers,
     ) {
         Ok(query) => query,
@@ -82,7 +82,11 @@ pub(crate) fn command_of<F: Read + OpenFile + Drop, H: Files<File = F> + AllocGl
         ScriptLine::Save { from, to, rows } => save(rt.alloc(), from, to, rows)?,
         ScriptLine::Rename { from, to } => rename_table(rt.alloc(), from, to)?,
         ScriptLine::Drop { name } => drop_table(rt.alloc(), name)?,
-        ScriptLine::Compact | ScriptLine::Upgrade | ScriptLine::Reopen => unreachable!(),
+        ScriptLine::Compact
+        | ScriptLine::Upgrade
+        | ScriptLine::Reopen
+        | ScriptLine::Begin
+        | ScriptLine::Commit => unreachable!(),
     };
     Ok(command)
 }

@@ -1,19 +1,22 @@
 -- Scripts: one command on each line (`docs/using.md`).
-use Rattle.std.specs.Prelude.{◌≡◌, ◌≢◌, ◌⊎◌, ◌<◌, ◌+◌, ℕ, Bool, true, false, if◌then◌else◌, List, [], ◌∷◌, length, take, get_or, codes, Option, Some, None, is_some, Result, Ok, Err}
+use Rattle.std.specs.Prelude.{◌≡◌, ◌≢◌, ◌⊎◌, ◌<◌, ◌+◌, ℕ, Bool, true, false, if◌then◌else◌, List, [], ◌∷◌, length, take, get_or, codes, Option, Some, None, is_some, option_map, Result, Ok, Err}
 use Rattle.std.specs.List.{list_all}
 use Rattle.std.specs.Str.{bytes_eq}
+use Rattle.std.specs.Str.Parse.{digits_value}
 use Rattle.arrow_schema.specs.Column.{Column}
 use Rattle.field_texts.specs.Reported.{IsReported}
 use Rattle.field_texts.specs.declared.parse.ParseError.{ParseError}
 use Rattle.field_texts.specs.declared.parse.ParseError.TheVariants as fields
 use Rattle.query.specs.ConditionText.{condition_of}
+use Rattle.cli_requests.specs.Numbers.{is_number}
 use Rattle.cli_scripts.specs.declared.script.ScriptError.{ScriptError}
 use Rattle.cli_scripts.specs.declared.script.ScriptError.TheVariants.{BadLine, OutOfMemory}
 use Rattle.cli_scripts.specs.Words.{lines_of, HaveWords}
 
--- the texts of a command that saves selected rows
+-- what selects the rows that a command saves: the names of the columns, with commas between them, the maximum number of rows, and the texts of conditions
 pub record PlainRows : Type 0 where
   pub columns : Option (List ℕ)
+  pub limit : Option ℕ
   pub conditions : List (List ℕ)
 
 -- a command of a script; `create` has the texts of its fields
@@ -27,14 +30,21 @@ pub data PlainLine : Type 0 where
   compact : PlainLine
   upgrade : PlainLine
   reopen : PlainLine
+  -- the lines from `begin` to `commit` are one commit
+  begin_list : PlainLine
+  commit_list : PlainLine
 
 -- ---- what the words ask for
+
+-- what begins and ends a list
+unfoldable pub list_bound : List ℕ → Option PlainLine
+list_bound word = if bytes_eq (codes "begin") word then Some begin_list else if bytes_eq (codes "commit") word then Some commit_list else None
 
 unfoldable pub alone : List ℕ → Option PlainLine
 alone word =
     if bytes_eq (codes "compact") word then Some compact
     else if bytes_eq (codes "upgrade") word then Some upgrade
-    else if bytes_eq (codes "reopen") word then Some reopen else None
+    else if bytes_eq (codes "reopen") word then Some reopen else list_bound word
 
 unfoldable pub with_name : List ℕ → List ℕ → Option PlainLine
 with_name word name = if bytes_eq (codes "drop") word then Some (drop name) else None
@@ -55,23 +65,38 @@ unfoldable pub create_of : List (List ℕ) → Option PlainLine
 create_of [] = None
 create_of (name ∷ texts) = Some (create name texts)
 
--- ---- the rows to be saved: `--columns` and a word, then `--`, if these are there, and then the conditions
+-- ---- the rows to be saved: `--columns` and a word, and `--limit` and a number, each once at most and in any order; then `--`, if it is there, and then the
+-- conditions
 
--- the columns that the first words name, and the words after these; or the words as they are
-unfoldable pub columns_at : List (List ℕ) → Option (List ℕ) × List (List ℕ)
-columns_at [] = (None, [])
-columns_at (word ∷ []) = (None, word ∷ [])
-columns_at (word ∷ columns ∷ more) = if bytes_eq (codes "--columns") word then (Some columns, more) else (None, word ∷ columns ∷ more)
+-- the word behind this option, if the words begin with it, and the words after that one; or the words as they are
+unfoldable pub option_at : List ℕ → List (List ℕ) → Option (List ℕ) × List (List ℕ)
+option_at option [] = (None, [])
+option_at option (word ∷ []) = (None, word ∷ [])
+option_at option (word ∷ value ∷ more) = if bytes_eq option word then (Some value, more) else (None, word ∷ value ∷ more)
+
+-- an option that was found before, or else the one that the words begin with
+unfoldable pub option_or_at : Option (List ℕ) → List ℕ → List (List ℕ) → Option (List ℕ) × List (List ℕ)
+option_or_at None option words = option_at option words
+option_or_at (Some value) option words = (Some value, words)
+
+-- the limit that a text states, if there is one; or none, if it is no number
+unfoldable pub limit_of : Option (List ℕ) → Option (Option ℕ)
+limit_of None = Some None
+limit_of (Some text) = if is_number text then Some (Some (digits_value 10 text)) else None
 
 unfoldable pub after_dashes : List (List ℕ) → List (List ℕ)
 after_dashes [] = []
 after_dashes (word ∷ more) = if bytes_eq (codes "--") word then more else word ∷ more
 
-unfoldable pub rows_of : List (List ℕ) → PlainRows
-rows_of words = let found = columns_at words in record { columns = found.0; conditions = after_dashes found.1 }
+unfoldable pub rows_of : List (List ℕ) → Option PlainRows
+rows_of words =
+    let first = option_at (codes "--columns") words in
+    let limit = option_at (codes "--limit") first.1 in
+    let columns = option_or_at first.0 (codes "--columns") limit.1 in
+    option_map (λ number. record { columns = columns.0; limit = number; conditions = after_dashes columns.1 }) (limit_of limit.0)
 
 unfoldable pub save_of : List (List ℕ) → Option PlainLine
-save_of (from ∷ to ∷ words) = Some (save from to (rows_of words))
+save_of (from ∷ to ∷ words) = option_map (λ rows. save from to rows) (rows_of words)
 save_of (word ∷ []) = None
 save_of [] = None
 
@@ -120,7 +145,7 @@ abbrev pub ReadsLine : Option (List (List ℕ)) → Option PlainLine → Type 0
 ReadsLine words (Some line) = HasLine words line
 ReadsLine words None = HasNone words
 
--- ---- a script
+-- ---- lines
 
 abbrev pub HaveLines : List (Option (List (List ℕ))) → List PlainLine → Type 0
 HaveLines [] [] = Unit {0}
@@ -128,31 +153,14 @@ HaveLines (words ∷ more) (line ∷ lines) = HasLine words line × HaveLines mo
 HaveLines [] (line ∷ lines) = ⊥
 HaveLines (words ∷ more) [] = ⊥
 
--- the first invalid line; its number counts from 1
-pub record IsBadLine (texts : List (Option (List (List ℕ)))) (number : ℕ) : Type 0 where
-  pub index : ℕ
-  pub counted : number ≡ index + 1
-  pub among : index < length texts
-  pub front : List PlainLine
-  pub before : HaveLines (take index texts) front
-  pub bad : HasNone (get_or texts index None)
-
--- the lines that words have, or the first line without a command
-abbrev pub AreParsed : List (Option (List (List ℕ))) → Result (List PlainLine) ScriptError → Type 0
-AreParsed texts (Ok lines) = HaveLines texts lines
-AreParsed texts (Err (BadLine number)) = IsBadLine texts number
-AreParsed texts (Err OutOfMemory) = Unit {0}
-
--- the lines of a script, or its first invalid line
-abbrev pub IsScript : List ℕ → Result (List PlainLine) ScriptError → Type 0
-IsScript script parsed = (texts : List (Option (List (List ℕ)))) × HaveWords (lines_of script) texts × AreParsed texts parsed
-
--- ---- a script that is applied as one commit: each line changes tables
+-- ---- lines that change tables, and a script of such lines, which is applied as one commit
 
 abbrev pub changes_tables : PlainLine → Bool
 changes_tables compact = false
 changes_tables upgrade = false
 changes_tables reopen = false
+changes_tables begin_list = false
+changes_tables commit_list = false
 changes_tables _ = true
 
 -- these words are those of such a line
