@@ -211,7 +211,8 @@ or appended. If no advice follows a fault, the cause is the program that wrote t
   separate the words of a line, and a word with spaces stands in quotation marks. Either these words are not
   a command of a script, or the text of a field (P), the form of a condition (Q2) or the number of a `--limit`
   is refused. `apply` takes only commands on tables, and so does `replay` between `begin` and `commit`; each
-  `begin` has its `commit`.
+  `begin` has its `commit`. The last line of a script of `apply` has its line feed: if not, the script may be
+  cut off.
   ",
     LINES_OF_A_SCRIPT,
     "

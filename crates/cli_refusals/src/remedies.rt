@@ -95,7 +95,7 @@ pub const BLANK_DEVICE: &str =
 pub const NO_FOLDER: &str = "Give the file of a store, or a disk that holds one.";
 
 pub const LINES_OF_A_SCRIPT: &str =
-    "Write `create NAME FIELD ..`, `import` or `append NAME FILE`, `save FROM TO CONDITION ..`, `rename FROM TO`, `drop NAME`, `compact`, `upgrade` or `reopen`.";
+    "Write `create NAME FIELD ..`, `import` or `append NAME FILE`, `save FROM TO CONDITION ..`, `rename FROM TO` or `drop NAME`. `replay` takes others too.";
 
 pub const FILE_OF_A_STORE: &str =
     "Give the file of a store. If this is the new file of a `format` or `copy` that was interrupted, run the command again, with another path.";

@@ -9,7 +9,7 @@ ghost use Rattle.cli_replay.specs.Replay.{AreCommandsOfLines, IsOfReading};
 
 use crate::commands::command_of;
 use cli_refusals::Refusal;
-use cli_scripts::{ScriptError, ScriptLine, parse_changes, script_words};
+use cli_scripts::{ScriptError, ScriptLine, is_ended, parse_changes, script_words};
 use std::alloc::Global;
 use std::fs::OpenFile;
 use std::io::Read;
@@ -57,8 +57,8 @@ fn changes_of<'a>(
 /// one more if it is longer, so that a store refuses it.
 ///
 /// # Errors
-/// `BadScript` with the number of the first line that is no command or changes no tables, counted from 1; `Io` of a file if one can't be read;
-/// `OutOfMemory`.
+/// `BadScript` with the number of the first line that is no command or changes no tables, counted from 1, or of the last one if it lacks its line feed, since
+/// the script may be cut off; `Io` of a file if one can't be read; `OutOfMemory`.
 pub fn script_commands<F: Read + OpenFile + Drop, H: Files<File = F> + AllocGlobal>(
     rt: &H,
     script: &[u8],
@@ -69,5 +69,8 @@ pub fn script_commands<F: Read + OpenFile + Drop, H: Files<File = F> + AllocGlob
     let alloc = rt.alloc();
     let words = script_words(alloc, script)?;
     let lines = changes_of(alloc, &words)?;
+    if !is_ended(script) {
+        return Err(Refusal::BadScript(lines.len() as u64));
+    }
     commands_of(rt, &lines)
 }

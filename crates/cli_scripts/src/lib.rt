@@ -16,4 +16,4 @@ pub use items::{ScriptItem, ScriptList};
 pub use laws::{a_line_has_one_list_of_words, written_words_are_read};
 pub use line::{SavedRows, ScriptLine, line_of};
 pub use script::{ScriptError, parse_changes, parse_script};
-pub use words::script_words;
+pub use words::{is_ended, script_words};

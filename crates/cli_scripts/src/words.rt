@@ -5,7 +5,7 @@ ghost use Rattle.std.specs.Option.{option_and_then, option_copied};
 ghost use Rattle.facts.specs.Outcomes.{Reads};
 ghost use Rattle.facts.specs.Texts.{text_list};
 ghost use Rattle.field_texts.specs.inner.Scan.{cut_at, stripped};
-ghost use Rattle.cli_scripts.specs.Words.{quoted, after_word, split_word, closed_word, word_at, ReadsWords, HasWords, ends_empty, lines_of, HaveWords};
+ghost use Rattle.cli_scripts.specs.Words.{is_ended, quoted, after_word, split_word, closed_word, word_at, ReadsWords, HasWords, ends_empty, lines_of, HaveWords};
 ghost use Rattle.cli_scripts.specs.Plain.{plain_words};
 
 use std::alloc::{AllocError, Global};
@@ -145,6 +145,16 @@ fn lines_of(alloc: Global, script: &[u8]) -> Result<Vec<&[u8]>, AllocError>
         lines.pop();
     }
     Ok(lines)
+}
+
+/// Returns whether the last line of a script has its line feed. If it has not, the script may be cut off. A script without lines lacks none.
+pub fn is_ended(script: &[u8]) -> bool
+    ensures { result ≡ is_ended script.now }
+{
+    match script.last() {
+        Some(last) => *last == b'\n',
+        None => true,
+    }
 }
 
 /// Returns the words of each line of a script, or `None` for a line that is not UTF-8, has a quotation mark that is not closed, or has something else than

@@ -12,4 +12,4 @@ returns-in-Ok-clause-changes c =
     change_lines lines (tested_lines (map plain_words c.args.words.now) lines c.in-Ok.ensures.0) c.in-Ok.ensures.1
 
 pub returns-in-Err-BadLine-clause-told : goal.returns-in-Err-BadLine-clause-told
-returns-in-Err-BadLine-clause-told c = λ script have. (map plain_words c.args.words.now, have, rw c.in-Err-BadLine.field-0-is at c.in-Err-BadLine.ensures)
+returns-in-Err-BadLine-clause-told c = λ script have. inl (map plain_words c.args.words.now, have, rw c.in-Err-BadLine.field-0-is at c.in-Err-BadLine.ensures)
