@@ -86,6 +86,10 @@ pub of_formatted : {D T : Type 0} (g : Ghosts D) (size sectors : ℕ) (version :
 of_formatted g size sectors version (Ok made) same limits why = tt
 of_formatted g size sectors version (Err refusal) same limits why = of_formatting g size sectors version refusal same limits why
 
+-- a refusal of a store of one size is one of a store of the same size
+pub of_same_size : {D T : Type 0} (g : Ghosts D) (size sectors : ℕ) (version : FormatVersion) (result : Result T Refusal) → size ≡ sectors → IfErr result (RefusesFormat g size version) → IfErr result (RefusesFormat g sectors version)
+of_same_size g size sectors version result same why = subst (λ (n : ℕ). IfErr result (RefusesFormat g n version)) same why
+
 -- a refusal of a store of one version is one of a store of the same version
 pub in_version : {D : Type 0} (g : Ghosts D) (sectors : ℕ) (v w : FormatVersion) (refusal : Refusal) → v ≡ w → RefusesFormat g sectors v refusal → RefusesFormat g sectors w refusal
 in_version g sectors v w refusal same why = subst (λ (version : FormatVersion). RefusesFormat g sectors version refusal) same why

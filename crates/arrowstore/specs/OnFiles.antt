@@ -1,5 +1,7 @@
 -- What a request of a store does, on devices of one kind.
-use Rattle.std.specs.Prelude.{◌≡◌, ◌⊎◌, ◌≤◌, ℕ, Bool, true, false, List, [], ◌∷◌, codes, Option, Some, None, IsSome, Result, Ok, Err, IfErr, OnOk, IsErrAnd}
+use Rattle.std.specs.Prelude.{◌≡◌, ◌⊎◌, ◌≤◌, ℕ, Bool, true, false, List, [], ◌∷◌, codes, bit_and, Option, Some, None, IfSome, IsSome, Result, Ok, Err, IfErr, OnOk, IsErrAnd}
+use Rattle.std.specs.Fs.{metadata_mode}
+use Rattle.std.specs.declared.fs.attrs.Metadata.{Metadata}
 use Rattle.std.specs.Io.KnownBytes.{Appends}
 use Rattle.std.specs.Str.{bytes_eq}
 use Rattle.std.specs.declared.io.traits.Read.{Ghosts as ReadGhosts}
@@ -48,7 +50,7 @@ use Rattle.cli_texts.specs.declared.telling.Audience.{Audience}
 use Rattle.cli_texts.specs.declared.status.Ended.{Ended}
 use Rattle.cli_texts.specs.declared.status.Status.{Status}
 use Rattle.cli_texts.specs.declared.status.Status.TheVariants.{Done, PartlyDone, Refused}
-use Rattle.cli_requests.specs.Asked.{request_word, changes}
+use Rattle.cli_requests.specs.Asked.{request_word, changes, is_for_device}
 use Rattle.cli_requests.specs.Operands.{Names}
 use Rattle.cli_requests.specs.Right.{AreRightWords, IsReadFrom}
 use Rattle.cli_requests.specs.StoreWords.{first_word, ask_for_help}
@@ -127,6 +129,29 @@ abbrev pub Formats : {D : Type 0} → (g : Ghosts D) → {W : Type 0} → (conte
     → Result (Unit {0}) Refusal → Type 0
 Formats g contents sectors version output output' result =
     IsErrAnd result (λ refusal. RefusesFormat g sectors version refusal × (output' ≡ output)) ⊎ MakesStore g contents sectors version output output' result
+
+-- ---- a store on a block device
+
+-- what the system says of a block device: the type in the mode of the file is `S_IFBLK` (POSIX.1, `sys/stat.h`)
+abbrev pub IsBlockDevice : Metadata → Type 0
+IsBlockDevice found = bit_and (metadata_mode found) 0o170000 ≡ 0o060000
+
+-- a block device was opened, with as many sectors as its file says, and these are as many as were asked for, if a number was given; on a device with
+-- all of these sectors an empty store was made, or that was refused
+pub record FormatsOpened {D : Type 0} (g : Ghosts D) (is_opened : D → Type 0) {W : Type 0} (contents : W → Option (List ℕ)) (sectors : Option ℕ)
+    (version : FormatVersion) (output output' : W) (result : Result (Unit {0}) Refusal) : Type 0 where
+  pub found : Metadata
+  pub kind : IsBlockDevice found
+  pub device : D
+  pub opened : is_opened device
+  pub given : IfSome sectors (λ number. g.size device ≡ number)
+  pub formats : Formats g contents (g.size device) version output output' result
+
+-- a store was made so or refused, or none was made since no such device was opened, and nothing was written
+abbrev pub FormatsDevice : {D : Type 0} → (g : Ghosts D) → (is_opened : D → Type 0) → {W : Type 0} → (contents : W → Option (List ℕ)) → (sectors : Option ℕ)
+    → FormatVersion → (output output' : W) → Result (Unit {0}) Refusal → Type 0
+FormatsDevice g is_opened contents sectors version output output' result =
+    IsErrAnd result (λ refusal. IsOfFile refusal × (output' ≡ output)) ⊎ FormatsOpened g is_opened contents sectors version output output' result
 
 -- ---- a copy of the store in a file, in a new file
 
@@ -286,6 +311,8 @@ abbrev pub ServesRequest : {D : Type 0} → (g : Ghosts D) → (is_opened : D �
     → (left left' : List (ℕ × ℕ)) → Result (Unit {0}) Refusal → Type 0
 ServesRequest g is_opened of_file remaining contents replays (requests.Format path sectors version) before after left left' result =
     Formats g contents sectors version before.output after.output result × SaysNothing before after × (left' ≡ left)
+ServesRequest g is_opened of_file remaining contents replays (requests.FormatDevice path sectors over version) before after left left' result =
+    FormatsDevice g is_opened contents sectors version before.output after.output result × SaysNothing before after × (left' ≡ left)
 ServesRequest g is_opened of_file remaining contents replays (requests.Copy path new sectors) before after left left' result =
     CopiesStore g is_opened contents sectors before.output after.output result × SaysNothing before after × (left' ≡ left)
 ServesRequest g is_opened of_file remaining contents replays (requests.Salvage path name) before after left left' result =
@@ -367,10 +394,15 @@ abbrev pub GivesHelpOrWrong : {W : Type 0} → (contents : W → Option (List �
 GivesHelpOrWrong contents asks_for_help output output' status =
     ((asks_for_help ≡ true) × (status ≡ Done → GivesSome (contents output) (contents output'))) ⊎ (IsWrong status × (output' ≡ output))
 
--- no command is served: some word asks for help, or the words are wrong; right ones are served unless memory is refused
+-- the words ask for a store on a block device, and for no other file
+abbrev pub AskForDevice : (arguments : List (List ℕ)) → Type 0
+AskForDevice arguments = (request : StoreRequest) × IsAskedBy arguments request × (is_for_device request ≡ true)
+
+-- no command is served: some word asks for help, or the words are wrong; right ones are served unless memory is refused, or they are for a block device
 abbrev pub AsksForNone : {W : Type 0} → (contents : W → Option (List ℕ)) → (arguments : List (List ℕ)) → (output output' : W) → Status → Type 0
 AsksForNone contents arguments output output' status =
-    GivesHelpOrWrong contents (ask_for_help arguments) output output' status × (AreRightWords arguments → status ≡ Refused refusals.OutOfMemory)
+    GivesHelpOrWrong contents (ask_for_help arguments) output output' status
+    × (AreRightWords arguments → (status ≡ Refused refusals.OutOfMemory) ⊎ AskForDevice arguments)
 
 -- arguments for a store: none of their commands is served and nothing is read, or the request that they state was served
 abbrev pub RunsOnStore : {D : Type 0} → (g : Ghosts D) → (is_opened : D → Type 0) → {F R W E : Type 0} → (of_file : F → Option (List ℕ))

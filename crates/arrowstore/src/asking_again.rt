@@ -91,14 +91,17 @@ fn tables_of<F: Read + Write + Seek + OpenFile + LockFile + Drop, H: Files<File 
     store.tables(rt.alloc()).ok()
 }
 
-// The file that is opened comes before the one that is made with a number of sectors.
+// The file that is opened comes before the one that is made with a number of sectors. A block device without a number has its own.
 fn found_of_size<F: Read + Seek + OpenFile + Drop, H: Files<File = F> + AllocGlobal>(
     rt: &H,
     request: &StoreRequest<'_>,
 ) -> Option<AskedAgain> {
-    match file_of_bad_size(rt, request) {
-        Some(file) => Some(AskedAgain::File(file)),
-        None => Some(AskedAgain::Sectors(refused_sectors(request)?)),
+    if let Some(file) = file_of_bad_size(rt, request) {
+        return Some(AskedAgain::File(file));
+    }
+    match refused_sectors(request) {
+        Some(sectors) => Some(AskedAgain::Sectors(sectors)),
+        None => Some(AskedAgain::File(unfit_device(rt, request)?)),
     }
 }
 

@@ -58,7 +58,8 @@ fn unopened(alloc: Global, error: &io::Error) -> Option<FileReason> {
 fn makes(request: &StoreRequest<'_>, path: &str) -> bool {
     match request {
         StoreRequest::Format { path: new, .. } | StoreRequest::Copy { new, .. } => *new == path,
-        StoreRequest::Salvage { .. }
+        StoreRequest::FormatDevice { .. }
+        | StoreRequest::Salvage { .. }
         | StoreRequest::Replay(_)
         | StoreRequest::Apply { .. }
         | StoreRequest::Command { .. } => false,

@@ -15,7 +15,8 @@ pub(crate) fn store_of<'a>(request: &StoreRequest<'a>) -> Option<&'a str> {
         | StoreRequest::Salvage { path, .. }
         | StoreRequest::Apply { path, .. }
         | StoreRequest::Command { path, .. } => Some(path),
-        StoreRequest::Format { .. } | StoreRequest::Replay(_) => None,
+        StoreRequest::Format { .. } | StoreRequest::FormatDevice { .. } | StoreRequest::Replay(_) =>
+            None,
     }
 }
 
@@ -68,8 +69,10 @@ pub(crate) fn refused_sectors(request: &StoreRequest<'_>) -> Option<u64> {
     let sectors = match request {
         StoreRequest::Format { sectors, .. } | StoreRequest::Copy { sectors, .. } => *sectors,
         StoreRequest::Replay(words) => words.sectors,
-        StoreRequest::Salvage { .. } | StoreRequest::Apply { .. } | StoreRequest::Command { .. } =>
-            return None,
+        StoreRequest::FormatDevice { .. }
+        | StoreRequest::Salvage { .. }
+        | StoreRequest::Apply { .. }
+        | StoreRequest::Command { .. } => return None,
     };
     if is_size_of_store(sectors) {
         None

@@ -19,6 +19,7 @@ mod command_line;
 mod copying_files;
 mod ending;
 mod failing;
+mod formatting_devices;
 mod in_place_of_store;
 mod input_again;
 mod kept_start;

@@ -11,6 +11,7 @@ ghost use Rattle.arrowstore.specs.Serving.{remarked};
 use crate::Remarks;
 use crate::applying_scripts::serve_apply;
 use crate::copying_files::serve_copy;
+use crate::formatting_devices::serve_format_device;
 use crate::open_command::stated;
 use crate::replaying::serve_replay;
 use crate::salvaging_files::serve_salvage;
@@ -26,8 +27,8 @@ use std::os::unix::fs::FileTypeExt;
 use std::rt::Files;
 use store::{LeftOut, Store};
 
-// Makes an empty store on a device, or returns the refusal with the device.
-fn format_on<D: SectorDevice + Drop>(
+/// Makes an empty store on a device, or returns the refusal with the device.
+pub(crate) fn format_on<D: SectorDevice + Drop>(
     alloc: Global,
     device: D,
     version: FormatVersion,
@@ -185,8 +186,8 @@ pub(crate) fn format_new<
     }
 }
 
-// Creates a file with an empty store. On an error no file is left, unless the system refuses to remove it.
-fn format_file<
+/// Creates a file with an empty store. On an error no file is left, unless the system refuses to remove it.
+pub(crate) fn format_file<
     F: Read + Write + Seek + OpenFile + LockFile + Drop,
     H: Files<File = F> + AllocGlobal,
 >(
@@ -272,6 +273,12 @@ pub(crate) fn serve<
             sectors,
             version,
         } => serve_format(rt, path, *sectors, *version, output),
+        StoreRequest::FormatDevice {
+            path,
+            sectors,
+            over,
+            version,
+        } => serve_format_device(rt, path, *sectors, *over, *version, output),
         StoreRequest::Copy { path, new, sectors } => serve_copy(rt, path, new, *sectors, output),
         StoreRequest::Salvage { path, name } => serve_salvage(rt, path, name, output, left_out),
         StoreRequest::Apply { path, script } => serve_apply(rt, path, script, input, output),

@@ -1,16 +1,18 @@
 // The program over any files, input and output.
-ghost use Rattle.std.specs.Prelude.{◌≡◌, ◌⊎◌, ℕ, List, [], true, map, Option, None, IsTrue};
+ghost use Rattle.std.specs.Prelude.{◌≡◌, ◌⊎◌, ℕ, List, [], true, map, Option, None, IfErr, IfOk, IsTrue};
 ghost use Rattle.std.specs.Io.KnownBytes.{Appends};
 ghost use Rattle.clap.specs.Words.{kind_of};
 ghost use Rattle.clap.specs.declared.error.kind.ErrorKind.TheVariants as kinds;
 ghost use Rattle.arrowstore.specs.Arguments.{AreRecode, AreRight};
-ghost use Rattle.arrowstore.specs.OnFiles.{GivesHelpOrWrong, HasTold, IsOpenedFile, Replays, RunsOnStore, ServesTold, ends_of, hinted_of, status_of};
+ghost use Rattle.arrowstore.specs.OnFiles.{AskForDevice, GivesHelpOrWrong, HasTold, IsAskedBy, IsOpenedFile, Replays, RunsOnStore, ServesTold, ends_of, hinted_of, status_of};
 ghost use Rattle.arrowstore.specs.Running.{MayHint, Recodes};
 ghost use Rattle.cli_texts.specs.Ending.{GivesSome, GivesText, HasReportedHint, HintsText, TellsRefusal};
 ghost use Rattle.cli_texts.specs.LeftOut.{left_out_text};
 ghost use Rattle.cli_texts.specs.OwnTexts.{is_own, own_text};
 ghost use Rattle.cli_texts.specs.Told.{audience_after_output, told};
+ghost use Rattle.cli_requests.specs.Apps.{IsOfMemory};
 ghost use Rattle.cli_requests.specs.Asked.{changes, request_word};
+ghost use Rattle.cli_requests.specs.Right.{AreRightWords};
 ghost use Rattle.cli_requests.specs.StoreWords.{first_word, is_of_store, takes_input, takes_input_word};
 ghost use Rattle.cli_texts.specs.Reported.{IfRefused, IsWrong};
 ghost use Rattle.cli_texts.specs.declared.notes.Note.{Note};
@@ -24,6 +26,7 @@ use crate::about_words::{about_line, about_word};
 use crate::asking_again::{AskedAgain, Served, ask_again};
 use crate::ending::{end_whole_or_partly, tell_if_done};
 use crate::failing::cause_of;
+use crate::formatting_devices::lacks_device;
 use crate::kept_start::Input;
 use crate::noted::Failure;
 use crate::record_line::line_of_refused;
@@ -31,7 +34,9 @@ use crate::serving::serve;
 use crate::unread_tables::report_of_others;
 use crate::{Failures, Remarks, run};
 use cli_refusals::{Hint, Hinted, Known, Refusal, Word};
-use cli_requests::{Mistake, StoreRequest, ask_for_help, is_of_store, refused_word, request_of};
+use cli_requests::{
+    Mistake, StoreRequest, ask_for_help, is_of_store, no_block_device, refused_word, request_of,
+};
 use cli_texts::{
     Audience, Ended, Output, audience_after_output, report_arguments, report_signed_number,
     report_wrong_arguments,
@@ -255,6 +260,26 @@ fn report_mistake<W: Write + Output, E: Write>(
     }
 }
 
+// Parses a command line of a store. A request for a block device is a mistake if none is at its path.
+fn request_on_files<
+    'a,
+    F: Read + Write + Seek + OpenFile + LockFile + Drop,
+    H: Files<File = F> + AllocGlobal,
+    S: AsStr,
+>(rt: &H, arguments: &'a [S]) -> Result<StoreRequest<'a>, Mistake>
+    requires { is_of_store (map S.text arguments.now) ≡ true }
+    ensures asks { IfOk result (IsAskedBy (map S.text arguments.now)) }
+    ensures taken { AreRightWords (map S.text arguments.now)
+        → IfErr result (λ mistake. IsOfMemory mistake ⊎ AskForDevice (map S.text arguments.now)) }
+{
+    let request = request_of(rt.alloc(), arguments)?;
+    if lacks_device(rt, &request) {
+        let mistake = no_block_device(rt.alloc(), &request)?;
+        return Err(mistake);
+    }
+    Ok(request)
+}
+
 // Executes a command line of a store.
 fn run_on_store<
     F: Read + Write + Seek + OpenFile + LockFile + Drop,
@@ -279,7 +304,7 @@ fn run_on_store<
         (ends_of input.old output.old errors.old) (ends_of input.new output.new errors.new) result }
     ensures input { (takes_input (map S.text arguments.now) ≡ true) ⊎ (input.new ≡ input.old) }
 {
-    match request_of(rt.alloc(), arguments) {
+    match request_on_files(rt, arguments) {
         Ok(request) => serve_and_report(rt, &request, input, output, errors, failures, audience),
         Err(Mistake::Words(error)) => {
             report_mistake(

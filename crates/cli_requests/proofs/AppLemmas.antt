@@ -1,6 +1,6 @@
 -- What the commands of names alone make of their operands.
-use Rattle.std.proofs.Common.{◌≡◌, ◌∙◌, ◌==◌, ℕ, Bool, true, false, refl, sym, ap, subst, List, [], ◌∷◌, ◌++◌, length, drop, codes, Option, Some, None}
-use Rattle.std.proofs.Common.{true≢false, arith}
+use Rattle.std.proofs.Common.{◌≡◌, ◌∙◌, ◌==◌, ℕ, Bool, true, false, refl, sym, ap, subst, subst₂, List, [], ◌∷◌, ◌++◌, length, drop, codes, Option, Some, None}
+use Rattle.std.proofs.Common.{inl, inr, true≢false, arith}
 use Rattle.std.specs.Prelude.{IfSome, IfOk, Result, Ok, Err, option_map, unwrap_or}
 use Rattle.std.specs.Borrow.{Bor}
 use Rattle.std.specs.Str.{bytes_eq}
@@ -24,6 +24,7 @@ use Rattle.civil_days.specs.declared.date_form.DateForm.{DateForm}
 use Rattle.civil_days.specs.declared.date_form.DateForm.TheVariants.{Numbers, Iso}
 use Rattle.cli_requests.specs.Apps.{HasDates, HasFound}
 use Rattle.cli_requests.specs.Asked.{request_word}
+use Rattle.cli_requests.specs.Numbers.{IsNumber, is_number}
 use Rattle.cli_requests.specs.Operands.{version_named, operands, names_file, names_table, IsNamedBy, Names}
 use Rattle.cli_requests.specs.StoreWords.{is_of_store, is_store_word, first_word}
 use Rattle.cli_requests.specs.declared.command_parameters.Parameters.{Parameters}
@@ -266,11 +267,16 @@ rename_named name (a ∷ b ∷ []) e = absurd (some_kind _ _ e)
 rename_named name (a ∷ b ∷ c ∷ []) e = refl
 rename_named name (a ∷ b ∷ c ∷ d ∷ rest) e = absurd (some_kind _ _ e)
 
+-- a file, and a number if there is one
+abbrev pub AreFileAndNumber : List Text → (file : Text) → Option Text → Type 0
+AreFileAndNumber ops file None = ops ≡ file ∷ []
+AreFileAndNumber ops file (Some number) = ops ≡ file ∷ number ∷ []
+
 format_named : (name : Text) (ops : List Text) → operands_fault (format_top name) ops ≡ []
-    → ops ≡ row_value (codes "STORE") (operand_rows (format_top name) ops) ∷ row_value (codes "SECTORS") (operand_rows (format_top name) ops) ∷ []
+    → AreFileAndNumber ops (row_value (codes "STORE") (operand_rows (format_top name) ops)) (first_of (codes "SECTORS") (operand_rows (format_top name) ops))
 unfolding clap_on_literals
 format_named name [] e = absurd (some_kind _ _ e)
-format_named name (a ∷ []) e = absurd (some_kind _ _ e)
+format_named name (a ∷ []) e = refl
 format_named name (a ∷ b ∷ []) e = refl
 format_named name (a ∷ b ∷ c ∷ rest) e = absurd (some_kind _ _ e)
 
@@ -279,9 +285,17 @@ format_alone : (name : Text) (ops : List Text) → operands_fault (format_top na
     → first_of (codes "format-version") (operand_rows (format_top name) ops) ≡ None
 unfolding clap_on_literals
 format_alone name [] e = absurd (some_kind _ _ e)
-format_alone name (a ∷ []) e = absurd (some_kind _ _ e)
+format_alone name (a ∷ []) e = refl
 format_alone name (a ∷ b ∷ []) e = refl
 format_alone name (a ∷ b ∷ c ∷ rest) e = absurd (some_kind _ _ e)
+
+format_over : (name : Text) (ops : List Text) → operands_fault (format_top name) ops ≡ []
+    → one_of (codes "over") (operand_rows (format_top name) ops) ≡ Some (codes "false")
+unfolding clap_on_literals
+format_over name [] e = absurd (some_kind _ _ e)
+format_over name (a ∷ []) e = refl
+format_over name (a ∷ b ∷ []) e = refl
+format_over name (a ∷ b ∷ c ∷ rest) e = absurd (some_kind _ _ e)
 
 copy_named : (name : Text) (ops : List Text) → operands_fault (copy_top name) ops ≡ []
     → ops ≡ row_value (codes "STORE") (operand_rows (copy_top name) ops) ∷ row_value (codes "NEW") (operand_rows (copy_top name) ops)
@@ -515,14 +529,14 @@ module _ (word : Text) (words : List Text) (m : ArgMatches) (a : App) (name : Te
       ∙ (λ i. found_value m _ (codes "STORE") rows i ∷ found_value m _ (codes "NAME") rows i ∷ found_value m _ (codes "NEW") rows i ∷ [])
 
   format_found : a ≡ format_app name → (ops : List Text) → operands words ≡ Some ops
-      → ops ≡ value_of (found_of m) (codes "STORE") ∷ value_of (found_of m) (codes "SECTORS") ∷ []
+      → AreFileAndNumber ops (value_of (found_of m) (codes "STORE")) (first_value (found_of m) (codes "SECTORS"))
   unfolding clap_on_literals
   format_found is ops e =
       let reads = reads_operands (format_app name) word words ops e refl refl (format_plain name) in
       let p : Parsed (format_app name) (word ∷ words) m = subst (λ (x : App). Parsed x (word ∷ words) m) is parsed in
       let rows = (p.matches refl).0 ∙ reads.rows in
-      format_named name ops (sym reads.fault ∙ p.faultless refl)
-      ∙ (λ i. found_value m _ (codes "STORE") rows i ∷ found_value m _ (codes "SECTORS") rows i ∷ [])
+      subst₂ (AreFileAndNumber ops) (found_value m _ (codes "STORE") rows) (found_first m _ (codes "SECTORS") rows)
+      (format_named name ops (sym reads.fault ∙ p.faultless refl))
 
   format_default : a ≡ format_app name → (ops : List Text) → operands words ≡ Some ops → first_value (found_of m) (codes "format-version") ≡ None
   unfolding clap_on_literals
@@ -531,6 +545,14 @@ module _ (word : Text) (words : List Text) (m : ArgMatches) (a : App) (name : Te
       let p : Parsed (format_app name) (word ∷ words) m = subst (λ (x : App). Parsed x (word ∷ words) m) is parsed in
       let rows = (p.matches refl).0 ∙ reads.rows in
       sym (found_first m _ (codes "format-version") rows) ∙ format_alone name ops (sym reads.fault ∙ p.faultless refl)
+
+  format_keeps : a ≡ format_app name → (ops : List Text) → operands words ≡ Some ops → one_text (found_of m) (codes "over") ≡ Some (codes "false")
+  unfolding clap_on_literals
+  format_keeps is ops e =
+      let reads = reads_operands (format_app name) word words ops e refl refl (format_plain name) in
+      let p : Parsed (format_app name) (word ∷ words) m = subst (λ (x : App). Parsed x (word ∷ words) m) is parsed in
+      let rows = (p.matches refl).0 ∙ reads.rows in
+      sym (found_one m _ (codes "over") rows) ∙ format_over name ops (sym reads.fault ∙ p.faultless refl)
 
   copy_found : a ≡ copy_app name → (ops : List Text) → operands words ≡ Some ops
       → ops ≡ value_of (found_of m) (codes "STORE") ∷ value_of (found_of m) (codes "NEW") ∷ value_of (found_of m) (codes "SECTORS") ∷ []
@@ -619,6 +641,17 @@ numbers_left found Iso has none =
     let left : value_of found (codes "dates") ≡ [] = ap (λ (o : Option Text). unwrap_or o []) none in
     absurd (true≢false (ap (λ (t : Text). bytes_eq t (codes "iso")) (sym has ∙ left)))
 
+-- a number that is asked for is the second operand
+with_number : (ops : List Text) (file : Text) (o : Option Text) (sectors : ℕ) → AreFileAndNumber ops file o → IsNumber (unwrap_or o []) sectors
+    → (number : Text) × (ops ≡ file ∷ number ∷ []) × IsNumber number sectors
+unfolding is_number
+with_number ops file None sectors are is = absurd (true≢false (sym is.0))
+with_number ops file (Some number) sectors are is = (number, are, is)
+
+left_out : (o : Option Text) → option_map (digits_value 10) o ≡ None → o ≡ None
+left_out None e = refl
+left_out (Some t) e = absurd (none-some (digits_value 10 t) (sym e))
+
 no_text : (o : Option (Bor Text)) → option_map (λ s. s.now) o ≡ None → o ≡ None
 no_text None e = refl
 no_text (Some t) e = absurd (none-some t.now (sym e))
@@ -657,11 +690,15 @@ module _ (word : Text) (words : List Text) (m : ArgMatches) (a : App) (own : IsO
   names_two is ops e = rename_found word words m a word parsed (subst (λ (b : Parameters). IsAppWith word b a) is own) ops e
 
   pub names_sectors : parameters_of word ≡ parameters.Sectors → (ops : List Text) → operands words ≡ Some ops
-      → ops ≡ value_of (found_of m) (codes "STORE") ∷ value_of (found_of m) (codes "SECTORS") ∷ []
+      → AreFileAndNumber ops (value_of (found_of m) (codes "STORE")) (first_value (found_of m) (codes "SECTORS"))
   names_sectors is ops e = format_found word words m a word parsed (subst (λ (b : Parameters). IsAppWith word b a) is own) ops e
 
   pub asks_newest : parameters_of word ≡ parameters.Sectors → (ops : List Text) → operands words ≡ Some ops → first_value (found_of m) (codes "format-version") ≡ None
   asks_newest is ops e = format_default word words m a word parsed (subst (λ (b : Parameters). IsAppWith word b a) is own) ops e
+
+  asks_to_keep : parameters_of word ≡ parameters.Sectors → (ops : List Text) → operands words ≡ Some ops
+      → one_text (found_of m) (codes "over") ≡ Some (codes "false")
+  asks_to_keep is ops e = format_keeps word words m a word parsed (subst (λ (b : Parameters). IsAppWith word b a) is own) ops e
 
   pub names_new_store : parameters_of word ≡ parameters.NewStore → (ops : List Text) → operands words ≡ Some ops
       → ops ≡ value_of (found_of m) (codes "STORE") ∷ value_of (found_of m) (codes "NEW") ∷ value_of (found_of m) (codes "SECTORS") ∷ []
@@ -713,10 +750,19 @@ module _ (word : Text) (words : List Text) (m : ArgMatches) (a : App) (own : IsO
   names_command (requests.Format file sectors version) is found =
       named (requests.Format file sectors version)
       (λ ops e.
-      let taken = of_word (codes "format") parameters.Sectors is refl in (
-        value_of (found_of m) (codes "SECTORS"),
-        names_sectors taken ops e ∙ (λ i. sym found.0 i ∷ value_of (found_of m) (codes "SECTORS") ∷ []),
-        found.1,
+      let taken = of_word (codes "format") parameters.Sectors is refl in
+      let named = with_number ops _ (first_value (found_of m) (codes "SECTORS")) sectors (names_sectors taken ops e) found.1 in
+      (named.0, named.1 ∙ ap (λ (f : Text). f ∷ named.0 ∷ []) (sym found.0), named.2, found.2.1 ∙ ap version_named (asks_newest taken ops e)))
+  names_command (requests.FormatDevice file sectors over version) is found =
+      named (requests.FormatDevice file sectors over version)
+      (λ ops e.
+      let taken = of_word (codes "format") parameters.Sectors is refl in
+      let kept = found.3.left_out (asks_to_keep taken ops e) in
+      let none : sectors ≡ None = elim found.4 [ inl none ↦ none | inr overwrites ↦ absurd (true≢false (sym overwrites ∙ kept)) ] in
+      let no_word = left_out _ (sym found.1.1 ∙ none) in (
+        subst (AreFileAndNumber ops (value_of (found_of m) (codes "STORE"))) no_word (names_sectors taken ops e) ∙ ap (λ (f : Text). f ∷ []) (sym found.0),
+        none,
+        kept,
         found.2.1 ∙ ap version_named (asks_newest taken ops e),
       ))
   names_command (requests.Copy file new sectors) is found =
@@ -807,7 +853,7 @@ module _ (word : Text) (words : List Text) (m : ArgMatches) (a : App) (own : IsO
       let none = asks_all taken ops e in
       let has = found.1.1 in (
         names_conditions taken ops e ∙ (λ i. sym found.0 i ∷ sym found.1.0 i ∷ sym has.conditions i),
-        (no_text query.columns (has.columns ∙ none.columns), has.limit ∙ ap (option_map (digits_value 10)) none.limit, numbers_left (found_of m) query.dates has.dates none.dates, found.1.2.arrays none.objects),
+        (no_text query.columns (has.columns ∙ none.columns), has.limit.1 ∙ ap (option_map (digits_value 10)) none.limit, numbers_left (found_of m) query.dates has.dates none.dates, found.1.2.arrays none.objects),
       ))
   names_command (requests.Command file (commands.SaveAs from to query)) is found =
       named (requests.Command file (commands.SaveAs from to query))

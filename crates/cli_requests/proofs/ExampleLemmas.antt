@@ -20,7 +20,7 @@ use Rattle.cli_requests.specs.Examples.{AreExamples, AreFound, AreReadAs, AreVal
 use Rattle.cli_requests.specs.Numbers.{is_number, is_number_if_any}
 use Rattle.cli_requests.specs.Operands.{names_file, names_table}
 use Rattle.cli_requests.specs.Right.{AreRowsTakable, IsTakable, NamesChoice}
-use Rattle.cli_requests.specs.StoreWords.{first_word, makes_word}
+use Rattle.cli_requests.specs.StoreWords.{first_word}
 use Rattle.cli_requests.proofs.AppLemmas.{query_top}
 use Rattle.cli_requests.proofs.OperandLemmas.{at, level_with, words_faultless, words_held, words_read}
 use Rattle.cli_requests.proofs.RightLemmas.{name_fault, number_accepted, words_free}
@@ -28,10 +28,11 @@ use Rattle.cli_requests.proofs.RightLemmas.{name_fault, number_accepted, words_f
 -- ---- what each command asks for
 
 module _ (first flag : Text → Option Text) where
-  format_takable : is_number (unwrap_or (first (codes "SECTORS")) []) ≡ true → is_number_if_any (first (codes "format-version")) ≡ true
+  format_takable : is_number_if_any (first (codes "SECTORS")) ≡ true → is_number_if_any (first (codes "format-version")) ≡ true
       → IsTakable (codes "format") first flag
-  format_takable sectors version = record {
-    sectors = λ e. sectors;
+  format_takable room version = record {
+    sectors = λ e. absurd (true≢false (sym e));
+    room = λ e. room;
     version = λ e. version;
     like = λ e. absurd (true≢false (sym e));
     complete = λ e. absurd (true≢false (sym e));
@@ -45,13 +46,14 @@ module _ (first flag : Text → Option Text) where
   }
 
   -- a command of which nothing that is found is refused
-  plain_takable : (word : Text) → makes_word word ≡ false → bytes_eq (codes "format") word ≡ false
+  plain_takable : (word : Text) → bytes_eq (codes "copy") word ≡ false → bytes_eq (codes "format") word ≡ false
       → (bytes_eq (codes "create") word ≡ true → (first (codes "like") ≡ None) ⊎ (first (codes "FIELD") ≡ None))
       → (bytes_eq (codes "append") word ≡ true
       → (bytes_eq (unwrap_or (first (codes "as")) []) (codes "stream") ≡ true) ⊎ (flag (codes "complete") ≡ Some (codes "false")))
       → bytes_eq (codes "query") word ≡ false → bytes_eq (codes "replay") word ≡ false → IsTakable word first flag
-  plain_takable word makes format like complete query replay = record {
-    sectors = λ e. absurd (true≢false (sym e ∙ makes));
+  plain_takable word copy format like complete query replay = record {
+    sectors = λ e. absurd (true≢false (sym e ∙ copy));
+    room = λ e. absurd (true≢false (sym e ∙ format));
     version = λ e. absurd (true≢false (sym e ∙ format));
     like = like;
     complete = complete;
@@ -65,35 +67,29 @@ module _ (first flag : Text → Option Text) where
   }
 
   info_takable : IsTakable (codes "info") first flag
-  unfolding makes_word
   info_takable = plain_takable (codes "info") refl refl (λ e. absurd (true≢false (sym e))) (λ e. absurd (true≢false (sym e))) refl refl
 
   apply_takable : IsTakable (codes "apply") first flag
-  unfolding makes_word
   apply_takable = plain_takable (codes "apply") refl refl (λ e. absurd (true≢false (sym e))) (λ e. absurd (true≢false (sym e))) refl refl
 
   create_takable : (first (codes "like") ≡ None) ⊎ (first (codes "FIELD") ≡ None) → IsTakable (codes "create") first flag
-  unfolding makes_word
   create_takable like = plain_takable (codes "create") refl refl (λ e. like) (λ e. absurd (true≢false (sym e))) refl refl
 
   schema_takable : IsTakable (codes "schema") first flag
-  unfolding makes_word
   schema_takable = plain_takable (codes "schema") refl refl (λ e. absurd (true≢false (sym e))) (λ e. absurd (true≢false (sym e))) refl refl
 
   import_takable : IsTakable (codes "import") first flag
-  unfolding makes_word
   import_takable = plain_takable (codes "import") refl refl (λ e. absurd (true≢false (sym e))) (λ e. absurd (true≢false (sym e))) refl refl
 
   append_takable : (bytes_eq (unwrap_or (first (codes "as")) []) (codes "stream") ≡ true) ⊎ (flag (codes "complete") ≡ Some (codes "false"))
       → IsTakable (codes "append") first flag
-  unfolding makes_word
   append_takable complete = plain_takable (codes "append") refl refl (λ e. absurd (true≢false (sym e))) (λ e. complete) refl refl
 
   query_takable : is_number_if_any (first (codes "limit")) ≡ true → (first (codes "save") ≡ None) ⊎ (flag (codes "objects") ≡ Some (codes "false"))
       → IsTakable (codes "query") first flag
-  unfolding makes_word
   query_takable limit printed = record {
     sectors = λ e. absurd (true≢false (sym e));
+    room = λ e. absurd (true≢false (sym e));
     version = λ e. absurd (true≢false (sym e));
     like = λ e. absurd (true≢false (sym e));
     complete = λ e. absurd (true≢false (sym e));
@@ -109,9 +105,9 @@ module _ (first flag : Text → Option Text) where
   replay_takable : is_number_if_any (first (codes "sectors")) ≡ true → is_number_if_any (first (codes "fail")) ≡ true
       → is_number_if_any (first (codes "stop")) ≡ true → NamesChoice (unwrap_or (first (codes "choice")) [])
       → is_number_if_any (first (codes "format-version")) ≡ true → IsTakable (codes "replay") first flag
-  unfolding makes_word
   replay_takable size fail stop choice played = record {
     sectors = λ e. absurd (true≢false (sym e));
+    room = λ e. absurd (true≢false (sym e));
     version = λ e. absurd (true≢false (sym e));
     like = λ e. absurd (true≢false (sym e));
     complete = λ e. absurd (true≢false (sym e));
@@ -152,32 +148,37 @@ module _ (rest : List Text) (values : List Valued) where
 
 format_example : AreReadAs (called (codes "format" ∷ codes "store" ∷ codes "4096" ∷ codes "--format-version" ∷ codes "1" ∷ []))
     ((codes "STORE", codes "store" ∷ []) ∷ (codes "SECTORS", codes "4096" ∷ []) ∷ (codes "format-version", codes "1" ∷ []) ∷ [])
-unfolding names_file names_table other_parameters parameters_of first_word makes_word is_number walked clap_on_literals
+unfolding names_file names_table other_parameters parameters_of first_word is_number walked clap_on_literals
 format_example = read_as _ _ (format_app (codes "format")) (λ command own. sym own) refl (format_takable _ _ refl refl) (refl, (refl, (refl, tt)))
+
+device_example : AreReadAs (called (codes "format" ∷ codes "device" ∷ codes "--over" ∷ []))
+    ((codes "STORE", codes "device" ∷ []) ∷ (codes "SECTORS", []) ∷ (codes "over", codes "true" ∷ []) ∷ [])
+unfolding names_file names_table other_parameters parameters_of first_word is_number walked clap_on_literals
+device_example = read_as _ _ (format_app (codes "format")) (λ command own. sym own) refl (format_takable _ _ refl refl) (refl, (refl, (refl, tt)))
 
 info_example : AreReadAs (called (codes "info" ∷ codes "--json" ∷ codes "store" ∷ []))
     ((codes "STORE", codes "store" ∷ []) ∷ (codes "json", codes "true" ∷ []) ∷ [])
-unfolding names_file names_table other_parameters parameters_of first_word makes_word is_number walked clap_on_literals
+unfolding names_file names_table other_parameters parameters_of first_word is_number walked clap_on_literals
 info_example = read_as _ _ (info_app (codes "info")) (λ command own. sym own) refl (info_takable _ _) (refl, (refl, tt))
 
 apply_example : AreReadAs (called (codes "apply" ∷ codes "store" ∷ codes "-" ∷ codes "--wait" ∷ []))
     ((codes "STORE", codes "store" ∷ []) ∷ (codes "SCRIPT", codes "-" ∷ []) ∷ (codes "wait", codes "true" ∷ []) ∷ [])
-unfolding names_file names_table other_parameters parameters_of first_word makes_word is_number walked clap_on_literals
+unfolding names_file names_table other_parameters parameters_of first_word is_number walked clap_on_literals
 apply_example = read_as _ _ (apply_app (codes "apply")) (λ command own. sym own) refl (apply_takable _ _) (refl, (refl, (refl, tt)))
 
 like_example : AreReadAs (called (codes "create" ∷ codes "store" ∷ codes "copy" ∷ codes "--like" ∷ codes "readings" ∷ []))
     ((codes "STORE", codes "store" ∷ []) ∷ (codes "NAME", codes "copy" ∷ []) ∷ (codes "like", codes "readings" ∷ []) ∷ [])
-unfolding names_file names_table other_parameters parameters_of first_word makes_word is_number walked clap_on_literals
+unfolding names_file names_table other_parameters parameters_of first_word is_number walked clap_on_literals
 like_example = read_as _ _ (create_app (codes "create")) (λ command own. sym own) refl (create_takable _ _ (inr refl)) (refl, (refl, (refl, tt)))
 
 import_example : AreReadAs (called (codes "import" ∷ codes "store" ∷ codes "--new" ∷ codes "readings" ∷ []))
     ((codes "STORE", codes "store" ∷ []) ∷ (codes "NAME", codes "readings" ∷ []) ∷ (codes "new", codes "true" ∷ []) ∷ (codes "complete", codes "false" ∷ []) ∷ [])
-unfolding names_file names_table other_parameters parameters_of first_word makes_word is_number walked clap_on_literals
+unfolding names_file names_table other_parameters parameters_of first_word is_number walked clap_on_literals
 import_example = read_as _ _ (import_app (codes "import")) (λ command own. sym own) refl (import_takable _ _) (refl, (refl, (refl, (refl, tt))))
 
 described_example : AreReadAs (called (codes "schema" ∷ codes "--fields" ∷ codes "store" ∷ codes "readings" ∷ []))
     ((codes "STORE", codes "store" ∷ []) ∷ (codes "NAME", codes "readings" ∷ []) ∷ (codes "fields", codes "true" ∷ []) ∷ [])
-unfolding names_file names_table other_parameters parameters_of first_word makes_word is_number walked clap_on_literals
+unfolding names_file names_table other_parameters parameters_of first_word is_number walked clap_on_literals
 described_example = read_as _ _ (schema_app (codes "schema")) (λ command own. sym own) refl (schema_takable _ _) (refl, (refl, (refl, tt)))
 
 -- of `append` any command that knows the forms
@@ -205,7 +206,7 @@ append_faultless forms dates known dated =
 
 append_example : AreReadAs (called (codes "append" ∷ codes "store" ∷ codes "readings" ∷ codes "--as" ∷ codes "csv" ∷ codes "--null=NA" ∷ []))
     ((codes "STORE", codes "store" ∷ []) ∷ (codes "NAME", codes "readings" ∷ []) ∷ (codes "as", codes "csv" ∷ []) ∷ (codes "null", codes "NA" ∷ []) ∷ [])
-unfolding names_file names_table other_parameters parameters_of first_word makes_word is_number walked clap_on_literals
+unfolding names_file names_table other_parameters parameters_of first_word is_number walked clap_on_literals
 append_example =
     let only : (command : App) → IsOwnApp (codes "append") command → AreTakenAs command = λ command own.
     subst AreTakenAs (sym own.4) (append_faultless own.0 own.2 own.1 own.3, append_takable _ _ (inr refl), (refl, (refl, (refl, (refl, tt))))) in
@@ -215,25 +216,25 @@ printed_example : AreReadAs
     (called (codes "query" ∷ codes "store" ∷ codes "readings" ∷ codes "value >= 7" ∷ codes "--columns" ∷ codes "id,value" ∷ codes "--limit" ∷ codes "10" ∷ []))
     ((codes "STORE", codes "store" ∷ []) ∷ (codes "NAME", codes "readings" ∷ []) ∷ (codes "CONDITION", codes "value >= 7" ∷ [])
     ∷ (codes "columns", codes "id,value" ∷ []) ∷ (codes "limit", codes "10" ∷ []) ∷ (codes "objects", codes "false" ∷ []) ∷ [])
-unfolding names_file names_table other_parameters parameters_of first_word makes_word is_number walked clap_on_literals
+unfolding names_file names_table other_parameters parameters_of first_word is_number walked clap_on_literals
 printed_example = read_query _ _ (λ dates known. (refl, query_takable _ _ refl (inl refl), (refl, (refl, (refl, (refl, (refl, (refl, tt))))))))
 
 objects_example : AreReadAs
     (called (codes "query" ∷ codes "--objects" ∷ codes "store" ∷ codes "readings" ∷ codes "a = 1" ∷ codes "--limit=10" ∷ codes "b = 2" ∷ []))
     ((codes "STORE", codes "store" ∷ []) ∷ (codes "NAME", codes "readings" ∷ []) ∷ (codes "CONDITION", codes "a = 1" ∷ codes "b = 2" ∷ [])
     ∷ (codes "limit", codes "10" ∷ []) ∷ (codes "objects", codes "true" ∷ []) ∷ [])
-unfolding names_file names_table other_parameters parameters_of first_word makes_word is_number walked clap_on_literals
+unfolding names_file names_table other_parameters parameters_of first_word is_number walked clap_on_literals
 objects_example = read_query _ _ (λ dates known. (refl, query_takable _ _ refl (inl refl), (refl, (refl, (refl, (refl, (refl, tt)))))))
 
 saved_example : AreReadAs (called (codes "query" ∷ codes "--save=chosen" ∷ codes "store" ∷ codes "readings" ∷ []))
     ((codes "STORE", codes "store" ∷ []) ∷ (codes "NAME", codes "readings" ∷ []) ∷ (codes "save", codes "chosen" ∷ []) ∷ [])
-unfolding names_file names_table other_parameters parameters_of first_word makes_word is_number walked clap_on_literals
+unfolding names_file names_table other_parameters parameters_of first_word is_number walked clap_on_literals
 saved_example = read_query _ _ (λ dates known. (refl, query_takable _ _ refl (inr refl), (refl, (refl, (refl, tt)))))
 
 replay_example : AreReadAs
     (called (codes "replay" ∷ codes "script" ∷ codes "--sectors" ∷ codes "16" ∷ codes "--stop" ∷ codes "8" ∷ codes "--choice" ∷ codes "new" ∷ []))
     ((codes "SCRIPT", codes "script" ∷ []) ∷ (codes "sectors", codes "16" ∷ []) ∷ (codes "stop", codes "8" ∷ []) ∷ (codes "choice", codes "new" ∷ []) ∷ [])
-unfolding names_file names_table other_parameters parameters_of first_word makes_word is_number walked clap_on_literals
+unfolding names_file names_table other_parameters parameters_of first_word is_number walked clap_on_literals
 replay_example = read_as _ _ (replay_app (codes "replay")) (λ command own. sym own) refl (replay_takable _ _ refl refl refl (inr (inl refl)) refl) (refl, (refl, (refl, (refl, tt))))
 
 -- ---- whatever the values are
@@ -259,35 +260,67 @@ version_number version (inl one) = subst (λ (v : Text). is_number v ≡ true) (
 version_number version (inr two) = subst (λ (v : Text). is_number v ≡ true) (sym two) refl
 
 format_values : (version file number : Text) → IsVersion version → is_number number ≡ true → AreReadAs (called (format_words version file number))
-    ((codes "STORE", file ∷ []) ∷ (codes "SECTORS", number ∷ []) ∷ (codes "format-version", version ∷ []) ∷ [])
-unfolding names_file names_table other_parameters parameters_of first_word makes_word is_number walked clap_on_literals
+    ((codes "STORE", file ∷ []) ∷ (codes "SECTORS", number ∷ []) ∷ (codes "format-version", version ∷ []) ∷ (codes "over", codes "false" ∷ []) ∷ [])
+unfolding names_file names_table other_parameters parameters_of first_word is_number walked clap_on_literals
 format_values version file number known is =
     read_as _ _ (format_app (codes "format")) (λ command own. sym own) (format_number version file number known is)
-    (format_takable _ _ is (version_number version known)) (refl, (refl, (refl, tt)))
+    (format_takable _ _ is (version_number version known)) (refl, (refl, (refl, (refl, tt))))
+
+-- over what is on a block device
+abbrev over_words : (version : Text) → List Text → List Text
+over_words version operands = codes "format" ∷ codes "--over" ∷ (codes "--format-version=" ++ version) ∷ codes "--" ∷ operands
+
+over_number : (version file number : Text) → IsVersion version → is_number number ≡ true → fault_of (format_app (codes "format")) (over_words version (file ∷ number ∷ [])) ≡ []
+unfolding walked clap_on_literals
+over_number version file number (inl one) is =
+    subst (λ (v : Text). fault_of (format_app (codes "format")) (over_words v (file ∷ number ∷ [])) ≡ []) (sym one)
+    (ap (λ (ok : Bool). past (past (number_kinds ok))) (number_accepted number is))
+over_number version file number (inr two) is =
+    subst (λ (v : Text). fault_of (format_app (codes "format")) (over_words v (file ∷ number ∷ [])) ≡ []) (sym two)
+    (ap (λ (ok : Bool). past (past (number_kinds ok))) (number_accepted number is))
+
+over_values : (version file number : Text) → IsVersion version → is_number number ≡ true → AreReadAs (called (over_words version (file ∷ number ∷ [])))
+    ((codes "STORE", file ∷ []) ∷ (codes "SECTORS", number ∷ []) ∷ (codes "format-version", version ∷ []) ∷ (codes "over", codes "true" ∷ []) ∷ [])
+unfolding names_file names_table other_parameters parameters_of first_word is_number walked clap_on_literals
+over_values version file number known is =
+    read_as _ _ (format_app (codes "format")) (λ command own. sym own) (over_number version file number known is)
+    (format_takable _ _ is (version_number version known)) (refl, (refl, (refl, (refl, tt))))
+
+whole_faultless : (version file : Text) → IsVersion version → fault_of (format_app (codes "format")) (over_words version (file ∷ [])) ≡ []
+unfolding walked clap_on_literals
+whole_faultless version file (inl one) = subst (λ (v : Text). fault_of (format_app (codes "format")) (over_words v (file ∷ [])) ≡ []) (sym one) refl
+whole_faultless version file (inr two) = subst (λ (v : Text). fault_of (format_app (codes "format")) (over_words v (file ∷ [])) ≡ []) (sym two) refl
+
+whole_values : (version file : Text) → IsVersion version → AreReadAs (called (over_words version (file ∷ [])))
+    ((codes "STORE", file ∷ []) ∷ (codes "SECTORS", []) ∷ (codes "format-version", version ∷ []) ∷ (codes "over", codes "true" ∷ []) ∷ [])
+unfolding names_file names_table other_parameters parameters_of first_word is_number walked clap_on_literals
+whole_values version file known =
+    read_as _ _ (format_app (codes "format")) (λ command own. sym own) (whole_faultless version file known)
+    (format_takable _ _ refl (version_number version known)) (refl, (refl, (refl, (refl, tt))))
 
 info_values : (file : Text) → AreReadAs (called (codes "info" ∷ codes "--json" ∷ codes "--" ∷ file ∷ []))
     ((codes "STORE", file ∷ []) ∷ (codes "json", codes "true" ∷ []) ∷ [])
-unfolding names_file names_table other_parameters parameters_of first_word makes_word is_number walked clap_on_literals
+unfolding names_file names_table other_parameters parameters_of first_word is_number walked clap_on_literals
 info_values file = read_as _ _ (info_app (codes "info")) (λ command own. sym own) refl (info_takable _ _) (refl, (refl, tt))
 
 apply_values : (file script : Text) → AreReadAs (called (codes "apply" ∷ codes "--wait" ∷ codes "--" ∷ file ∷ script ∷ []))
     ((codes "STORE", file ∷ []) ∷ (codes "SCRIPT", script ∷ []) ∷ (codes "wait", codes "true" ∷ []) ∷ [])
-unfolding names_file names_table other_parameters parameters_of first_word makes_word is_number walked clap_on_literals
+unfolding names_file names_table other_parameters parameters_of first_word is_number walked clap_on_literals
 apply_values file script = read_as _ _ (apply_app (codes "apply")) (λ command own. sym own) refl (apply_takable _ _) (refl, (refl, (refl, tt)))
 
 like_values : (table file name : Text) → AreReadAs (called (codes "create" ∷ (codes "--like=" ++ table) ∷ codes "--" ∷ file ∷ name ∷ []))
     ((codes "STORE", file ∷ []) ∷ (codes "NAME", name ∷ []) ∷ (codes "like", table ∷ []) ∷ [])
-unfolding names_file names_table other_parameters parameters_of first_word makes_word is_number walked clap_on_literals
+unfolding names_file names_table other_parameters parameters_of first_word is_number walked clap_on_literals
 like_values table file name = read_as _ _ (create_app (codes "create")) (λ command own. sym own) refl (create_takable _ _ (inr refl)) (refl, (refl, (refl, tt)))
 
 described_values : (file name : Text) → AreReadAs (called (codes "schema" ∷ codes "--fields" ∷ codes "--" ∷ file ∷ name ∷ []))
     ((codes "STORE", file ∷ []) ∷ (codes "NAME", name ∷ []) ∷ (codes "fields", codes "true" ∷ []) ∷ [])
-unfolding names_file names_table other_parameters parameters_of first_word makes_word is_number walked clap_on_literals
+unfolding names_file names_table other_parameters parameters_of first_word is_number walked clap_on_literals
 described_values file name = read_as _ _ (schema_app (codes "schema")) (λ command own. sym own) refl (schema_takable _ _) (refl, (refl, (refl, tt)))
 
 import_values : (file name : Text) → AreReadAs (called (codes "import" ∷ codes "--new" ∷ codes "--complete" ∷ codes "--" ∷ file ∷ name ∷ []))
     ((codes "STORE", file ∷ []) ∷ (codes "NAME", name ∷ []) ∷ (codes "new", codes "true" ∷ []) ∷ (codes "complete", codes "true" ∷ []) ∷ [])
-unfolding names_file names_table other_parameters parameters_of first_word makes_word is_number walked clap_on_literals
+unfolding names_file names_table other_parameters parameters_of first_word is_number walked clap_on_literals
 import_values file name = read_as _ _ (import_app (codes "import")) (λ command own. sym own) refl (import_takable _ _) (refl, (refl, (refl, (refl, tt))))
 
 module _ (forms dates : ValueParser) (known : AreForms forms) (dated : AreDateForms dates) where
@@ -307,7 +340,7 @@ module _ (forms dates : ValueParser) (known : AreForms forms) (dated : AreDateFo
 append_values : (form null file name : Text) → (form ≡ codes "csv") ⊎ (form ≡ codes "jsonl")
     → AreReadAs (called (codes "append" ∷ (codes "--as=" ++ form) ∷ (codes "--null=" ++ null) ∷ codes "--" ∷ file ∷ name ∷ []))
     ((codes "STORE", file ∷ []) ∷ (codes "NAME", name ∷ []) ∷ (codes "as", form ∷ []) ∷ (codes "null", null ∷ []) ∷ [])
-unfolding names_file names_table other_parameters parameters_of first_word makes_word is_number walked clap_on_literals
+unfolding names_file names_table other_parameters parameters_of first_word is_number walked clap_on_literals
 append_values form null file name is = record {
   taken = λ command own. subst (λ (a : App). (fault_of a (codes "append" ∷ (codes "--as=" ++ form) ∷ (codes "--null=" ++ null) ∷ codes "--" ∷ file ∷ name ∷ []) ≡ [])
       × AreRowsTakable (codes "append") (matches_of a (codes "append" ∷ (codes "--as=" ++ form) ∷ (codes "--null=" ++ null) ∷ codes "--" ∷ file ∷ name ∷ [])))
@@ -326,7 +359,7 @@ module _ (forms dates : ValueParser) (known : AreForms forms) (dated : AreDateFo
 
 append_whole_values : (file name : Text) → AreReadAs (called (codes "append" ∷ codes "--complete" ∷ codes "--" ∷ file ∷ name ∷ []))
     ((codes "STORE", file ∷ []) ∷ (codes "NAME", name ∷ []) ∷ (codes "as", codes "stream" ∷ []) ∷ (codes "complete", codes "true" ∷ []) ∷ [])
-unfolding names_file names_table other_parameters parameters_of first_word makes_word is_number walked clap_on_literals
+unfolding names_file names_table other_parameters parameters_of first_word is_number walked clap_on_literals
 append_whole_values file name = record {
   taken = λ command own. subst (λ (a : App). (fault_of a (codes "append" ∷ codes "--complete" ∷ codes "--" ∷ file ∷ name ∷ []) ≡ [])
       × AreRowsTakable (codes "append") (matches_of a (codes "append" ∷ codes "--complete" ∷ codes "--" ∷ file ∷ name ∷ [])))
@@ -586,7 +619,7 @@ module _ (sectors fail stop choice file : Text) where
       → AreReadAs (called (replay_words version))
       ((codes "SCRIPT", file ∷ []) ∷ (codes "sectors", sectors ∷ []) ∷ (codes "fail", fail ∷ []) ∷ (codes "stop", stop ∷ []) ∷ (codes "choice", choice ∷ [])
       ∷ (codes "format-version", version ∷ []) ∷ [])
-  unfolding names_file names_table other_parameters parameters_of first_word makes_word is_number walked clap_on_literals
+  unfolding names_file names_table other_parameters parameters_of first_word is_number walked clap_on_literals
   replay_values version s f k named known =
       read_as _ _ (replay_app (codes "replay")) (λ command own. sym own) (replay_faultless version s f k known)
       (replay_takable _ _ s f k named (version_number version known)) (refl, (refl, (refl, (refl, (refl, (refl, tt))))))
@@ -594,6 +627,7 @@ module _ (sectors fail stop choice file : Text) where
 pub examples : AreExamples
 examples = record {
   format = format_example;
+  device = device_example;
   info = info_example;
   like = like_example;
   described = described_example;
@@ -609,6 +643,8 @@ examples = record {
 pub values_read : AreValuesRead
 values_read = record {
   format = format_values;
+  over = over_values;
+  whole = whole_values;
   info = info_values;
   like = like_values;
   described = described_values;

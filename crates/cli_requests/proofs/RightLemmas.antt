@@ -33,7 +33,7 @@ use Rattle.cli_requests.specs.Apps.{HasFound, IsOfMemory, value_of}
 use Rattle.cli_requests.specs.Numbers.{is_number, is_number_if_any}
 use Rattle.cli_requests.specs.Operands.{is_option, operands, names_file, names_table}
 use Rattle.cli_requests.specs.Right.{are_file_and_number, are_files_and_number, takes, are_right, AreRowsTakable, AreTaken, NamesChoice, IsFoundTakable, IsReadFrom}
-use Rattle.cli_requests.specs.StoreWords.{is_store_word, makes_word, first_word}
+use Rattle.cli_requests.specs.StoreWords.{is_store_word, first_word}
 use Rattle.cli_requests.specs.declared.command_parameters.Parameters.{Parameters}
 use Rattle.cli_requests.specs.declared.command_parameters.Parameters.TheVariants as parameters
 use Rattle.cli_requests.specs.declared.store_command_line.Mistake.{Mistake}
@@ -42,7 +42,7 @@ use Rattle.cli_requests.proofs.NumberLemmas.{signed_is_none}
 use Rattle.cli_requests.proofs.OperandLemmas.{operands_fault, reads_operands, level_with, words_read, words_faultless}
 use Rattle.cli_requests.proofs.AppLemmas.{Parsed, file_app, file_top, info_top, apply_top, table_top, schema_top, import_top, rename_top, format_top, copy_top, append_top, create_top, query_top, file_and_table, field_met, condition_met}
 use Rattle.cli_requests.proofs.AppLemmas.{file_plain, info_plain, apply_plain, table_plain, schema_plain, import_plain, rename_plain, format_plain, copy_plain, append_plain, create_plain, query_plain, found_first, found_one}
-use Rattle.cli_requests.proofs.AppLemmas.{names_sectors, asks_newest, names_new_store, asks_own_fields, asks_no_end, asks_all}
+use Rattle.cli_requests.proofs.AppLemmas.{AreFileAndNumber, names_sectors, asks_newest, names_new_store, asks_own_fields, asks_no_end, asks_all}
 
 -- ---- numbers
 
@@ -127,7 +127,7 @@ number_fault accepted = or_else (or_else (if accepted then [] else refused_kind 
 full_format : (name : Text) (ops : List Text) → are_file_and_number ops ≡ true → operands_fault (format_top name) ops ≡ []
 unfolding clap_on_literals
 full_format name [] e = absurd (true≢false (sym e))
-full_format name (a ∷ []) e = absurd (true≢false (sym e))
+full_format name (a ∷ []) e = refl
 full_format name (a ∷ b ∷ []) e = ap number_fault (number_accepted b e)
 full_format name (a ∷ b ∷ c ∷ rest) e = absurd (true≢false (sym e))
 
@@ -278,24 +278,28 @@ no_replay word ops right e = true≢false (sym (subst (λ (b : Parameters). take
 no_number : (o : Option Text) → o ≡ None → is_number_if_any o ≡ true
 no_number o none = rw none refl
 
+number_if_any : (ops : List Text) (file : Text) (o : Option Text) → AreFileAndNumber ops file o → are_file_and_number ops ≡ true → is_number_if_any o ≡ true
+number_if_any ops file None are right = refl
+number_if_any ops file (Some number) are right = subst (λ (words : List Text). are_file_and_number words ≡ true) are right
+
 module _ (word : Text) (words : List Text) (m : ArgMatches) (a : App) (own : IsOwnApp word a) (parsed : Parsed a (word ∷ words) m) (ops : List Text)
     (is : operands words ≡ Some ops) (right : takes (parameters_of word) ops ≡ true) where
-  sectors_right : (format copy : Bool) → bytes_eq (codes "format") word ≡ format → bytes_eq (codes "copy") word ≡ copy → makes_word word ≡ true
-      → is_number (value_of (found_of m) (codes "SECTORS")) ≡ true
-  unfolding makes_word
-  sectors_right true copy f c e =
-      let p = is_format word f in
-      subst (λ (words : List Text). are_file_and_number words ≡ true) (names_sectors word words m a own parsed p ops is)
-      (subst (λ (b : Parameters). takes b ops ≡ true) p right)
-  sectors_right false true f c e =
+  sectors_right : bytes_eq (codes "copy") word ≡ true → is_number (value_of (found_of m) (codes "SECTORS")) ≡ true
+  sectors_right c =
       let p = is_copy word c in
       subst (λ (words : List Text). are_files_and_number words ≡ true) (names_new_store word words m a own parsed p ops is)
       (subst (λ (b : Parameters). takes b ops ≡ true) p right)
-  sectors_right false false f c e = let none : false ≡ true = rw (f, c) at e in absurd (true≢false (sym none))
+
+  room_right : bytes_eq (codes "format") word ≡ true → is_number_if_any (first_value (found_of m) (codes "SECTORS")) ≡ true
+  room_right f =
+      let p = is_format word f in
+      number_if_any ops _ (first_value (found_of m) (codes "SECTORS")) (names_sectors word words m a own parsed p ops is)
+      (subst (λ (b : Parameters). takes b ops ≡ true) p right)
 
   right_takable : IsFoundTakable word (found_of m)
   right_takable = record {
-    sectors = sectors_right (bytes_eq (codes "format") word) (bytes_eq (codes "copy") word) refl refl;
+    sectors = sectors_right;
+    room = room_right;
     version = λ e. no_number _ (asks_newest word words m a own parsed (is_format word e) ops is);
     like = λ e. inl (asks_own_fields word words m a own parsed (is_create word e) ops is);
     complete = λ e. inr (asks_no_end word words m a own parsed (is_append word e) ops is);
@@ -405,6 +409,7 @@ found_takable word m rows same is =
     λ id e. subst (λ (o : Option Text). is_number_if_any o ≡ true) (first id) e in
     record {
       sectors = λ e. subst (λ (o : Option Text). is_number (unwrap_or o []) ≡ true) (first (codes "SECTORS")) (is.sectors e);
+      room = λ e. number (codes "SECTORS") (is.room e);
       version = λ e. number (codes "format-version") (is.version e);
       like = λ e. subst₂ (λ (o p : Option Text). (o ≡ None) ⊎ (p ≡ None)) (first (codes "like")) (first (codes "FIELD")) (is.like e);
       complete =
@@ -462,15 +467,13 @@ no_error (Err e) P ok = absurd (true≢false (sym ok))
 
 module _ {X : Type 0} (word : Text) (found : Found) (r : Result X Mistake) where
   pub takable_format : word ≡ codes "format"
-      → (is_number (value_of found (codes "SECTORS")) ≡ true → is_number_if_any (first_value found (codes "format-version")) ≡ true → IsOk r)
+      → (is_number_if_any (first_value found (codes "SECTORS")) ≡ true → is_number_if_any (first_value found (codes "format-version")) ≡ true → IsOk r)
       → IsFoundTakable word found → IfErr r IsOfMemory
-  unfolding makes_word
   takable_format is taken all =
       let right : IsFoundTakable (codes "format") found = subst (λ (w : Text). IsFoundTakable w found) is all in
-      no_error r IsOfMemory (taken (right.sectors refl) (right.version refl))
+      no_error r IsOfMemory (taken (right.room refl) (right.version refl))
 
   pub takable_copy : word ≡ codes "copy" → (is_number (value_of found (codes "SECTORS")) ≡ true → IsOk r) → IsFoundTakable word found → IfErr r IsOfMemory
-  unfolding makes_word
   takable_copy is taken all =
       let right : IsFoundTakable (codes "copy") found = subst (λ (w : Text). IsFoundTakable w found) is all in
       no_error r IsOfMemory (taken (right.sectors refl))

@@ -1,7 +1,6 @@
 -- The commands as `clap` parses them, and the values that it finds.
-use Rattle.std.specs.Prelude.{◌≡◌, ◌≢◌, Bool, true, false, ◌||◌, List, [], ◌∷◌, codes, Some, None, option_map, if◌then◌else◌, unwrap_or}
+use Rattle.std.specs.Prelude.{◌≡◌, ◌≢◌, ◌⊎◌, Bool, true, false, ◌||◌, List, [], ◌∷◌, codes, Some, None, option_map, if◌then◌else◌, unwrap_or}
 use Rattle.std.specs.Str.{bytes_eq}
-use Rattle.std.specs.Str.Parse.{digits_value}
 use Rattle.clap.specs.Lexer.{usize_max}
 use Rattle.clap.specs.ValueTests.{accepts}
 use Rattle.clap.specs.Walk.{texts}
@@ -17,7 +16,7 @@ use Rattle.clap.specs.declared.error.kind.ErrorKind.TheVariants.{OutOfMemory}
 use Rattle.cli_requests.specs.declared.command_parameters.Parameters.{Parameters}
 use Rattle.cli_requests.specs.declared.command_parameters.Parameters.TheVariants as parameters
 use Rattle.cli_requests.specs.Choices.{IsChoice}
-use Rattle.cli_requests.specs.Numbers.{IsNumber, IsNumberOrZero, is_number_if_any}
+use Rattle.cli_requests.specs.Numbers.{IsNumber, IsNumberIfAny, IsNumberOrZero, is_number_if_any}
 use Rattle.cli_requests.specs.Operands.{names_file, names_table, version_named}
 use Rattle.cli_requests.specs.declared.store_command_line.Mistake.{Mistake}
 use Rattle.cli_requests.specs.declared.store_command_line.Mistake.TheVariants as mistakes
@@ -43,9 +42,12 @@ flag_rule id = record (new_rule id) { long = Some id; action = Some SetTrue }
 abbrev pub store_app : Text → App
 store_app name = with_rule (with_rule (new_app name) (required_rule (codes "STORE"))) (flag_rule (codes "wait"))
 
--- an unsigned number of 64 bits
+-- an unsigned number of 64 bits, which must be given, or may be left out
 abbrev pub sectors_rule : Rule
 sectors_rule = record (required_rule (codes "SECTORS")) { parser = Some (parsers.Unsigned 0 18446744073709551615) }
+
+abbrev pub sectors_if_any_rule : Rule
+sectors_if_any_rule = record (new_rule (codes "SECTORS")) { parser = Some (parsers.Unsigned 0 18446744073709551615) }
 
 -- a command that takes an option without a value
 abbrev pub info_app : Text → App
@@ -59,9 +61,9 @@ option_rule id = record (new_rule id) { long = Some id; value_names = 1 }
 abbrev pub version_rule : Rule
 version_rule = record (option_rule (codes "format-version")) { parser = Some (parsers.Unsigned 1 2) }
 
--- a command that takes a number of sectors and a version, and one that names a new file before the number
+-- a command that takes a number of sectors, a version, and whether a block device is overwritten; and one that names a new file before the number
 abbrev pub format_app : Text → App
-format_app name = with_rule (with_rule (store_app name) sectors_rule) version_rule
+format_app name = with_rule (with_rule (with_rule (store_app name) sectors_if_any_rule) version_rule) (flag_rule (codes "over"))
 
 abbrev pub new_file_app : Text → App
 new_file_app name = with_rule (store_app name) (required_rule (codes "NEW"))
@@ -216,8 +218,7 @@ HasDates found Numbers = value_of found (codes "dates") ≢ codes "iso"
 pub record HasQuery (found : Found) (query : QueryWords) : Type 0 where
   pub conditions : texts query.conditions.items ≡ values_of found (codes "CONDITION")
   pub columns : option_map (λ s. s.now) query.columns ≡ first_value found (codes "columns")
-  pub is_limit : is_number_if_any (first_value found (codes "limit")) ≡ true
-  pub limit : query.limit ≡ option_map (digits_value 10) (first_value found (codes "limit"))
+  pub limit : IsNumberIfAny (first_value found (codes "limit")) query.limit
   pub dates : HasDates found query.dates
 
 -- rows are objects if the option is given
@@ -285,6 +286,10 @@ abbrev pub HasFound : Found → StoreRequest → Type 0
 HasFound found (requests.Command path command) = (path.now ≡ value_of found (codes "STORE")) × HasNames found command
 HasFound found (requests.Format path sectors version) =
     (path.now ≡ value_of found (codes "STORE")) × IsNumber (value_of found (codes "SECTORS")) sectors × HasVersion found version
+    × HasFlag found (codes "over") false
+HasFound found (requests.FormatDevice path sectors over version) =
+    (path.now ≡ value_of found (codes "STORE")) × IsNumberIfAny (first_value found (codes "SECTORS")) sectors × HasVersion found version
+    × HasFlag found (codes "over") over × ((sectors ≡ None) ⊎ (over ≡ true))
 HasFound found (requests.Copy path new sectors) =
     (path.now ≡ value_of found (codes "STORE")) × (new.now ≡ value_of found (codes "NEW")) × IsNumber (value_of found (codes "SECTORS")) sectors
 HasFound found (requests.Salvage path name) = (path.now ≡ value_of found (codes "STORE")) × (name.now ≡ value_of found (codes "NAME"))

@@ -33,6 +33,7 @@ command_word commands.Upgrade = codes "upgrade"
 
 abbrev pub request_word : StoreRequest → Text
 request_word (requests.Format path sectors version) = codes "format"
+request_word (requests.FormatDevice path sectors over version) = codes "format"
 request_word (requests.Copy path new sectors) = codes "copy"
 request_word (requests.Salvage path name) = codes "salvage"
 request_word (requests.Replay words) = codes "replay"
@@ -47,9 +48,15 @@ is_saving _ = false
 unfoldable pub only_reads : StoreCommand → Bool
 only_reads command = reads_word (command_word command) && not (is_saving command)
 
+-- a request that only a block device meets
+abbrev pub is_for_device : StoreRequest → Bool
+is_for_device (requests.FormatDevice path sectors over version) = true
+is_for_device _ = false
+
 -- a request that makes a store or changes one
 abbrev pub changes : StoreRequest → Bool
 changes (requests.Format path sectors version) = true
+changes (requests.FormatDevice path sectors over version) = true
 changes (requests.Copy path new sectors) = true
 changes (requests.Salvage path name) = false
 changes (requests.Replay words) = false

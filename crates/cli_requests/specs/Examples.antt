@@ -28,6 +28,8 @@ called words = codes "arrowstore" ∷ words
 pub record AreExamples : Type 0 where
   pub format : AreReadAs (called (codes "format" ∷ codes "store" ∷ codes "4096" ∷ codes "--format-version" ∷ codes "1" ∷ []))
       ((codes "STORE", codes "store" ∷ []) ∷ (codes "SECTORS", codes "4096" ∷ []) ∷ (codes "format-version", codes "1" ∷ []) ∷ [])
+  pub device : AreReadAs (called (codes "format" ∷ codes "device" ∷ codes "--over" ∷ []))
+      ((codes "STORE", codes "device" ∷ []) ∷ (codes "SECTORS", []) ∷ (codes "over", codes "true" ∷ []) ∷ [])
   pub info : AreReadAs (called (codes "info" ∷ codes "--json" ∷ codes "store" ∷ []))
       ((codes "STORE", codes "store" ∷ []) ∷ (codes "json", codes "true" ∷ []) ∷ [])
   pub like : AreReadAs (called (codes "create" ∷ codes "store" ∷ codes "copy" ∷ codes "--like" ∷ codes "readings" ∷ []))
@@ -68,7 +70,13 @@ IsHow word = (word ≡ codes "number") ⊎ (word ≡ codes "iso")
 pub record AreValuesRead : Type 0 where
   pub format : (version file number : Text) → IsVersion version → is_number number ≡ true
       → AreReadAs (called (codes "format" ∷ (codes "--format-version=" ++ version) ∷ codes "--" ∷ file ∷ number ∷ []))
-      ((codes "STORE", file ∷ []) ∷ (codes "SECTORS", number ∷ []) ∷ (codes "format-version", version ∷ []) ∷ [])
+      ((codes "STORE", file ∷ []) ∷ (codes "SECTORS", number ∷ []) ∷ (codes "format-version", version ∷ []) ∷ (codes "over", codes "false" ∷ []) ∷ [])
+  pub over : (version file number : Text) → IsVersion version → is_number number ≡ true
+      → AreReadAs (called (codes "format" ∷ codes "--over" ∷ (codes "--format-version=" ++ version) ∷ codes "--" ∷ file ∷ number ∷ []))
+      ((codes "STORE", file ∷ []) ∷ (codes "SECTORS", number ∷ []) ∷ (codes "format-version", version ∷ []) ∷ (codes "over", codes "true" ∷ []) ∷ [])
+  pub whole : (version file : Text) → IsVersion version
+      → AreReadAs (called (codes "format" ∷ codes "--over" ∷ (codes "--format-version=" ++ version) ∷ codes "--" ∷ file ∷ []))
+      ((codes "STORE", file ∷ []) ∷ (codes "SECTORS", []) ∷ (codes "format-version", version ∷ []) ∷ (codes "over", codes "true" ∷ []) ∷ [])
   pub info : (file : Text) → AreReadAs (called (codes "info" ∷ codes "--json" ∷ codes "--" ∷ file ∷ []))
       ((codes "STORE", file ∷ []) ∷ (codes "json", codes "true" ∷ []) ∷ [])
   pub like : (table file name : Text) → AreReadAs (called (codes "create" ∷ (codes "--like=" ++ table) ∷ codes "--" ∷ file ∷ name ∷ []))

@@ -18,6 +18,10 @@ IsNumber word number = (is_number word ≡ true) × (digits_value 10 word ≡ nu
 abbrev pub is_number_if_any : Option Text → Bool
 is_number_if_any word = option_map_or is_number word true
 
+-- the word of an argument, if it is given, is this number, and without the word there is none
+abbrev pub IsNumberIfAny : Option Text → Option ℕ → Type 0
+IsNumberIfAny word number = (is_number_if_any word ≡ true) × (number ≡ option_map (digits_value 10) word)
+
 -- the word of an option is this number; without the word the number is 0
 abbrev pub IsNumberOrZero : Option Text → ℕ → Type 0
 IsNumberOrZero word number = (is_number_if_any word ≡ true) × (unwrap_or (option_map (digits_value 10) word) 0 ≡ number)

@@ -86,6 +86,8 @@ unfoldable pub IsNamedBy : StoreRequest → List Text → Type 0
 IsNamedBy (requests.Command path command) words = (words ≡ path.now ∷ names_in command) × IsWithoutOptions command
 IsNamedBy (requests.Format path sectors version) words =
     (number : Text) × (words ≡ path.now ∷ number ∷ []) × IsNumber number sectors × (version ≡ Two)
+-- the operands of a block device have no number, and without its option nothing is overwritten
+IsNamedBy (requests.FormatDevice path sectors over version) words = (words ≡ path.now ∷ []) × (sectors ≡ None) × (over ≡ false) × (version ≡ Two)
 IsNamedBy (requests.Copy path new sectors) words = (number : Text) × (words ≡ path.now ∷ new.now ∷ number ∷ []) × IsNumber number sectors
 IsNamedBy (requests.Salvage path name) words = words ≡ path.now ∷ name.now ∷ []
 IsNamedBy (requests.Apply path script) words = words ≡ path.now ∷ script.now ∷ []

@@ -7,13 +7,14 @@ use Rattle.clap.specs.declared.parser.matches.Found.{Found}
 use Rattle.cli_requests.specs.Apps.{HasFound, IsOwnApp, parameters_of}
 use Rattle.cli_requests.specs.Numbers.{is_number, is_number_if_any}
 use Rattle.cli_requests.specs.Operands.{operands}
-use Rattle.cli_requests.specs.StoreWords.{is_store_word, makes_word, first_word}
+use Rattle.cli_requests.specs.StoreWords.{is_store_word, first_word}
 use Rattle.cli_requests.specs.declared.command_parameters.Parameters.{Parameters}
 use Rattle.cli_requests.specs.declared.command_parameters.Parameters.TheVariants as parameters
 use Rattle.cli_requests.specs.declared.store_words.StoreRequest.{StoreRequest}
 
--- a file and a number of sectors; two files and a number of sectors
+-- a file, and a number of sectors or none; two files and a number of sectors
 abbrev pub are_file_and_number : List Text → Bool
+are_file_and_number (file ∷ []) = true
 are_file_and_number (file ∷ number ∷ []) = is_number number
 are_file_and_number _ = false
 
@@ -54,7 +55,8 @@ NamesChoice word = (word ≡ codes "old") ⊎ ((word ≡ codes "new") ⊎ ((is_n
 -- what is found for a command can be asked for: numbers have digits alone, fields are not given beside a table that has them, only a stream must have its
 -- end, saved rows are not asked for as objects, and the choice is valid
 pub record IsTakable (word : Text) (first : Text → Option Text) (flag : Text → Option Text) : Type 0 where
-  pub sectors : makes_word word ≡ true → is_number (unwrap_or (first (codes "SECTORS")) []) ≡ true
+  pub sectors : bytes_eq (codes "copy") word ≡ true → is_number (unwrap_or (first (codes "SECTORS")) []) ≡ true
+  pub room : bytes_eq (codes "format") word ≡ true → is_number_if_any (first (codes "SECTORS")) ≡ true
   pub version : bytes_eq (codes "format") word ≡ true → is_number_if_any (first (codes "format-version")) ≡ true
   pub like : bytes_eq (codes "create") word ≡ true → (first (codes "like") ≡ None) ⊎ (first (codes "FIELD") ≡ None)
   pub complete : bytes_eq (codes "append") word ≡ true

@@ -17,8 +17,8 @@ pub(crate) const COMMANDS: [CommandHelp; 18] = [
 
 The size is fixed, and every sector is written now, so that no later change lacks space
 on the disk: 4096 sectors are 2 MiB, and the maximum, 4194304, is 2 GiB. `copy` makes a
-larger store of one that is full. A block device with nothing on it gets a store, too,
-if it has exactly that number of sectors, as `blockdev --getsz DEVICE` prints it.",
+larger store of one that is full. A block device gets a store on all of its sectors, and
+needs no number. Something may be at its front only with --over.",
     },
     CommandHelp {
         name: "create",

@@ -2,7 +2,7 @@
 ghost use Rattle.std.specs.Prelude.{◌≡◌, false, codes, IfOk};
 ghost use Rattle.clap.specs.Words.{app_of, new_app, rule_of, with_rule};
 ghost use Rattle.clap.specs.declared.builder.value_parser.ValueParser.{ValueParser};
-ghost use Rattle.cli_requests.specs.Apps.{required_rule, flag_rule, sectors_rule, version_rule, repeated_rule, option_rule, form_rule, null_rule, dates_rule, query_dates_rule, limit_rule};
+ghost use Rattle.cli_requests.specs.Apps.{required_rule, flag_rule, sectors_rule, sectors_if_any_rule, version_rule, repeated_rule, option_rule, form_rule, null_rule, dates_rule, query_dates_rule, limit_rule};
 ghost use Rattle.cli_requests.specs.Apps.{store_app, info_app, format_app, new_file_app, copy_app, table_app, apply_app, import_app, rename_app, fields_app, schema_app, create_app, append_app, conditions_app, selection_app, query_app};
 ghost use Rattle.cli_requests.specs.Apps.{AreForms, AreDateForms, other_parameters, parameters_of, IsOwnApp};
 ghost use Rattle.cli_requests.specs.Operands.{names_file, names_table};
@@ -75,6 +75,17 @@ fn sectors<'a>(alloc: Global) -> Arg<'a>
         "The number of sectors of 512 bytes, 16 to 4194304",
     )
     .value_parser(ValueParser::unsigned(0, u64::MAX))
+}
+
+// A block device has a number of sectors of its own.
+fn sectors_if_any<'a>(alloc: Global) -> Arg<'a>
+    ensures { (rule_of result ≡ sectors_if_any_rule) × (result.global ≡ false) }
+{
+    Arg::new(alloc, "SECTORS")
+        .help(
+            "The number of sectors of 512 bytes, 16 to 4194304; a block device is taken whole, and may do without it",
+        )
+        .value_parser(ValueParser::unsigned(0, u64::MAX))
 }
 
 pub(crate) fn format_version<'a>(alloc: Global) -> Arg<'a>
@@ -286,13 +297,18 @@ fn with_new_name<'a>(alloc: Global, name: &'a str) -> Result<Command<'a>, AllocE
     with_table(alloc, name)?.arg(required(alloc, "NEW", "Its new name"))
 }
 
-// Makes a command that takes a number of sectors and a format version.
-fn with_sectors<'a>(alloc: Global, name: &'a str) -> Result<Command<'a>, AllocError>
+/// Makes a command that takes a number of sectors, a format version, and whether a block device is overwritten.
+pub(crate) fn with_sectors<'a>(alloc: Global, name: &'a str) -> Result<Command<'a>, AllocError>
     ensures { IfOk result (λ c. app_of c ≡ format_app name.now) }
 {
     with_file(alloc, name)?
-        .arg(sectors(alloc))?
-        .arg(format_version(alloc))
+        .arg(sectors_if_any(alloc))?
+        .arg(format_version(alloc))?
+        .arg(flag(
+            alloc,
+            "over",
+            "Makes the store over whatever is on a block device, even over a store",
+        ))
 }
 
 fn with_new_file<'a>(alloc: Global, name: &'a str) -> Result<Command<'a>, AllocError>

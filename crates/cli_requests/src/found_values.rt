@@ -1,11 +1,10 @@
 // Reads the values that `clap` has found for the arguments of a command.
-ghost use Rattle.std.specs.Prelude.{◌≡◌, ◌==◌, true, codes, option_map, IfOk, IfSome, IsOk, IsSome, if◌then◌else◌};
-ghost use Rattle.std.specs.Str.Parse.{digits_value};
+ghost use Rattle.std.specs.Prelude.{◌≡◌, ◌==◌, true, codes, IfOk, IfSome, IsOk, IsSome, if◌then◌else◌};
 ghost use Rattle.clap.specs.Walk.{texts};
 ghost use Rattle.clap.specs.Words.{first_value, found_of};
 ghost use Rattle.commit.specs.declared.sector.FormatVersion.TheVariants.{One, Two};
 ghost use Rattle.cli_requests.specs.Apps.{value_of, values_of, HasVersion};
-ghost use Rattle.cli_requests.specs.Numbers.{is_number, is_number_if_any, IsNumber, IsNumberOrZero};
+ghost use Rattle.cli_requests.specs.Numbers.{is_number, is_number_if_any, IsNumber, IsNumberIfAny, IsNumberOrZero};
 
 use crate::Mistake;
 use clap::ArgMatches;
@@ -78,12 +77,12 @@ pub(crate) fn number_in(words: &ArgMatches<'_>, id: &str) -> Result<u64, Mistake
     }
 }
 
-pub(crate) fn limit_of(words: &ArgMatches<'_>) -> Result<Option<u64>, Mistake>
-    ensures read { IfOk result (λ limit. (is_number_if_any (first_value (found_of words.now) (codes "limit")) ≡ true)
-        × (limit ≡ option_map (digits_value 10) (first_value (found_of words.now) (codes "limit")))) }
-    ensures taken { is_number_if_any (first_value (found_of words.now) (codes "limit")) ≡ true → IsOk result }
+/// Returns the number of an argument, if it is given.
+pub(crate) fn number_if_any(words: &ArgMatches<'_>, id: &str) -> Result<Option<u64>, Mistake>
+    ensures read { IfOk result (IsNumberIfAny (first_value (found_of words.now) id.now)) }
+    ensures taken { is_number_if_any (first_value (found_of words.now) id.now) ≡ true → IsOk result }
 {
-    match words.get_str("limit") {
+    match words.get_str(id) {
         Some(text) => Ok(Some(number(text)?)),
         None => Ok(None),
     }

@@ -4,7 +4,8 @@
 //! help, whatever the other words are. [`request_of`] parses the command of the first word. If only operands follow it, these are the files, names,
 //! fields, conditions and numbers of the request, in order (`specs/Operands.antt`); with options the request has what `clap` finds by its own
 //! definitions. Operands that a command takes are right, and so are words that `clap` accepts (`specs/Right.antt`); [`options_are_read`] says for
-//! which words with options this holds. [`refused_word`] returns the word that a refusal is about.
+//! which words with options this holds. [`no_block_device`] says what is wrong with a request for a block device where none is. [`refused_word`]
+//! returns the word that a refusal is about.
 //! [`help_of_command`] looks for the help of a command that follows `help` ([`ask_help_of_command`]); [`cli_commands`] returns all commands.
 //!
 //! ```
@@ -27,7 +28,7 @@ pub use found_values::number_of;
 pub use laws::options_are_read;
 pub use naming::refused_word;
 pub use replaying::ReplayWords;
-pub use store_command_line::{Mistake, help_of_command, request_of};
+pub use store_command_line::{Mistake, help_of_command, no_block_device, request_of};
 pub use store_words::{
     QueryWords, StoreCommand, StoreRequest, ask_for_help, ask_help_of_command, is_of_store,
     takes_input,

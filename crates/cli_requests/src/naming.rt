@@ -220,6 +220,7 @@ fn word_of<'a>(
     match (request, refusal) {
         (
             StoreRequest::Format { path, .. }
+            | StoreRequest::FormatDevice { path, .. }
             | StoreRequest::Salvage { path, .. }
             | StoreRequest::Apply { path, .. }
             | StoreRequest::Command { path, .. },

@@ -9,8 +9,10 @@ ghost use Rattle.cli_requests.specs.Operands.{Names};
 ghost use Rattle.cli_requests.specs.Right.{AreRightWords, IsFoundTakable, IsReadFrom};
 ghost use Rattle.cli_requests.specs.StoreWords.{is_store_word, has_own_request, is_of_store, first_word};
 
-use crate::command_parameters::{cli_commands, own_command, with_new_table, with_query, with_rows};
-use crate::found_values::{limit_of, sectors_of, version_in, word, words_of};
+use crate::command_parameters::{
+    cli_commands, own_command, with_new_table, with_query, with_rows, with_sectors,
+};
+use crate::found_values::{number_if_any, sectors_of, version_in, word, words_of};
 use crate::replaying::replay_request;
 use crate::store_words::is_help_word;
 use crate::{QueryWords, StoreCommand, StoreRequest};
@@ -161,20 +163,49 @@ fn words_from_command<S: AsStr>(arguments: &[S]) -> &[S]
     }
 }
 
+// A file gets its number of sectors. A block device has one, and only there may something be overwritten.
 fn format_request<'a>(path: &'a str, words: &ArgMatches<'a>) -> Result<StoreRequest<'a>, Mistake>
     requires { path.now ≡ value_of (found_of words.now) (codes "STORE") }
     ensures word { IfOk result (λ request. request_word request ≡ codes "format") }
     ensures named { IfOk result (HasFound (found_of words.now)) }
-    ensures taken { is_number (value_of (found_of words.now) (codes "SECTORS")) ≡ true
+    ensures taken { is_number_if_any (first_value (found_of words.now) (codes "SECTORS")) ≡ true
         → is_number_if_any (first_value (found_of words.now) (codes "format-version")) ≡ true → IsOk result }
 {
-    let sectors = sectors_of(words)?;
+    let sectors = number_if_any(words, "SECTORS")?;
     let version = version_in(words)?;
-    Ok(StoreRequest::Format {
-        path,
-        sectors,
-        version,
-    })
+    let over = has_flag(words, "over");
+    match (sectors, over) {
+        (Some(sectors), false) => Ok(StoreRequest::Format {
+            path,
+            sectors,
+            version,
+        }),
+        (None, _) | (_, true) => Ok(StoreRequest::FormatDevice {
+            path,
+            sectors,
+            over,
+            version,
+        }),
+    }
+}
+
+/// Returns what is wrong with a request for a block device ([`StoreRequest::path_of_device`]) if none is at its path.
+///
+/// # Errors
+/// An error if memory is refused.
+pub fn no_block_device(alloc: Global, request: &StoreRequest<'_>) -> Result<Mistake, AllocError> {
+    let mut command = with_sectors(alloc, "format")?.bin_name("arrowstore format")?;
+    let error = match request {
+        StoreRequest::FormatDevice { over: true, .. } => command.error(
+            ErrorKind::ArgumentConflict,
+            "the argument '--over' can be used only for a block device, and <STORE> is none",
+        )?,
+        _ => command.error(
+            ErrorKind::MissingRequiredArgument,
+            "the argument '[SECTORS]' can be left out only for a block device, and <STORE> is none",
+        )?,
+    };
+    Ok(Mistake::Words(error))
 }
 
 fn copy_request<'a>(path: &'a str, words: &ArgMatches<'a>) -> Result<StoreRequest<'a>, Mistake>
@@ -302,7 +333,7 @@ fn query_words<'a>(alloc: Global, words: &ArgMatches<'a>) -> Result<QueryWords<'
     Ok(QueryWords {
         conditions: words_of(alloc, words, "CONDITION")?,
         columns: words.get_str("columns"),
-        limit: limit_of(words)?,
+        limit: number_if_any(words, "limit")?,
         dates: date_form(words),
     })
 }

@@ -1,6 +1,6 @@
 // What a command line asks of a store.
-ghost use Rattle.std.specs.Prelude.{◌≡◌, true, map};
-ghost use Rattle.cli_requests.specs.Asked.{changes, only_reads};
+ghost use Rattle.std.specs.Prelude.{◌≡◌, true, map, IfSome};
+ghost use Rattle.cli_requests.specs.Asked.{changes, is_for_device, only_reads};
 ghost use Rattle.cli_requests.specs.StoreWords.{takes_input_word, changes_word, makes_word, reads_table_word, reads_word, is_store_word, is_of_store, takes_input, is_help_word, ask_for_help, ask_help_of_command};
 
 use crate::ReplayWords;
@@ -26,6 +26,14 @@ pub enum StoreRequest<'a> {
     Format {
         path: &'a str,
         sectors: u64,
+        version: FormatVersion,
+    },
+    /// Makes an empty store on the block device at the path, on all of its sectors of 512 bytes, which must be `sectors` where a number is given. With
+    /// `over` it is made in place of whatever is on the device; without it there is no number.
+    FormatDevice {
+        path: &'a str,
+        sectors: Option<u64>,
+        over: bool,
         version: FormatVersion,
     },
     /// Makes a new file at `new` with a store of `sectors` sectors of 512 bytes and the tables of the store at `path`.
@@ -158,13 +166,24 @@ impl StoreCommand<'_> {
     }
 }
 
-impl StoreRequest<'_> {
+impl<'a> StoreRequest<'a> {
+    /// Returns the path at which there must be a block device, if the request is for no other file.
+    pub fn path_of_device(&self) -> Option<&'a str>
+        ensures { IfSome result (λ _. is_for_device self.now ≡ true) }
+    {
+        match self {
+            StoreRequest::FormatDevice { path, .. } => Some(path),
+            _ => None,
+        }
+    }
+
     /// Returns whether the request makes a store or changes one: it is done before `ok` or its steps are written.
     pub fn changes(&self) -> bool
         ensures { result ≡ changes self.now }
     {
         match self {
-            StoreRequest::Format { .. } | StoreRequest::Copy { .. } => true,
+            StoreRequest::Format { .. } | StoreRequest::FormatDevice { .. } => true,
+            StoreRequest::Copy { .. } => true,
             StoreRequest::Apply { .. } => true,
             StoreRequest::Salvage { .. } | StoreRequest::Replay(_) => false,
             StoreRequest::Command { command, .. } => !command.only_reads(),

@@ -14,6 +14,9 @@ use Rattle.arrowstore.proofs.serving.serve.Goals as goal
 pub returns-in-Format-clause-silent : goal.returns-in-Format-clause-silent
 returns-in-Format-clause-silent g c = silent_but_io _ _ _ c.serve_format.result c.serve_format.ensures.silent
 
+pub returns-in-FormatDevice-clause-silent : goal.returns-in-FormatDevice-clause-silent
+returns-in-FormatDevice-clause-silent g c = silent_but_io _ _ _ c.serve_format_device.result c.serve_format_device.ensures.silent
+
 pub returns-in-Copy-clause-silent : goal.returns-in-Copy-clause-silent
 returns-in-Copy-clause-silent g c = silent_but_io _ _ _ c.serve_copy.result c.serve_copy.ensures.silent
 
@@ -40,6 +43,9 @@ served_as g is_opened of_file remaining contents replays before after left left'
 
 pub returns-in-Format-clause-serves : goal.returns-in-Format-clause-serves
 returns-in-Format-clause-serves g c = served_as _ _ _ _ _ _ _ _ _ _ _ _ _ c.in-Format.is (c.serve_format.ensures.formats, (refl, refl), refl)
+
+pub returns-in-FormatDevice-clause-serves : goal.returns-in-FormatDevice-clause-serves
+returns-in-FormatDevice-clause-serves g c = served_as _ _ _ _ _ _ _ _ _ _ _ _ _ c.in-FormatDevice.is (c.serve_format_device.ensures.formats, refl, refl)
 
 pub returns-in-Copy-clause-serves : goal.returns-in-Copy-clause-serves
 returns-in-Copy-clause-serves g c = served_as _ _ _ _ _ _ _ _ _ _ _ _ _ c.in-Copy.is (c.serve_copy.ensures.copies, (refl, refl), refl)
