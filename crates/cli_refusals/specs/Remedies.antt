@@ -103,7 +103,6 @@ store_remedy (stores.Query reason) = query_remedy reason
 store_remedy (stores.SegmentUnread segment) = remedies.IMPORT_AGAIN.now
 store_remedy stores.Read = remedies.CHECK_FILES.now
 store_remedy (stores.SegmentDamaged segment) = remedies.IMPORT_AGAIN.now
-store_remedy stores.RowsUnwritten = remedies.COMMIT_FIRST.now
 store_remedy stores.Write = remedies.CHECK_FILES.now
 store_remedy stores.OutOfMemory = remedies.MORE_MEMORY.now
 

@@ -123,7 +123,6 @@ store_word (stores.Query reason) known = query_word reason
 store_word (stores.SegmentUnread segment) known = codes "segment-unread"
 store_word stores.Read known = codes "input"
 store_word (stores.SegmentDamaged segment) known = codes "segment-damaged"
-store_word stores.RowsUnwritten known = codes "rows-unwritten"
 store_word stores.Write known = output_word known.changes
 store_word stores.OutOfMemory known = codes "out-of-memory"
 

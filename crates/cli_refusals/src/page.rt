@@ -4,8 +4,8 @@ ghost use Rattle.cli_refusals.specs.Page.{file_refusals, table_refusals, refusal
 
 use crate::remedies::{
     BLANK_DEVICE, BYTES_OF_THE_TYPE, CHECK_FILES, CLOSE_AN_EXPORT, CLOSE_QUOTATION_MARKS,
-    COMMIT_FIRST, CONVERT_COLUMN, DONE_ALREADY, EARLIER_COPY, ESCAPE_CONTROLS, FEWER_FIELDS,
-    FEWER_ROWS, FEWER_SEGMENTS, FEWER_TABLES, FEWER_VALUES, FIELDS_OF_ANOTHER, FIELDS_OF_THE_TABLE,
+    CONVERT_COLUMN, DONE_ALREADY, EARLIER_COPY, ESCAPE_CONTROLS, FEWER_FIELDS, FEWER_ROWS,
+    FEWER_SEGMENTS, FEWER_TABLES, FEWER_VALUES, FIELDS_OF_ANOTHER, FIELDS_OF_THE_TABLE,
     FILE_OF_A_STORE, FIX_ROW, FOLDER_OF_A_NEW_FILE, FORM_OF_A_CONDITION, FORM_OF_A_DATE,
     FORM_OF_A_FIELD, FORM_OF_A_NAME, GIVE_A_NUMBER, GIVE_A_STREAM, GIVE_A_VALUE, GIVE_ALL,
     GIVE_ARRAYS, GIVE_JSON_LINES, GIVE_LESS, GIVE_THE_NAME, IMPORT_AGAIN, ITEMS_OF_A_LINE,
@@ -476,11 +476,6 @@ appended.
   ",
     IMPORT_AGAIN,
     "
-- S16 RowsUnwritten: a line of a script of `apply` has to read rows that a line before it puts into the
-  table. Nothing is written before all lines are decided, so these rows cannot be read yet.
-  ",
-    COMMIT_FIRST,
-    "
 
 ## T: a script that is one commit
 
@@ -555,7 +550,7 @@ after T1 that of the reason (S).
 - Q1 `unknown-column`, Q2 `bad-condition`, Q3 `not-comparable`.
 - S1 `no-table`, S2 `name-taken`, S3 `bad-name`, S4 `schema-mismatch`, S6 `row-unfit`, S7 `too-many`,
   S8 `no-room`, S9 `device`, S10 `halted`, S13 `segment-unread`, S15 `segment-damaged`,
-  S16 `rows-unwritten`, and `out-of-memory`.
+  and `out-of-memory`.
 
 After `device` the command is done as a whole or not at all. After every other word but `output-after` no
 table is changed, except that the steps of a `compact` before the refused one are done. Wrong arguments,

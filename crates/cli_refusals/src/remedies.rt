@@ -195,9 +195,11 @@ pub const TEST_FOR_NULL: &str = "Use `is null` or `is not null` for such a colum
 
 // ---- S: the open store
 
-pub const NAME_OF_A_TABLE: &str = "Give the name of a table: `tables` prints them. In a script also what the lines before have done counts.";
+pub const NAME_OF_A_TABLE: &str =
+    "Give the name of a table: `tables` prints them. In a script also what the lines before have done counts.";
 
-pub const OTHER_NAME: &str = "Use another name: `tables` prints those in use. In a script also what the lines before have done counts.";
+pub const OTHER_NAME: &str =
+    "Use another name: `tables` prints those in use. In a script also what the lines before have done counts.";
 
 pub const FORM_OF_A_NAME: &str = "Use a name of 1 to 64 ASCII letters, digits, `_`, `-` and `.`.";
 
@@ -227,8 +229,6 @@ pub const LOOK_AGAIN: &str =
 
 pub const IMPORT_AGAIN: &str =
     "Save the readable rows of the table with `salvage`, and drop it or import it again. Then run `check` once more: other tables may be damaged too.";
-
-pub const COMMIT_FIRST: &str = "Apply the commands before it first, and then it and the others.";
 
 pub const MORE_MEMORY: &str =
     "Give the program more memory: a stream or a table that is read needs a small multiple of its size.";
@@ -360,7 +360,6 @@ fn store_remedy(refusal: tables::Refusal) -> &'static str
         tables::Refusal::Device | tables::Refusal::Halted => LOOK_AGAIN,
         tables::Refusal::Query(reason) => query_remedy(reason),
         tables::Refusal::SegmentUnread(_) | tables::Refusal::SegmentDamaged(_) => IMPORT_AGAIN,
-        tables::Refusal::RowsUnwritten => COMMIT_FIRST,
         tables::Refusal::NoExport | tables::Refusal::Read | tables::Refusal::Write => CHECK_FILES,
         tables::Refusal::OutOfMemory => MORE_MEMORY,
     }

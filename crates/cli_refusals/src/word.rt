@@ -162,7 +162,6 @@ fn store_word(refusal: tables::Refusal, known: Known<'_>) -> &'static str
         tables::Refusal::SegmentUnread(_) => "segment-unread",
         tables::Refusal::Read => "input",
         tables::Refusal::SegmentDamaged(_) => "segment-damaged",
-        tables::Refusal::RowsUnwritten => "rows-unwritten",
         tables::Refusal::Write => output_word(known.changes),
         tables::Refusal::OutOfMemory => OUT_OF_MEMORY,
     }

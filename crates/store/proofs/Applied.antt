@@ -16,7 +16,7 @@ use Rattle.commit.specs.declared.recovery.Opened.{Opened}
 use Rattle.tables.specs.declared.refusal.Refusal.{Refusal}
 use Rattle.tables.specs.declared.refusal.Refusal.TheVariants as refusals
 use Rattle.tables.specs.declared.refusal.Limit.TheVariants as limits
-use Rattle.tables.specs.Refusals.{Origin, by_tables, by_room, by_memory, by_device, by_halt, by_list, elsewhere, origin_of}
+use Rattle.tables.specs.Refusals.{Origin, by_tables, by_room, by_memory, by_device, by_halt, elsewhere, origin_of}
 use Rattle.tables.specs.Tables.{Tables}
 use Rattle.tables.specs.Commands.{PlainCommand}
 use Rattle.tables.specs.Verdict.{verdict}
@@ -142,7 +142,6 @@ module _ {D : Type 0} {g : Ghosts D} (size : D → ℕ) (story : D → Story) (f
           (halts_reading size story failed base m tells told old new fits (apply_call c) (running_is, refl)) reads
       by_origin by_room is = absurd (moved by_room is)
       by_origin by_halt is = absurd (moved by_halt is)
-      by_origin by_list is = absurd (moved by_list is)
       by_origin elsewhere is = absurd (moved elsewhere is)
 
   -- a list that is refused for a line before anything is written

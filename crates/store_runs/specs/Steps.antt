@@ -7,7 +7,7 @@ use Rattle.table_cut.specs.CutRows.{joined}
 use Rattle.tables.specs.declared.refusal.Limit.TheVariants as limits
 use Rattle.tables.specs.declared.refusal.Refusal.{Refusal}
 use Rattle.tables.specs.declared.refusal.Refusal.TheVariants as refusals
-use Rattle.tables.specs.Refusals.{Origin, by_tables, by_room, by_memory, by_device, by_halt, by_list, elsewhere, origin_of}
+use Rattle.tables.specs.Refusals.{Origin, by_tables, by_room, by_memory, by_device, by_halt, elsewhere, origin_of}
 use Rattle.tables.specs.Tables.{Tables, table_at, row_counts}
 use Rattle.tables.specs.Commands.{PlainCommand, all_of}
 use Rattle.tables.specs.Verdict.{verdict, refused_line, AcceptsThrough, ReadsChanged}
@@ -31,15 +31,13 @@ RefusesFrom by_room s m c r wrote new = (m.phase ≡ running) × IsOk (verdict (
 RefusesFrom by_memory s m c r wrote new = (m.phase ≡ running) × Stays m wrote new
 RefusesFrom by_device s m c r wrote new = (m.phase ≡ running) × (new ≡ halt (apply_call c) wrote m)
 RefusesFrom by_halt s m c r wrote new = (m.phase ≢ running) × Stays m wrote new
-RefusesFrom by_list s m c r wrote new = ⊥
 RefusesFrom elsewhere s m c r wrote new = ⊥
 
 -- a list of commands that is refused for the one at this place, by the origin of its refusal: it is the first that the tables refuse; or the tables accept all
--- up to it, and there are too many segments after it; or it reads rows of a table that those before it may have changed, which the tables accept
+-- up to it, and there are too many segments after it
 abbrev pub RefusesLine : Origin → Tables → PlainCommand → (place : ℕ) → Refusal → Type 0
 RefusesLine by_tables t c place r = refused_line t c ≡ Some (place, r)
 RefusesLine by_room t c place r = (r ≡ refusals.TooMany limits.Segments) × AcceptsThrough t c place
-RefusesLine by_list t c place r = (r ≡ refusals.RowsUnwritten) × ReadsChanged t c place
 RefusesLine _ t c place r = ⊥
 
 abbrev pub StepApply : Setting → Machine → PlainCommand → PlainReply → Bool → Machine → Type 0

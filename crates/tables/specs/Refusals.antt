@@ -14,15 +14,13 @@ use Rattle.tables.specs.declared.refusal.QueryRefusal.TheVariants as queries
 use Rattle.tables.specs.declared.refusal.Refusal.{Refusal}
 use Rattle.tables.specs.declared.refusal.Refusal.TheVariants as refusals
 
--- `by_tables`: the tables alone decide it. `by_room`: the room of the store. `by_list`: the commands before it in a
--- list. `elsewhere`: no command is refused with it.
+-- `by_tables`: the tables alone decide it. `by_room`: the room of the store. `elsewhere`: no command is refused with it.
 pub data Origin : Type 0 where
   by_tables : Origin
   by_room : Origin
   by_memory : Origin
   by_device : Origin
   by_halt : Origin
-  by_list : Origin
   elsewhere : Origin
 
 abbrev pub origin_of_limit : Limit → Origin
@@ -49,7 +47,6 @@ origin_of (refusals.Query refusal) = by_tables
 origin_of (refusals.SegmentUnread segment) = elsewhere
 origin_of refusals.Read = elsewhere
 origin_of (refusals.SegmentDamaged segment) = elsewhere
-origin_of refusals.RowsUnwritten = by_list
 origin_of refusals.Write = elsewhere
 origin_of refusals.OutOfMemory = by_memory
 
@@ -101,6 +98,5 @@ refusal_text (refusals.Query refusal) = codes "S12 Query " ++ query_text refusal
 refusal_text (refusals.SegmentUnread segment) = codes "S13 SegmentUnread " ++ decimal segment
 refusal_text refusals.Read = codes "G1 Io"
 refusal_text (refusals.SegmentDamaged segment) = codes "S15 SegmentDamaged " ++ decimal segment
-refusal_text refusals.RowsUnwritten = codes "S16 RowsUnwritten"
 refusal_text refusals.Write = codes "G1 Io"
 refusal_text refusals.OutOfMemory = codes "OutOfMemory"

@@ -64,8 +64,6 @@ pub enum Refusal {
     Read,
     /// S15: the bytes of this segment of the table, counted from 0, are not those that were written.
     SegmentDamaged(usize),
-    /// S16: rows that an earlier command of the same list put into the table would have to be read, and they are not written yet.
-    RowsUnwritten,
     /// The writer of an export or of a salvage failed; printed as `G1 Io`.
     Write,
     /// Memory was refused.

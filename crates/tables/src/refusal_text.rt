@@ -58,7 +58,6 @@ impl fmt::Display for Refusal {
             Refusal::Query(refusal) => write!(f, "S12 Query {refusal}"),
             Refusal::SegmentUnread(segment) => write!(f, "S13 SegmentUnread {segment}"),
             Refusal::SegmentDamaged(segment) => write!(f, "S15 SegmentDamaged {segment}"),
-            Refusal::RowsUnwritten => f.write_str("S16 RowsUnwritten"),
             Refusal::Read | Refusal::Write => f.write_str("G1 Io"),
             Refusal::OutOfMemory => f.write_str("OutOfMemory"),
         }

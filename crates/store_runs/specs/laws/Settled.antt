@@ -8,7 +8,7 @@ use Rattle.tables.specs.declared.refusal.Limit.{Limit}
 use Rattle.tables.specs.declared.refusal.Limit.TheVariants as limits
 use Rattle.tables.specs.declared.refusal.Refusal.{Refusal}
 use Rattle.tables.specs.declared.refusal.Refusal.TheVariants as refusals
-use Rattle.tables.specs.Refusals.{Origin, by_tables, by_room, by_memory, by_device, by_halt, by_list, elsewhere, origin_of_limit, origin_of}
+use Rattle.tables.specs.Refusals.{Origin, by_tables, by_room, by_memory, by_device, by_halt, elsewhere, origin_of_limit, origin_of}
 use Rattle.tables.specs.Commands.{PlainCommand}
 use Rattle.commit.specs.declared.opening_refusal.OpeningRefusal.TheVariants as openings
 use Rattle.store_runs.specs.Calls.{PlainCall, apply_call, format_call, open_call, close_call, tables_call, schema_call, read_call, export_call, stream_call, open_export_call, export_next_call, close_export_call, compact_call, upgrade_call, PlainReply, done, counts, schema_is, table_is, bytes_are, export_is, piece_is, merged, moved as is_moved, nothing, already, refused, refused_at, shut_by, is_failure, is_device_reply, is_change}
@@ -201,7 +201,6 @@ by_origin by_room s m c r wrote new is step = is_same m new (apply_call c) (refu
 by_origin by_memory s m c r wrote new is step = is_same m new (apply_call c) (refused r) refl refl step.1.1
 by_origin by_device s m c r wrote new is step = moved m (apply_call c) (refused r) new (halt (apply_call c) wrote m) step.1 (halted_one m c r wrote (device_fails r is))
 by_origin by_halt s m c r wrote new is step = is_same m new (apply_call c) (refused r) refl refl step.1.1
-by_origin by_list s m c r wrote new is step = absurd step
 by_origin elsewhere s m c r wrote new is step = absurd step
 
 pub one_step : (s : Setting) (m : Machine) (call : PlainCall) (reply : PlainReply) (wrote : Bool) (new : Machine) → Step s m call reply wrote new → Moves m call reply new

@@ -12,7 +12,7 @@ use Rattle.tables.specs.Tables.{table_at}
 use Rattle.tables.specs.declared.refusal.Refusal.{Refusal}
 use Rattle.tables.specs.declared.refusal.Refusal.TheVariants as refusals
 use Rattle.tables.specs.declared.refusal.Limit.TheVariants as limits
-use Rattle.tables.specs.Refusals.{Origin, by_tables, by_room, by_memory, by_device, by_halt, by_list, elsewhere, origin_of}
+use Rattle.tables.specs.Refusals.{Origin, by_tables, by_room, by_memory, by_device, by_halt, elsewhere, origin_of}
 use Rattle.tables.specs.Commands.{PlainCommand}
 use Rattle.store_runs.specs.Calls.{PlainCall, apply_call, format_call, open_call, close_call, tables_call, schema_call, read_call, export_call, stream_call, open_export_call, export_next_call, close_export_call, compact_call, upgrade_call, PlainReply, done, counts, schema_is, table_is, bytes_are, export_is, piece_is, merged, moved, nothing, already, refused, refused_at, is_failure}
 use Rattle.store_runs.specs.Machine.{Setting, Machine, Export, settle, tables_now, has_written, is_of, export_at, gave, after_piece}
@@ -129,7 +129,6 @@ module _ (id : ℕ) (e : Export) (s : Setting) (m : Machine) (wrote : Bool) (nex
   by_origin by_memory c call r at quiet none on step = unmoved id e m next is call (refused r) none on step.1.1
   by_origin by_device c call r at quiet none on step = let fails = device_fails r at in absurd (cc (fails, quiet))
   by_origin by_halt c call r at quiet none on step = unmoved id e m next is call (refused r) none on step.1.1
-  by_origin by_list c call r at quiet none on step = absurd step
   by_origin elsewhere c call r at quiet none on step = absurd step
 
   -- a command

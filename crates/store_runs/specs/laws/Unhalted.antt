@@ -7,7 +7,7 @@ use Rattle.sector_dev.specs.Disk.{Story}
 use Rattle.tables.specs.declared.refusal.Refusal.{Refusal}
 use Rattle.tables.specs.declared.refusal.Refusal.TheVariants as refusals
 use Rattle.tables.specs.declared.refusal.Limit.TheVariants as limits
-use Rattle.tables.specs.Refusals.{Origin, by_tables, by_room, by_memory, by_device, by_halt, by_list, elsewhere, origin_of}
+use Rattle.tables.specs.Refusals.{Origin, by_tables, by_room, by_memory, by_device, by_halt, elsewhere, origin_of}
 use Rattle.tables.specs.Commands.{PlainCommand}
 use Rattle.commit.specs.declared.opening_refusal.OpeningRefusal.TheVariants as openings
 use Rattle.store_runs.specs.Calls.{PlainCall, apply_call, format_call, open_call, close_call, tables_call, schema_call, read_call, export_call, stream_call, open_export_call, export_next_call, close_export_call, compact_call, upgrade_call, PlainReply, done, counts, schema_is, table_is, bytes_are, export_is, piece_is, merged, moved, nothing, already, refused, refused_at, shut_by, is_failure, is_device_reply}
@@ -56,7 +56,6 @@ module _ (m new : Machine) (is_open : Bool) (at : m.phase ≡ phase_where is_ope
   by_origin by_memory s c call r wrote keeps is quiet step = same call (refused r) keeps step.1.1 (on_of r is_open (λ h. cc (is, h)))
   by_origin by_device s c call r wrote keeps is quiet step = failing (sym (device_fails r is) ∙ quiet)
   by_origin by_halt s c call r wrote keeps is quiet step = same call (refused r) keeps step.1.1 (halts_shut r is_open (not_halted is_open m.phase at step.0))
-  by_origin by_list s c call r wrote keeps is quiet step = absurd step
   by_origin elsewhere s c call r wrote keeps is quiet step = absurd step
 
 turns : (s : Setting) (m : Machine) (call : PlainCall) (reply : PlainReply) (wrote : Bool) (new : Machine) (is_open : Bool) → Step s m call reply wrote new → m.phase ≡ phase_where is_open → is_device_reply reply ≡ false
