@@ -285,7 +285,7 @@ or appended. If no advice follows a fault, the cause is the program that wrote t
 ];
 
 /// The pieces of the page of which the other sections are made: refusals of a text, of a query and of an open store.
-pub const TABLE_REFUSALS: [&str; 89] = [
+pub const TABLE_REFUSALS: [&str; 87] = [
     "
 ## X: a text that was to be appended
 
