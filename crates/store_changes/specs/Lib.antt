@@ -3,6 +3,7 @@ pub mod Picked
 pub mod Draft
 pub mod Finding
 pub mod OnDisk
+pub mod Source
 pub mod ReadSegment
 pub mod Exchanging
 pub mod Under

@@ -20,6 +20,7 @@ mod pairs;
 mod preparing;
 mod reading;
 mod rebuilding;
+mod source;
 mod table_builder;
 mod weighing;
 
@@ -39,4 +40,5 @@ pub use new_rows::NewRows;
 pub use preparing::{Prepared, prepare, settle};
 pub use reading::{read_entry, read_next_segment, read_segment};
 pub use rebuilding::has_new;
+pub use source::SegmentSource;
 pub use weighing::weigh_entry;

@@ -20,6 +20,7 @@ ghost use Rattle.store_changes.specs.inner.TableBuilder.{table_so_far};
 ghost use Rattle.store_changes.specs.ReadSegment.{table_in_bytes, HasReadTable, IsPast, LacksTable, UnreadsSegment};
 
 use crate::laws::table_laws;
+use crate::source::SegmentSource;
 use crate::table_builder::TableBuilder;
 use arrow_schema::Schema;
 use catalogue::{Segment, TableEntry};
@@ -28,7 +29,7 @@ use ipc_message::ImportError;
 use ipc_stream::decode_weighed;
 use ipc_write::{encode_schema, schema_message_is_read_again};
 use sector_dev::SectorDevice;
-use segments::{ReadError, read_run};
+use segments::ReadError;
 use sha2::{Digest, Sha256};
 use std::alloc::{AllocError, Global};
 use tables::Refusal;
@@ -45,25 +46,21 @@ fn is_undamaged(segment: Segment, bytes: &[u8]) -> bool
 }
 
 // Reads the bytes of the segment at this place, and tests their digest.
-pub(crate) fn read_bytes<D: SectorDevice>(
+pub(crate) fn read_bytes<D: SegmentSource>(
     alloc: Global,
     device: &mut D,
     segment: Segment,
     place: usize,
 ) -> Result<Vec<u8>, Refusal>
     requires size { is_size (D.size device.old) ≡ true }
-    requires placed { is_on_device (D.size device.old) segment.place.run ≡ true }
+    requires readable { D.can_read device.old segment.place }
     requires sound { is_segment segment ≡ true }
     ensures reads { OnlyReadsDevice D.size D.story D.failed D.tells (ended result) device.old device.new }
+    ensures goes_on { D.goes_on device.old device.new }
     ensures copy { IfOk result (λ bytes. IsCopy D.tells (shown_image (now (D.story device.old))) segment bytes.items) }
     ensures told { IfErr result (LacksBytes D.tells (shown_image (now (D.story device.old))) segment place) }
 {
-    match read_run(
-        alloc,
-        device,
-        segment.place.run.start,
-        segment.place.bytes as usize,
-    ) {
+    match device.read_extent(alloc, segment.place) {
         Ok(bytes) => {
             if is_undamaged(segment, &bytes) {
                 Ok(bytes)
@@ -220,7 +217,7 @@ pub(crate) fn next_in_bytes(
 ///
 /// # Errors
 /// `SegmentUnread`, also if they are too heavy, and `SegmentDamaged` with its place; `Device`; `OutOfMemory`.
-pub fn read_next_segment<D: SectorDevice>(
+pub fn read_next_segment<D: SegmentSource>(
     alloc: Global,
     device: &mut D,
     front: &[u8],
@@ -229,10 +226,11 @@ pub fn read_next_segment<D: SectorDevice>(
     before: u64,
 ) -> Result<WeighedTable, Refusal>
     requires size { is_size (D.size device.old) ≡ true }
-    requires placed { is_on_device (D.size device.old) segment.place.run ≡ true }
+    requires readable { D.can_read device.old segment.place }
     requires sound { is_segment segment ≡ true }
     requires light { before ≤ MAX_TABLE_WEIGHT }
     ensures reads { OnlyReadsDevice D.size D.story D.failed D.tells (ended result) device.old device.new }
+    ensures goes_on { D.goes_on device.old device.new }
     // With any front: the bytes that were read begin with it and mean the table.
     ensures means { IfOk result (λ w. HasReadTable D.tells (shown_image (now (D.story device.old))) front.now segment (table_of w.table)) }
     ensures lacks { IfErr result (LacksTable (IsPast before) D.tells (shown_image (now (D.story device.old))) front.now segment place) }

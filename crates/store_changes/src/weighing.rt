@@ -10,23 +10,24 @@ ghost use Rattle.cells.specs.declared.limits.TheConstants.{MAX_TABLE_WEIGHT};
 ghost use Rattle.values.specs.Table.{IsTable};
 ghost use Rattle.ipc_write.specs.Written.{schema_message};
 ghost use Rattle.segments.specs.declared.extent.Extent.{Extent};
-ghost use Rattle.catalogue.specs.Entries.{is_segment, is_entry, plain_entry, runs_in_segments};
-ghost use Rattle.commit.specs.Standing.{is_size, is_on_device, all_on_device};
+ghost use Rattle.catalogue.specs.Entries.{is_segment, is_entry, plain_entry};
+ghost use Rattle.commit.specs.Standing.{is_size};
 ghost use Rattle.store_runs.specs.Changes.{rows_under};
 ghost use Rattle.store_runs.specs.Reading.{IsRead, Unreads, OnlyReadsDevice, ended};
 ghost use Rattle.store_changes.specs.ReadSegment.{UnreadsSegment};
+ghost use Rattle.store_changes.specs.Source.{AreReadable};
 ghost use Rattle.store_changes.specs.inner.ReadRows.{WeighsRows, WeighsNext};
 
 use crate::laws::table_laws;
 use crate::reading::read_next_segment;
+use crate::source::SegmentSource;
 use catalogue::{Segment, TableEntry};
 use ipc_write::encode_schema;
-use sector_dev::SectorDevice;
 use std::alloc::Global;
 use tables::Refusal;
 
 // Reads the segment at this place of a table, whose rows before it weigh `before`. Returns the weight of all rows up to its end.
-fn weigh_next<D: SectorDevice>(
+fn weigh_next<D: SegmentSource>(
     alloc: Global,
     device: &mut D,
     front: &[u8],
@@ -35,10 +36,11 @@ fn weigh_next<D: SectorDevice>(
     before: u64,
 ) -> Result<u64, Refusal>
     requires size { is_size (D.size device.old) ≡ true }
-    requires placed { is_on_device (D.size device.old) segment.place.run ≡ true }
+    requires readable { D.can_read device.old segment.place }
     requires sound { is_segment segment ≡ true }
     requires light { before ≤ MAX_TABLE_WEIGHT }
     ensures reads { OnlyReadsDevice D.size D.story D.failed D.tells (ended result) device.old device.new }
+    ensures goes_on { D.goes_on device.old device.new }
     ensures light { IfOk result (λ w. w ≤ MAX_TABLE_WEIGHT) }
     ensures weight { IfOk result (λ w. (s : PlainSchema) (rows : List (List Cell)) → front.now ≡ schema_message s → IsTable (rows_under s rows)
         → before ≡ table_weight s rows → WeighsNext D.tells (shown_image (now (D.story device.old))) s rows segment w) }
@@ -56,16 +58,17 @@ fn weigh_next<D: SectorDevice>(
 }
 
 // Weighs the rows of all segments.
-fn weigh_segments<D: SectorDevice>(
+fn weigh_segments<D: SegmentSource>(
     alloc: Global,
     device: &mut D,
     front: &[u8],
     segments: &[Segment],
 ) -> Result<u64, Refusal>
     requires size { is_size (D.size device.old) ≡ true }
-    requires placed { all_on_device (D.size device.old) (runs_in_segments segments.now) ≡ true }
+    requires readable { AreReadable (D.can_read device.old) segments.now }
     requires sound { list_all is_segment segments.now ≡ true }
     ensures reads { OnlyReadsDevice D.size D.story D.failed D.tells (ended result) device.old device.new }
+    ensures goes_on { D.goes_on device.old device.new }
     ensures weight { IfOk result (λ w. (s : PlainSchema) → IsWithinLimits s → front.now ≡ schema_message s
         → WeighsRows D.tells (shown_image (now (D.story device.old))) s segments.now w) }
     ensures unread { IfErr result (λ e. (s : PlainSchema) (name : List ℕ) (page : Option Extent) → IsWithinLimits s → front.now ≡ schema_message s
@@ -85,15 +88,16 @@ fn weigh_segments<D: SectorDevice>(
 ///
 /// # Errors
 /// `SegmentUnread` or `SegmentDamaged` with the place of the first segment that fails; `Device`; `OutOfMemory`.
-pub fn weigh_entry<D: SectorDevice>(
+pub fn weigh_entry<D: SegmentSource>(
     alloc: Global,
     device: &mut D,
     entry: &TableEntry,
 ) -> Result<u64, Refusal>
     requires size { is_size (D.size device.old) ≡ true }
-    requires placed { all_on_device (D.size device.old) (runs_in_segments (plain_entry entry.now).segments) ≡ true }
+    requires readable { AreReadable (D.can_read device.old) (plain_entry entry.now).segments }
     requires sound { is_entry (plain_entry entry.now) ≡ true }
     ensures reads { OnlyReadsDevice D.size D.story D.failed D.tells (ended result) device.old device.new }
+    ensures goes_on { D.goes_on device.old device.new }
     ensures weight { IfOk result (λ w. (table : PlainTable) × IsRead D.tells (shown_image (now (D.story device.old))) (plain_entry entry.now) table
         × (w ≡ table_weight table.schema table.rows)) }
     ensures unread { IfErr result (Unreads D.tells (shown_image (now (D.story device.old))) (plain_entry entry.now)) }

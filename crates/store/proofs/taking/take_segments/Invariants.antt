@@ -14,8 +14,9 @@ use Rattle.store.proofs.taking.take_segments.Given as goal
 
 -- the rows of the first segments were taken
 abbrev pub invariant-loop-place : goal.invariant-loop-place
-invariant-loop-place g l = let D = g.D.SectorDevice in let T = g.T.TakesRows in record {
+invariant-loop-place g l = let D = g.D.SegmentSource in let T = g.T.TakesRows in record {
   reads : OnlyReadsDevice D.size D.story D.failed D.tells done l.fn.device l.device;
+  goes_on : D.goes_on l.fn.device l.device;
   light : l.weight ≤ MAX_TABLE_WEIGHT;
   takes : TakesUnder (T.takes l.taker) l.front;
   taken : (s : PlainSchema) → IsWithinLimits s → l.front ≡ schema_message s → (rows : List (List Cell))

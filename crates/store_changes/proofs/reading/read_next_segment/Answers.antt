@@ -9,7 +9,7 @@ use Rattle.store_changes.proofs.reading.read_next_segment.Goals as goal
 
 pub returns-in-Ok-clause-reads : goal.returns-in-Ok-clause-reads
 returns-in-Ok-clause-reads g c =
-    let D = g.D.SectorDevice in
+    let D = g.D.SegmentSource in
     reads_ended D.size D.story D.failed D.tells c.next_in_bytes.result c.args.device.now c.read_bytes.new.device c.next_in_bytes.ensures.quiet
     c.in-Ok.ensures.reads
 
@@ -20,7 +20,7 @@ returns-in-Ok-clause-means g c =
 
 pub returns-in-Ok-clause-lacks : goal.returns-in-Ok-clause-lacks
 returns-in-Ok-clause-lacks g c =
-    let D = g.D.SectorDevice in
+    let D = g.D.SegmentSource in
     let image = shown_image (now (D.story c.args.device.now)) in
     IfErr-weaker c.next_in_bytes.result _ _ (λ e lacks. lacks D.tells image c.in-Ok.ensures.copy) c.next_in_bytes.ensures.lacks
 
@@ -32,7 +32,7 @@ returns-in-Ok-clause-rows g c =
 
 pub returns-in-Ok-clause-unread : goal.returns-in-Ok-clause-unread
 returns-in-Ok-clause-unread g c =
-    let D = g.D.SectorDevice in
+    let D = g.D.SegmentSource in
     let image = shown_image (now (D.story c.args.device.now)) in
     IfErr-weaker c.next_in_bytes.result _ _
     (λ e unread. λ s rows within message weighs. unread D.tells image s rows c.in-Ok.ensures.copy within message weighs) c.next_in_bytes.ensures.unread
@@ -41,7 +41,7 @@ returns-in-Ok-clause-unread g c =
 
 pub returns-in-Err-clause-lacks : goal.returns-in-Err-clause-lacks
 returns-in-Err-clause-lacks g c =
-    let D = g.D.SectorDevice in
+    let D = g.D.SegmentSource in
     let image = shown_image (now (D.story c.args.device.now)) in
     let front = c.args.front.now in
     let segment = c.args.segment in
@@ -52,7 +52,7 @@ returns-in-Err-clause-lacks g c =
 
 pub returns-in-Err-clause-unread : goal.returns-in-Err-clause-unread
 returns-in-Err-clause-unread g c = λ s rows within message weighs.
-    let D = g.D.SectorDevice in
+    let D = g.D.SegmentSource in
     let image = shown_image (now (D.story c.args.device.now)) in
     let segment = c.args.segment in
     let place = c.args.place in

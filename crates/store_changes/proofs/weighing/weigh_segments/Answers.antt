@@ -5,15 +5,17 @@ use Rattle.catalogue.specs.declared.entry.Segment.{Segment}
 use Rattle.commit.specs.Standing.{is_size}
 use Rattle.store_runs.specs.Calls.{done, refused}
 use Rattle.store_changes.specs.inner.ReadRows.{WeighsRows}
-use Rattle.store_changes.specs.laws.ReadTables.{no_segment, at_place, placed_at, sound_at, unreads_step, reads_more, reads_none, image_then}
+use Rattle.store_changes.specs.laws.Sources.{readable_at}
+use Rattle.store_changes.specs.laws.ReadTables.{no_segment, at_place, sound_at, unreads_step, reads_more, reads_none, image_then}
 use Rattle.store_changes.specs.laws.ReadRows.{no_rows, reads_none_of, reads_step}
 use Rattle.store_changes.proofs.weighing.weigh_segments.Goals as goal
 
 pub loop-place-init : goal.loop-place-init
 loop-place-init g c =
-    let D = g.D.SectorDevice in
+    let D = g.D.SegmentSource in
     record {
       reads = reads_none D.size D.story D.failed D.tells c.args.device.now;
+      goes_on = g.met.D.SegmentSource.stays c.args.device.now;
       light = omega arith;
       weighs = λ s within message. ([], reads_none_of D.tells (shown_image (now (D.story c.args.device.now))) s (no_rows s within), refl);
     }
@@ -23,10 +25,12 @@ loop-place-init g c =
 pub weigh_next-requires-clause-size : goal.weigh_next-requires-clause-size
 weigh_next-requires-clause-size g c = ap is_size c.loop-place.invariant.reads.same ∙ c.requires.size
 
-pub weigh_next-requires-clause-placed : goal.weigh_next-requires-clause-placed
-weigh_next-requires-clause-placed g c =
-    let D = g.D.SectorDevice in
-    placed_at c.args.segments.now c.loop-place.place c.loop-place-test.true (D.size c.args.device.now) (D.size c.loop-place.device) c.loop-place.invariant.reads.same c.requires.placed
+pub weigh_next-requires-clause-readable : goal.weigh_next-requires-clause-readable
+weigh_next-requires-clause-readable g c =
+    let D = g.D.SegmentSource in
+    let segment = get_or c.args.segments.now c.loop-place.place no_segment in
+    g.met.D.SegmentSource.still c.args.device.now c.loop-place.device segment.place c.loop-place.invariant.goes_on
+    (readable_at (D.can_read c.args.device.now) c.args.segments.now c.loop-place.place no_segment c.loop-place-test.true c.requires.readable)
 
 pub weigh_next-requires-clause-sound : goal.weigh_next-requires-clause-sound
 weigh_next-requires-clause-sound g c = sound_at c.args.segments.now c.loop-place.place c.loop-place-test.true c.requires.sound
@@ -35,7 +39,7 @@ weigh_next-requires-clause-sound g c = sound_at c.args.segments.now c.loop-place
 
 pub loop-place-preserved : goal.loop-place-preserved
 loop-place-preserved g c =
-    let D = g.D.SectorDevice in
+    let D = g.D.SegmentSource in
     let segments = c.args.segments.now in
     let place = c.loop-place.place in
     let segment = get_or segments place no_segment in
@@ -44,6 +48,7 @@ loop-place-preserved g c =
     let mid = D.story c.loop-place.device in
     record {
       reads = reads_more D.size D.story D.failed D.tells done c.args.device.now c.loop-place.device c.weigh_next.new.device c.loop-place.invariant.reads c.in-Ok.ensures.reads;
+      goes_on = g.met.D.SegmentSource.onward c.args.device.now c.loop-place.device c.weigh_next.new.device c.loop-place.invariant.goes_on c.in-Ok.ensures.goes_on;
       light = c.in-Ok.ensures.light;
       weighs = λ s within message.
           let so_far = c.loop-place.invariant.weighs s within message in
@@ -57,12 +62,16 @@ loop-place-preserved g c =
 
 pub returns-in-Err-clause-reads : goal.returns-in-Err-clause-reads
 returns-in-Err-clause-reads g c =
-    let D = g.D.SectorDevice in
+    let D = g.D.SegmentSource in
     reads_more D.size D.story D.failed D.tells (refused c.in-Err.refusal) c.args.device.now c.loop-place.device c.weigh_next.new.device c.loop-place.invariant.reads c.in-Err.ensures.reads
+
+pub returns-in-Err-clause-goes_on : goal.returns-in-Err-clause-goes_on
+returns-in-Err-clause-goes_on g c =
+    g.met.D.SegmentSource.onward c.args.device.now c.loop-place.device c.weigh_next.new.device c.loop-place.invariant.goes_on c.in-Err.ensures.goes_on
 
 pub returns-in-Err-clause-unread : goal.returns-in-Err-clause-unread
 returns-in-Err-clause-unread g c = λ s name page within message.
-    let D = g.D.SectorDevice in
+    let D = g.D.SegmentSource in
     let segments = c.args.segments.now in
     let place = c.loop-place.place in
     let segment = get_or segments place no_segment in
@@ -78,8 +87,11 @@ returns-in-Err-clause-unread g c = λ s name page within message.
 pub returns-clause-reads : goal.returns-clause-reads
 returns-clause-reads g c = c.loop-place.invariant.reads
 
+pub returns-clause-goes_on : goal.returns-clause-goes_on
+returns-clause-goes_on g c = c.loop-place.invariant.goes_on
+
 pub returns-clause-weight : goal.returns-clause-weight
 returns-clause-weight g c = λ s within message.
-    let D = g.D.SectorDevice in
+    let D = g.D.SegmentSource in
     subst (λ (gs : List Segment). WeighsRows D.tells (shown_image (now (D.story c.args.device.now))) s gs c.loop-place.weight)
     (take_all c.loop-place.place c.args.segments.now (omega (arith, c.loop-place-test.false))) (c.loop-place.invariant.weighs s within message)
