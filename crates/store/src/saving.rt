@@ -1,4 +1,4 @@
-// Saves the selection of a query as a table of its own. One segment of the table that it selects from is kept at a time.
+// Saves the selection of a query as a table of its own. One segment of the table that it selects from is decoded at a time.
 ghost use Rattle.std.specs.Prelude.{◌≡◌, ◌≢◌, ◌⊎◌, ◌∷◌, [], true, false, None, Some, Ok, Err, IfOk, IfErr, OnOk, string_bytes};
 ghost use Rattle.facts.specs.Checks.{first_some};
 ghost use Rattle.sector_dev.specs.Disk.{now, shown_image};

@@ -5,6 +5,7 @@ pub mod Finding
 pub mod OnDisk
 pub mod Source
 pub mod ReadSegment
+pub mod Ahead
 pub mod Exchanging
 pub mod Under
 pub mod Verdicts

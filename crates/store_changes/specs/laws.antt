@@ -34,3 +34,4 @@ pub mod Lines
 pub mod Leading
 pub mod StepParts
 pub mod StepChanges
+pub mod Ahead

@@ -4,6 +4,7 @@
 //! segments, takes runs and becomes a plan. A step of a compaction and the digests of an upgrade become plans in the same way.
 #![tactic(auto)]
 
+mod ahead;
 mod appending;
 mod change;
 mod compacting;
@@ -24,6 +25,7 @@ mod source;
 mod table_builder;
 mod weighing;
 
+pub use ahead::ReadAhead;
 pub use appending::{append_to_entry, append_to_unwritten};
 pub use change::{Change, Edit, NewSegments, SegmentRows};
 pub use compacting::{Step, decide_step};

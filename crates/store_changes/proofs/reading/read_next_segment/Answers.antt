@@ -1,5 +1,6 @@
 use Rattle.std.proofs.lemmas.Result.{IfOk-weaker, IfErr-weaker}
 use Rattle.sector_dev.specs.Disk.{now, shown_image}
+use Rattle.store_changes.specs.Ahead.{segment_ahead}
 use Rattle.store_changes.specs.laws.Digests.{lacks_rows}
 use Rattle.store_changes.specs.laws.ReadTables.{reads_ended}
 use Rattle.store_changes.proofs.SegmentBytes.{lacks_table, lacks_next, lacks_unread}
@@ -10,7 +11,7 @@ use Rattle.store_changes.proofs.reading.read_next_segment.Goals as goal
 pub returns-in-Ok-clause-reads : goal.returns-in-Ok-clause-reads
 returns-in-Ok-clause-reads g c =
     let D = g.D.SegmentSource in
-    reads_ended D.size D.story D.failed D.tells c.next_in_bytes.result c.args.device.now c.read_bytes.new.device c.next_in_bytes.ensures.quiet
+    reads_ended D.size D.story D.failed D.tells c.next_in_bytes.result c.args.device.now c.next_bytes.new.device c.next_in_bytes.ensures.quiet
     c.in-Ok.ensures.reads
 
 pub returns-in-Ok-clause-means : goal.returns-in-Ok-clause-means
@@ -44,7 +45,7 @@ returns-in-Err-clause-lacks g c =
     let D = g.D.SegmentSource in
     let image = shown_image (now (D.story c.args.device.now)) in
     let front = c.args.front.now in
-    let segment = c.args.segment in
+    let segment = (segment_ahead c.args.ahead.now c.args.place) in
     let place = c.args.place in
     let refusal = c.in-Err.refusal in
     lacks_next D.tells image front segment c.args.before place refusal
@@ -54,7 +55,7 @@ pub returns-in-Err-clause-unread : goal.returns-in-Err-clause-unread
 returns-in-Err-clause-unread g c = λ s rows within message weighs.
     let D = g.D.SegmentSource in
     let image = shown_image (now (D.story c.args.device.now)) in
-    let segment = c.args.segment in
+    let segment = (segment_ahead c.args.ahead.now c.args.place) in
     let place = c.args.place in
     let refusal = c.in-Err.refusal in
     lacks_unread D.tells image s rows segment place refusal (lacks_rows D.tells image s segment place refusal c.in-Err.ensures.told)
