@@ -1,11 +1,11 @@
-// Saves the selection of a query as a table of its own. One segment of the table that it selects from is kept at a time.
+// Saves the selection of a query as a table of its own. One segment of the table that it selects from is decoded at a time.
 ghost use Rattle.std.specs.Prelude.{◌≡◌, ◌≢◌, ◌⊎◌, ◌∷◌, [], true, false, None, Some, Ok, Err, IfOk, IfErr, OnOk, string_bytes};
 ghost use Rattle.facts.specs.Checks.{first_some};
 ghost use Rattle.sector_dev.specs.Disk.{now, shown_image};
 ghost use Rattle.arrow_schema.specs.View.{schema_of};
-ghost use Rattle.catalogue.specs.Entries.{plain_entry, is_entry, IsCatalogue, runs_in_segments};
+ghost use Rattle.catalogue.specs.Entries.{plain_entry, is_entry, IsCatalogue};
 ghost use Rattle.catalogue.specs.View.{catalogue_of};
-ghost use Rattle.commit.specs.Standing.{is_size, all_on_device};
+ghost use Rattle.commit.specs.Standing.{is_size};
 ghost use Rattle.query.specs.View.{query_in};
 ghost use Rattle.selection.specs.SelectionBuilder.{builder_in, table_built};
 ghost use Rattle.tables.specs.Commands.{save_as};
@@ -16,6 +16,7 @@ ghost use Rattle.store_runs.specs.Changes.{CanChange};
 ghost use Rattle.store_runs.specs.Deciding.{create_tests, unselected, selected_entry};
 ghost use Rattle.store_runs.specs.Reading.{OnlyReadsDevice, ended};
 ghost use Rattle.store.specs.inner.Saving.{IsSelected, Selects};
+ghost use Rattle.store_changes.specs.Source.{AreReadable};
 ghost use Rattle.store_changes.specs.Tests.{decision_of};
 
 use crate::Store;
@@ -28,7 +29,7 @@ use query::{Query, selection_is_a_table};
 use sector_dev::SectorDevice;
 use selection::SelectionBuilder;
 use std::alloc::{AllocError, Global};
-use store_changes::{Change, put_table, test_create};
+use store_changes::{Change, SegmentSource, put_table, test_create};
 use tables::Refusal;
 use values::Table;
 
@@ -102,7 +103,7 @@ fn put_selection(
 }
 
 // Makes all tests of a saved query in order, and then reads the table of the entry.
-pub(crate) fn save_from_entry<D: SectorDevice>(
+pub(crate) fn save_from_entry<D: SegmentSource>(
     alloc: Global,
     device: &mut D,
     catalogue: &Catalogue,
@@ -111,9 +112,10 @@ pub(crate) fn save_from_entry<D: SectorDevice>(
     query: &Query,
 ) -> Result<Change, Refusal>
     requires size { is_size (D.size device.old) ≡ true }
-    requires placed { all_on_device (D.size device.old) (runs_in_segments (plain_entry entry.now).segments) ≡ true }
+    requires readable { AreReadable (D.can_read device.old) (plain_entry entry.now).segments }
     requires sound { is_entry (plain_entry entry.now) ≡ true }
     ensures reads { OnlyReadsDevice D.size D.story D.failed D.tells (ended result) device.old device.new }
+    ensures goes_on { D.goes_on device.old device.new }
     ensures ok { IfOk result (λ change. CanChange (catalogue_of catalogue.now) (change_of change)) }
     ensures answers { IsSelected D.tells (shown_image (now (D.story device.old))) (string_bytes to) (query_in query.now)
         (selected_entry (catalogue_of catalogue.now) (string_bytes to) (query_in query.now) (plain_entry entry.now)) (decision_of result) }

@@ -1,4 +1,4 @@
-// Answers queries of the tables of an open store. One segment is kept at a time.
+// Answers queries of the tables of an open store. One segment is decoded at a time.
 ghost use Rattle.std.specs.Prelude.{◌≡◌, true, IfOk, IfErr};
 ghost use Rattle.sector_dev.specs.Disk.{now, shown_image};
 ghost use Rattle.cells.specs.Cell.{PlainTable};
@@ -119,7 +119,7 @@ impl<D: SectorDevice> Store<D> {
     }
 
     /// Returns a line in this form for each row that a query selects from the table with this name, or why the query is refused. Only reads. The whole
-    /// table is read in either case, and one segment of it is in memory at a time.
+    /// table is read in either case, and one segment of it is decoded at a time.
     ///
     /// ```
     /// let conditions = vec![in alloc; Condition::parse(alloc, "millidegrees < 0")?]?;

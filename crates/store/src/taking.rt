@@ -1,5 +1,5 @@
-// Reads the table of an entry for what takes its rows. One segment is kept at a time.
-ghost use Rattle.std.specs.Prelude.{◌≡◌, ◌≤◌, ◌++◌, ℕ, true, List, [], Option, IfOk, IfErr};
+// Reads the table of an entry for what takes its rows. One segment is decoded at a time.
+ghost use Rattle.std.specs.Prelude.{◌≡◌, ◌≤◌, ◌+◌, ◌++◌, ℕ, true, List, [], Option, IfOk, IfErr};
 ghost use Rattle.std.specs.List.{list_all};
 ghost use Rattle.sector_dev.specs.Disk.{now, shown_image};
 ghost use Rattle.segments.specs.declared.extent.Extent.{Extent};
@@ -11,19 +11,20 @@ ghost use Rattle.cells.specs.declared.limits.TheConstants.{MAX_TABLE_WEIGHT};
 ghost use Rattle.values.specs.Table.{IsTable};
 ghost use Rattle.values.specs.TableView.{table_of};
 ghost use Rattle.ipc_write.specs.Written.{schema_message};
-ghost use Rattle.catalogue.specs.Entries.{is_segment, is_entry, plain_entry, runs_in_segments};
-ghost use Rattle.commit.specs.Standing.{is_size, is_on_device, all_on_device};
+ghost use Rattle.catalogue.specs.Entries.{is_segment, is_entry, plain_entry};
+ghost use Rattle.commit.specs.Standing.{is_size};
 ghost use Rattle.store_runs.specs.Changes.{rows_under};
 ghost use Rattle.store_runs.specs.Reading.{IsRead, Unreads, OnlyReadsDevice, ended};
+ghost use Rattle.store_changes.specs.Ahead.{segments_ahead, segment_ahead, IsAhead, IsNext};
 ghost use Rattle.store_changes.specs.ReadSegment.{UnreadsSegment};
+ghost use Rattle.store_changes.specs.Source.{AreReadable};
 ghost use Rattle.store_changes.specs.inner.ReadRows.{ReadsRows, ReadsNext};
 ghost use Rattle.store.specs.inner.Taking.{TakesUnder};
 
 use catalogue::{Segment, TableEntry};
 use ipc_write::encode_schema;
-use sector_dev::SectorDevice;
 use std::alloc::{AllocError, Global};
-use store_changes::{read_next_segment, table_laws};
+use store_changes::{ReadAhead, SegmentSource, read_next_segment, table_laws};
 use tables::Refusal;
 use values::Table;
 
@@ -50,31 +51,34 @@ pub(crate) trait TakesRows: Drop {
 }
 
 // Reads the segment at this place, whose table has rows before it that weigh `weight`, and gives its rows. Returns the weight of all of them too.
-fn take_segment<D: SectorDevice, T: TakesRows>(
+fn take_segment<D: SegmentSource, T: TakesRows>(
     alloc: Global,
     device: &mut D,
     front: &[u8],
     taker: T,
     weight: u64,
-    segment: Segment,
+    ahead: &mut ReadAhead<'_>,
     place: usize,
 ) -> Result<(T, u64), Refusal>
     requires size { is_size (D.size device.old) ≡ true }
-    requires placed { is_on_device (D.size device.old) segment.place.run ≡ true }
-    requires sound { is_segment segment ≡ true }
+    requires next { IsNext (D.can_read device.old) D.tells (shown_image (now (D.story device.old))) place ahead.old }
     requires light { weight ≤ MAX_TABLE_WEIGHT }
     requires takes { TakesUnder (T.takes taker) front.now }
     ensures reads { OnlyReadsDevice D.size D.story D.failed D.tells (ended result) device.old device.new }
+    ensures goes_on { D.goes_on device.old device.new }
     ensures light { IfOk result (λ more. more.1 ≤ MAX_TABLE_WEIGHT) }
     ensures takes { IfOk result (λ more. TakesUnder (T.takes more.0) front.now) }
     ensures taken { IfOk result (λ more. (start : T) (s : PlainSchema) (rows : List (List Cell)) → front.now ≡ schema_message s
         → IsTable (rows_under s rows) → weight ≡ table_weight s rows → T.has_taken start rows taker → (all : List (List Cell))
-        × ReadsNext D.tells (shown_image (now (D.story device.old))) s rows segment all × T.has_taken start all more.0 × (more.1 ≡ table_weight s all)) }
+        × ReadsNext D.tells (shown_image (now (D.story device.old))) s rows (segment_ahead ahead.old place) all
+        × T.has_taken start all more.0 × (more.1 ≡ table_weight s all)) }
     ensures unread { IfErr result (λ e. (s : PlainSchema) (rows : List (List Cell)) → IsWithinLimits s → front.now ≡ schema_message s
-        → weight ≡ table_weight s rows → UnreadsSegment D.tells (shown_image (now (D.story device.old))) s rows segment place e) }
+        → weight ≡ table_weight s rows → UnreadsSegment D.tells (shown_image (now (D.story device.old))) s rows (segment_ahead ahead.old place) place e) }
+    ensures ahead { IfOk result (λ more.
+        IsAhead D.tells (shown_image (now (D.story device.new))) (segments_ahead ahead.old) (place + 1) ahead.new) }
 {
     table_laws();
-    match read_next_segment(alloc, device, front, segment, place, weight) {
+    match read_next_segment(alloc, device, front, ahead, place, weight) {
         Ok(next) => {
             // For the proof: the rows of the segment are a table.
             next.table.schema();
@@ -88,7 +92,7 @@ fn take_segment<D: SectorDevice, T: TakesRows>(
 }
 
 // Gives the rows of all segments, in order.
-fn take_segments<D: SectorDevice, T: TakesRows>(
+fn take_segments<D: SegmentSource, T: TakesRows>(
     alloc: Global,
     device: &mut D,
     front: &[u8],
@@ -96,19 +100,21 @@ fn take_segments<D: SectorDevice, T: TakesRows>(
     start: T,
 ) -> Result<T, Refusal>
     requires size { is_size (D.size device.old) ≡ true }
-    requires placed { all_on_device (D.size device.old) (runs_in_segments segments.now) ≡ true }
+    requires readable { AreReadable (D.can_read device.old) segments.now }
     requires sound { list_all is_segment segments.now ≡ true }
     requires takes { TakesUnder (T.takes start) front.now }
     ensures reads { OnlyReadsDevice D.size D.story D.failed D.tells (ended result) device.old device.new }
+    ensures goes_on { D.goes_on device.old device.new }
     ensures taken { IfOk result (λ taker. (s : PlainSchema) → IsWithinLimits s → front.now ≡ schema_message s → (rows : List (List Cell))
         × ReadsRows D.tells (shown_image (now (D.story device.old))) s segments.now rows × T.has_taken start rows taker) }
     ensures unread { IfErr result (λ e. (s : PlainSchema) (name : List ℕ) (page : Option Extent) → IsWithinLimits s → front.now ≡ schema_message s
         → Unreads D.tells (shown_image (now (D.story device.old))) (record { name = name; schema = s; segments = segments.now; page = page }) e) }
 {
+    let mut ahead = ReadAhead::new(segments);
     let mut taker = start;
     let mut weight = 0;
-    for (place, segment) in segments.iter().enumerate() {
-        match take_segment(alloc, device, front, taker, weight, *segment, place) {
+    for place in 0..segments.len() {
+        match take_segment(alloc, device, front, taker, weight, &mut ahead, place) {
             Ok((more, all)) => {
                 taker = more;
                 weight = all;
@@ -123,17 +129,18 @@ fn take_segments<D: SectorDevice, T: TakesRows>(
 ///
 /// # Errors
 /// `SegmentUnread` or `SegmentDamaged` with the place of the first segment that fails; `Device`; `OutOfMemory`.
-pub(crate) fn take_entry<D: SectorDevice, T: TakesRows>(
+pub(crate) fn take_entry<D: SegmentSource, T: TakesRows>(
     alloc: Global,
     device: &mut D,
     entry: &TableEntry,
     start: T,
 ) -> Result<T, Refusal>
     requires size { is_size (D.size device.old) ≡ true }
-    requires placed { all_on_device (D.size device.old) (runs_in_segments (plain_entry entry.now).segments) ≡ true }
+    requires readable { AreReadable (D.can_read device.old) (plain_entry entry.now).segments }
     requires sound { is_entry (plain_entry entry.now) ≡ true }
     requires takes { T.takes start (plain_entry entry.now).schema }
     ensures reads { OnlyReadsDevice D.size D.story D.failed D.tells (ended result) device.old device.new }
+    ensures goes_on { D.goes_on device.old device.new }
     ensures taken { IfOk result (λ taker. (t : PlainTable) × IsRead D.tells (shown_image (now (D.story device.old))) (plain_entry entry.now) t
         × T.has_taken start t.rows taker) }
     ensures unread { IfErr result (Unreads D.tells (shown_image (now (D.story device.old))) (plain_entry entry.now)) }

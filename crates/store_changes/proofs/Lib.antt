@@ -15,3 +15,4 @@ mod Refilled
 mod Drafts
 mod AtLine
 mod NewDigests
+mod ReadEarly

@@ -3,7 +3,9 @@ pub mod Picked
 pub mod Draft
 pub mod Finding
 pub mod OnDisk
+pub mod Source
 pub mod ReadSegment
+pub mod Ahead
 pub mod Exchanging
 pub mod Under
 pub mod Verdicts

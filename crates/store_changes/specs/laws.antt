@@ -25,6 +25,7 @@ pub mod Tested
 pub mod Decided
 pub mod Placed
 pub mod Prepared
+pub mod Sources
 pub mod ReadTables
 pub mod ReadRows
 pub mod Quiet
@@ -33,3 +34,4 @@ pub mod Lines
 pub mod Leading
 pub mod StepParts
 pub mod StepChanges
+pub mod Ahead

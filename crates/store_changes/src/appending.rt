@@ -5,8 +5,8 @@ ghost use Rattle.sector_dev.specs.Disk.{Image, now, shown_image};
 ghost use Rattle.cells.specs.Cell.{Cell};
 ghost use Rattle.cells.specs.Weight.{table_weight};
 ghost use Rattle.catalogue.specs.Edits.{entry_of};
-ghost use Rattle.catalogue.specs.Entries.{plain_entry, is_entry, PlainCatalogue, runs_in_segments};
-ghost use Rattle.commit.specs.Standing.{is_size, all_on_device};
+ghost use Rattle.catalogue.specs.Entries.{plain_entry, is_entry, PlainCatalogue};
+ghost use Rattle.commit.specs.Standing.{is_size};
 ghost use Rattle.values.specs.Table.{IsTable};
 ghost use Rattle.values.specs.TableView.{table_of};
 ghost use Rattle.store_runs.specs.Calls.{is_failure};
@@ -16,16 +16,17 @@ ghost use Rattle.store_runs.specs.Deciding.{Addition, decided_extension, pieces_
 ghost use Rattle.store_runs.specs.Reading.{OnlyReadsDevice, ended};
 ghost use Rattle.store_changes.specs.Appending.{added_to, ArePassed, IsAppended, IsAppendedUnwritten};
 ghost use Rattle.store_changes.specs.laws.Quiet.{IsQuiet};
+ghost use Rattle.store_changes.specs.Source.{AreReadable};
 ghost use Rattle.store_changes.specs.Tests.{Tests, decision_of};
 
 use crate::change::{Change, Edit, NewSegments, SegmentRows};
 use crate::lightness::{is_surely_light, stays_light};
 use crate::new_rows::{NewRows, pass_new};
+use crate::source::SegmentSource;
 use crate::weighing::weigh_entry;
 use catalogue::TableEntry;
 use cells::MAX_TABLE_WEIGHT;
 use ipc_encode::pieces_are_tables;
-use sector_dev::SectorDevice;
 use std::alloc::{AllocError, Global};
 use tables::{Limit, Refusal};
 use values::{Table, WeighedTable};
@@ -114,7 +115,7 @@ fn append_unread(
 }
 
 // The same where the table is read for its weight. Rows that are too heavy for any table are not kept.
-fn append_after_reading<D: SectorDevice>(
+fn append_after_reading<D: SegmentSource>(
     alloc: Global,
     device: &mut D,
     entry: &TableEntry,
@@ -122,10 +123,11 @@ fn append_after_reading<D: SectorDevice>(
     passed: Option<WeighedTable>,
 ) -> Result<Change, Refusal>
     requires size { is_size (D.size device.old) ≡ true }
-    requires placed { all_on_device (D.size device.old) (runs_in_segments (plain_entry entry.now).segments) ≡ true }
+    requires readable { AreReadable (D.can_read device.old) (plain_entry entry.now).segments }
     requires sound { is_entry (plain_entry entry.now) ≡ true }
     requires passed { IfSome passed (λ w. IsTable (rows_under (plain_entry entry.now).schema (table_of w.table).rows)) }
     ensures reads { OnlyReadsDevice D.size D.story D.failed D.tells (ended result) device.old device.new }
+    ensures goes_on { D.goes_on device.old device.new }
     ensures ok { IfOk result (λ change. (c : PlainCatalogue) → entry_of c (string_bytes name) ≡ Some (plain_entry entry.now)
         → CanChange c (change_of change)) }
     ensures answers { (tested : Result Addition Refusal) → ArePassed (plain_entry entry.now) tested passed
@@ -152,7 +154,7 @@ fn append_after_reading<D: SectorDevice>(
 ///
 /// # Errors
 /// Those of the new rows, in their order; those of reading the table; `TooMany(Weight)`; `OutOfMemory`.
-pub fn append_to_entry<D: SectorDevice>(
+pub fn append_to_entry<D: SegmentSource>(
     alloc: Global,
     device: &mut D,
     entry: &TableEntry,
@@ -160,9 +162,10 @@ pub fn append_to_entry<D: SectorDevice>(
     new: NewRows,
 ) -> Result<Change, Refusal>
     requires size { is_size (D.size device.old) ≡ true }
-    requires placed { all_on_device (D.size device.old) (runs_in_segments (plain_entry entry.now).segments) ≡ true }
+    requires readable { AreReadable (D.can_read device.old) (plain_entry entry.now).segments }
     requires sound { is_entry (plain_entry entry.now) ≡ true }
     ensures reads { OnlyReadsDevice D.size D.story D.failed D.tells (ended result) device.old device.new }
+    ensures goes_on { D.goes_on device.old device.new }
     ensures ok { IfOk result (λ change. (c : PlainCatalogue) → entry_of c (string_bytes name) ≡ Some (plain_entry entry.now)
         → CanChange c (change_of change)) }
     ensures answers { IsAppended D.tells (shown_image (now (D.story device.old))) (string_bytes name) (added_to new (plain_entry entry.now))

@@ -125,7 +125,7 @@ fn low_runs(alloc: Global, from: u64, runs: &[Run]) -> Result<Vec<Run>, AllocErr
 }
 
 // Returns the place of the stream that starts at this sector.
-fn place_of(starts: &[u64], start: u64) -> usize
+pub(crate) fn place_of(starts: &[u64], start: u64) -> usize
     requires { (from : ℕ) × (streams : List (List ℕ)) × (place : ℕ) × (starts.now ≡ starts_from from streams)
         × (slice_get starts.now place ≡ Some start) }
     ensures { slice_get starts.now result ≡ Some start }

@@ -4,6 +4,7 @@
 //! segments, takes runs and becomes a plan. A step of a compaction and the digests of an upgrade become plans in the same way.
 #![tactic(auto)]
 
+mod ahead;
 mod appending;
 mod change;
 mod compacting;
@@ -20,9 +21,11 @@ mod pairs;
 mod preparing;
 mod reading;
 mod rebuilding;
+mod source;
 mod table_builder;
 mod weighing;
 
+pub use ahead::ReadAhead;
 pub use appending::{append_to_entry, append_to_unwritten};
 pub use change::{Change, Edit, NewSegments, SegmentRows};
 pub use compacting::{Step, decide_step};
@@ -39,4 +42,5 @@ pub use new_rows::NewRows;
 pub use preparing::{Prepared, prepare, settle};
 pub use reading::{read_entry, read_next_segment, read_segment};
 pub use rebuilding::has_new;
+pub use source::SegmentSource;
 pub use weighing::weigh_entry;

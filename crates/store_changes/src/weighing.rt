@@ -1,5 +1,5 @@
-// Weighs the rows of an entry's segments. One segment is kept at a time.
-ghost use Rattle.std.specs.Prelude.{◌≡◌, ◌≤◌, ℕ, true, List, Option, IfOk, IfErr};
+// Weighs the rows of an entry's segments. One segment is decoded at a time.
+ghost use Rattle.std.specs.Prelude.{◌≡◌, ◌≤◌, ◌+◌, ℕ, true, List, Option, IfOk, IfErr};
 ghost use Rattle.std.specs.List.{list_all};
 ghost use Rattle.sector_dev.specs.Disk.{now, shown_image};
 ghost use Rattle.arrow_schema.specs.Column.{PlainSchema};
@@ -10,43 +10,48 @@ ghost use Rattle.cells.specs.declared.limits.TheConstants.{MAX_TABLE_WEIGHT};
 ghost use Rattle.values.specs.Table.{IsTable};
 ghost use Rattle.ipc_write.specs.Written.{schema_message};
 ghost use Rattle.segments.specs.declared.extent.Extent.{Extent};
-ghost use Rattle.catalogue.specs.Entries.{is_segment, is_entry, plain_entry, runs_in_segments};
-ghost use Rattle.commit.specs.Standing.{is_size, is_on_device, all_on_device};
+ghost use Rattle.catalogue.specs.Entries.{is_segment, is_entry, plain_entry};
+ghost use Rattle.commit.specs.Standing.{is_size};
 ghost use Rattle.store_runs.specs.Changes.{rows_under};
 ghost use Rattle.store_runs.specs.Reading.{IsRead, Unreads, OnlyReadsDevice, ended};
+ghost use Rattle.store_changes.specs.Ahead.{segments_ahead, segment_ahead, IsAhead, IsNext};
 ghost use Rattle.store_changes.specs.ReadSegment.{UnreadsSegment};
+ghost use Rattle.store_changes.specs.Source.{AreReadable};
 ghost use Rattle.store_changes.specs.inner.ReadRows.{WeighsRows, WeighsNext};
 
+use crate::ahead::ReadAhead;
 use crate::laws::table_laws;
 use crate::reading::read_next_segment;
+use crate::source::SegmentSource;
 use catalogue::{Segment, TableEntry};
 use ipc_write::encode_schema;
-use sector_dev::SectorDevice;
 use std::alloc::Global;
 use tables::Refusal;
 
 // Reads the segment at this place of a table, whose rows before it weigh `before`. Returns the weight of all rows up to its end.
-fn weigh_next<D: SectorDevice>(
+fn weigh_next<D: SegmentSource>(
     alloc: Global,
     device: &mut D,
     front: &[u8],
-    segment: Segment,
+    ahead: &mut ReadAhead<'_>,
     place: usize,
     before: u64,
 ) -> Result<u64, Refusal>
     requires size { is_size (D.size device.old) ≡ true }
-    requires placed { is_on_device (D.size device.old) segment.place.run ≡ true }
-    requires sound { is_segment segment ≡ true }
+    requires next { IsNext (D.can_read device.old) D.tells (shown_image (now (D.story device.old))) place ahead.old }
     requires light { before ≤ MAX_TABLE_WEIGHT }
     ensures reads { OnlyReadsDevice D.size D.story D.failed D.tells (ended result) device.old device.new }
+    ensures goes_on { D.goes_on device.old device.new }
     ensures light { IfOk result (λ w. w ≤ MAX_TABLE_WEIGHT) }
     ensures weight { IfOk result (λ w. (s : PlainSchema) (rows : List (List Cell)) → front.now ≡ schema_message s → IsTable (rows_under s rows)
-        → before ≡ table_weight s rows → WeighsNext D.tells (shown_image (now (D.story device.old))) s rows segment w) }
+        → before ≡ table_weight s rows → WeighsNext D.tells (shown_image (now (D.story device.old))) s rows (segment_ahead ahead.old place) w) }
     ensures unread { IfErr result (λ e. (s : PlainSchema) (rows : List (List Cell)) → IsWithinLimits s → front.now ≡ schema_message s
-        → before ≡ table_weight s rows → UnreadsSegment D.tells (shown_image (now (D.story device.old))) s rows segment place e) }
+        → before ≡ table_weight s rows → UnreadsSegment D.tells (shown_image (now (D.story device.old))) s rows (segment_ahead ahead.old place) place e) }
+    ensures ahead { IfOk result (λ w.
+        IsAhead D.tells (shown_image (now (D.story device.new))) (segments_ahead ahead.old) (place + 1) ahead.new) }
 {
     table_laws();
-    match read_next_segment(alloc, device, front, segment, place, before) {
+    match read_next_segment(alloc, device, front, ahead, place, before) {
         Ok(next) => {
             next.table.schema();
             Ok(before + next.weight)
@@ -56,24 +61,26 @@ fn weigh_next<D: SectorDevice>(
 }
 
 // Weighs the rows of all segments.
-fn weigh_segments<D: SectorDevice>(
+fn weigh_segments<D: SegmentSource>(
     alloc: Global,
     device: &mut D,
     front: &[u8],
     segments: &[Segment],
 ) -> Result<u64, Refusal>
     requires size { is_size (D.size device.old) ≡ true }
-    requires placed { all_on_device (D.size device.old) (runs_in_segments segments.now) ≡ true }
+    requires readable { AreReadable (D.can_read device.old) segments.now }
     requires sound { list_all is_segment segments.now ≡ true }
     ensures reads { OnlyReadsDevice D.size D.story D.failed D.tells (ended result) device.old device.new }
+    ensures goes_on { D.goes_on device.old device.new }
     ensures weight { IfOk result (λ w. (s : PlainSchema) → IsWithinLimits s → front.now ≡ schema_message s
         → WeighsRows D.tells (shown_image (now (D.story device.old))) s segments.now w) }
     ensures unread { IfErr result (λ e. (s : PlainSchema) (name : List ℕ) (page : Option Extent) → IsWithinLimits s → front.now ≡ schema_message s
         → Unreads D.tells (shown_image (now (D.story device.old))) (record { name = name; schema = s; segments = segments.now; page = page }) e) }
 {
+    let mut ahead = ReadAhead::new(segments);
     let mut weight = 0;
-    for (place, segment) in segments.iter().enumerate() {
-        match weigh_next(alloc, device, front, *segment, place, weight) {
+    for place in 0..segments.len() {
+        match weigh_next(alloc, device, front, &mut ahead, place, weight) {
             Ok(more) => weight = more,
             Err(refusal) => return Err(refusal),
         }
@@ -85,15 +92,16 @@ fn weigh_segments<D: SectorDevice>(
 ///
 /// # Errors
 /// `SegmentUnread` or `SegmentDamaged` with the place of the first segment that fails; `Device`; `OutOfMemory`.
-pub fn weigh_entry<D: SectorDevice>(
+pub fn weigh_entry<D: SegmentSource>(
     alloc: Global,
     device: &mut D,
     entry: &TableEntry,
 ) -> Result<u64, Refusal>
     requires size { is_size (D.size device.old) ≡ true }
-    requires placed { all_on_device (D.size device.old) (runs_in_segments (plain_entry entry.now).segments) ≡ true }
+    requires readable { AreReadable (D.can_read device.old) (plain_entry entry.now).segments }
     requires sound { is_entry (plain_entry entry.now) ≡ true }
     ensures reads { OnlyReadsDevice D.size D.story D.failed D.tells (ended result) device.old device.new }
+    ensures goes_on { D.goes_on device.old device.new }
     ensures weight { IfOk result (λ w. (table : PlainTable) × IsRead D.tells (shown_image (now (D.story device.old))) (plain_entry entry.now) table
         × (w ≡ table_weight table.schema table.rows)) }
     ensures unread { IfErr result (Unreads D.tells (shown_image (now (D.story device.old))) (plain_entry entry.now)) }

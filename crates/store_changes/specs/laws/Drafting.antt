@@ -337,13 +337,13 @@ module _ (one : OneSchema) (from : ℕ) (old made : PlainCatalogue) (gone : List
 
 -- ---- the whole list
 
-starts_above : (next : ℕ) (ss : List (List ℕ)) (i n : ℕ) → slice_get (starts_from next ss) i ≡ Some n → next ≤ n
+pub starts_above : (next : ℕ) (ss : List (List ℕ)) (i n : ℕ) → slice_get (starts_from next ss) i ≡ Some n → next ≤ n
 starts_above next [] i n at = absurd (cc at)
 starts_above next (s ∷ ss) zero n at = let same : next ≡ n = cc at in omega (arith, same)
 starts_above next (s ∷ ss) (suc i) n at = let more = starts_above (next + sector_count (length s)) ss i n at in omega (arith, more)
 
 -- each starts at a sector of its own
-one_place : (next : ℕ) (ss : List (List ℕ)) (i j n : ℕ) → AllByRecursion (λ (s : List ℕ). 1 ≤ length s) ss → slice_get (starts_from next ss) i ≡ Some n → slice_get (starts_from next ss) j ≡ Some n → i ≡ j
+pub one_place : (next : ℕ) (ss : List (List ℕ)) (i j n : ℕ) → AllByRecursion (λ (s : List ℕ). 1 ≤ length s) ss → slice_get (starts_from next ss) i ≡ Some n → slice_get (starts_from next ss) j ≡ Some n → i ≡ j
 one_place next [] i j n some a b = absurd (cc a)
 one_place next (s ∷ ss) zero zero n some a b = refl
 one_place next (s ∷ ss) zero (suc j) n some a b = let here : next ≡ n = cc a in let above = starts_above (next + sector_count (length s)) ss j n b in let own = some.0 in absurd (omega (arith, here, above, own))

@@ -14,6 +14,7 @@ use Rattle.store_changes.specs.Tests.{decision_of}
 use Rattle.store_changes.specs.laws.Lines.{old_placed, old_agrees, append_read, append_unwritten}
 use Rattle.store_changes.specs.laws.Quiet.{IsQuiet}
 use Rattle.store_changes.specs.laws.ReadTables.{reads_quiet}
+use Rattle.store_changes.specs.laws.Sources.{on_device_readable}
 use Rattle.store.proofs.Applied.{ended_quiet}
 use Rattle.store.proofs.AtNames.{append_nowhere}
 use Rattle.store.proofs.drafting.append_line.Goals as goal
@@ -22,12 +23,13 @@ pub append_to_unwritten-requires : goal.append_to_unwritten-requires
 append_to_unwritten-requires g c =
     record { sound = found_passes is_entry (catalogue_of c.args.draft.now.made) _ (plain_entry c.in-Some.entry.now) c.in-Some.ensures.kept.entries (sym c.in-Some.ensures.entry) }
 
-pub append_to_entry-requires-clause-placed : goal.append_to_entry-requires-clause-placed
-append_to_entry-requires-clause-placed g c =
+pub append_to_entry-requires-clause-readable : goal.append_to_entry-requires-clause-readable
+append_to_entry-requires-clause-readable g c =
     let d = c.args.draft.now in
     let made = catalogue_of d.made in
     let e = plain_entry c.in-Some.entry.now in
-    old_placed d.from (catalogue_of d.old) made d.gone.items (streams_of d) c.requires.draft.drafted _ e (sym c.in-Some.ensures.entry) (c.has_new.ensures.none c.if-has_new.false) (g.D.SectorDevice.size c.args.device.now) c.requires.placed
+    on_device_readable (g.D.SectorDevice.size c.args.device.now) (plain_entry c.in-Some.entry.now).segments
+    (old_placed d.from (catalogue_of d.old) made d.gone.items (streams_of d) c.requires.draft.drafted _ e (sym c.in-Some.ensures.entry) (c.has_new.ensures.none c.if-has_new.false) (g.D.SectorDevice.size c.args.device.now) c.requires.placed)
 
 pub append_to_entry-requires-clause-sound : goal.append_to_entry-requires-clause-sound
 append_to_entry-requires-clause-sound g c = found_passes is_entry (catalogue_of c.args.draft.now.made) _ (plain_entry c.in-Some.entry.now) c.in-Some.ensures.kept.entries (sym c.in-Some.ensures.entry)

@@ -13,14 +13,15 @@ use Rattle.store_changes.specs.Draft.{laid, streams_of}
 use Rattle.store_changes.specs.Tests.{decision_of}
 use Rattle.store_changes.specs.laws.Lines.{old_placed, old_agrees, save_read, save_unwritten}
 use Rattle.store_changes.specs.laws.ReadTables.{reads_quiet}
+use Rattle.store_changes.specs.laws.Sources.{on_device_readable}
 use Rattle.store.proofs.AtNames.{save_nowhere}
 use Rattle.store.proofs.drafting.save_line.Goals as goal
 
-pub save_from_entry-requires-clause-placed : goal.save_from_entry-requires-clause-placed
-save_from_entry-requires-clause-placed g c =
+pub save_from_entry-requires-clause-readable : goal.save_from_entry-requires-clause-readable
+save_from_entry-requires-clause-readable g c =
     let d = c.args.draft.now in
-    old_placed d.from (catalogue_of d.old) (catalogue_of d.made) d.gone.items (streams_of d) c.requires.draft.drafted _ (plain_entry c.in-Some.entry.now) (sym c.in-Some.ensures.entry) (c.has_new.ensures.none c.if-has_new.false)
-    (g.D.SectorDevice.size c.args.device.now) c.requires.placed
+    on_device_readable (g.D.SectorDevice.size c.args.device.now) (plain_entry c.in-Some.entry.now).segments
+    (old_placed d.from (catalogue_of d.old) (catalogue_of d.made) d.gone.items (streams_of d) c.requires.draft.drafted _ (plain_entry c.in-Some.entry.now) (sym c.in-Some.ensures.entry) (c.has_new.ensures.none c.if-has_new.false) (g.D.SectorDevice.size c.args.device.now) c.requires.placed)
 
 pub save_from_entry-requires-clause-sound : goal.save_from_entry-requires-clause-sound
 save_from_entry-requires-clause-sound g c = found_passes is_entry (catalogue_of c.args.draft.now.made) _ (plain_entry c.in-Some.entry.now) c.in-Some.ensures.kept.entries (sym c.in-Some.ensures.entry)

@@ -36,7 +36,7 @@ put_selection-requires g c =
 
 pub returns-in-Err-clause-reads : goal.returns-in-Err-clause-reads
 returns-in-Err-clause-reads g c =
-    let D = g.D.SectorDevice in reads_quiet D.size D.story D.failed D.tells _ c.args.device.now c.in-Err.ensures.no_device
+    let D = g.D.SegmentSource in reads_quiet D.size D.story D.failed D.tells _ c.args.device.now c.in-Err.ensures.no_device
 
 pub returns-in-Ok-put_selection-clause-ok : goal.returns-in-Ok-put_selection-clause-ok
 returns-in-Ok-put_selection-clause-ok g c =
@@ -61,7 +61,7 @@ returns-in-Ok-put_selection-clause-ok g c =
 
 pub returns-in-Ok-put_selection-clause-answers : goal.returns-in-Ok-put_selection-clause-answers
 returns-in-Ok-put_selection-clause-answers g c =
-    let D = g.D.SectorDevice in
+    let D = g.D.SegmentSource in
     let listed : PlainCatalogue = catalogue_of c.args.catalogue.now in
     let to : List ℕ = string_bytes c.args.to in
     let e : PlainEntry = plain_entry c.args.entry.now in
@@ -78,7 +78,7 @@ returns-in-Err-take_entry-clause-reads g c = c.in-Err-take_entry.ensures.reads
 
 pub returns-in-Err-take_entry-clause-answers : goal.returns-in-Err-take_entry-clause-answers
 returns-in-Err-take_entry-clause-answers g c =
-    let D = g.D.SectorDevice in
+    let D = g.D.SegmentSource in
     let listed : PlainCatalogue = catalogue_of c.args.catalogue.now in
     let to : List ℕ = string_bytes c.args.to in
     let e : PlainEntry = plain_entry c.args.entry.now in
@@ -88,12 +88,12 @@ returns-in-Err-take_entry-clause-answers g c =
 
 pub returns-in-Err-take_entry-clause-not_halted : goal.returns-in-Err-take_entry-clause-not_halted
 returns-in-Err-take_entry-clause-not_halted g c = λ is.
-    let D = g.D.SectorDevice in
+    let D = g.D.SegmentSource in
     subst (λ (r : Refusal). Unreads D.tells (shown_image (now (D.story c.args.device.now))) (plain_entry c.args.entry.now) r) is c.in-Err-take_entry.ensures.unread
 
 pub returns-in-Err-clause-answers : goal.returns-in-Err-clause-answers
 returns-in-Err-clause-answers g c =
-    let D = g.D.SectorDevice in
+    let D = g.D.SegmentSource in
     let listed : PlainCatalogue = catalogue_of c.args.catalogue.now in
     let to : List ℕ = string_bytes c.args.to in
     let e : PlainEntry = plain_entry c.args.entry.now in

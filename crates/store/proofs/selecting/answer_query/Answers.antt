@@ -2,7 +2,15 @@ use Rattle.std.proofs.Common.{◌≡◌, ◌++◌, ℕ, [], List, sym, ap, ◌�
 use Rattle.arrow_schema.specs.Column.{PlainSchema}
 use Rattle.query.specs.Selection.{pick}
 use Rattle.selection.specs.LinePrinter.{printer_in, printed_lines}
+use Rattle.catalogue.specs.Entries.{plain_entry}
+use Rattle.store_changes.specs.laws.Sources.{on_device_readable}
 use Rattle.store.proofs.selecting.answer_query.Goals as goal
+
+pub take_entry-requires-clause-readable : goal.take_entry-requires-clause-readable
+take_entry-requires-clause-readable g c = on_device_readable (g.D.SectorDevice.size c.args.device.now) (plain_entry c.args.entry.now).segments c.requires.placed
+
+pub weigh_entry-requires-clause-readable : goal.weigh_entry-requires-clause-readable
+weigh_entry-requires-clause-readable g c = on_device_readable (g.D.SectorDevice.size c.args.device.now) (plain_entry c.args.entry.now).segments c.requires.placed
 
 pub take_entry-requires-clause-takes : goal.take_entry-requires-clause-takes
 take_entry-requires-clause-takes g c =

@@ -3,9 +3,8 @@ use Rattle.std.proofs.Common.{◌≡◌, true, List, refl, sym, ap, ◌∙◌, s
 use Rattle.sector_dev.specs.Disk.{now, shown_image}
 use Rattle.arrow_schema.specs.Limits.{IsWithinLimits}
 use Rattle.catalogue.specs.declared.entry.Segment.{Segment}
-use Rattle.catalogue.specs.Entries.{plain_entry, is_segment, runs_in_segments}
+use Rattle.catalogue.specs.Entries.{plain_entry, is_segment}
 use Rattle.catalogue.specs.laws.Kept.{entry_is}
-use Rattle.commit.specs.Standing.{all_on_device}
 use Rattle.ipc_write.specs.Written.{schema_message}
 use Rattle.tables.specs.declared.refusal.Refusal.TheVariants.{OutOfMemory}
 use Rattle.store_runs.specs.Calls.{refused}
@@ -13,15 +12,16 @@ use Rattle.store_runs.specs.Changes.{rows_under}
 use Rattle.store_runs.specs.Reading.{Unreads}
 use Rattle.store_changes.specs.inner.ReadRows.{ReadsRows}
 use Rattle.store_changes.specs.laws.ReadRows.{rows_are_read}
+use Rattle.store_changes.specs.Source.{AreReadable}
 use Rattle.store_changes.specs.laws.ReadTables.{reads_quiet}
 use Rattle.store.proofs.taking.take_entry.Goals as goal
 
 pub encode_schema-requires : goal.encode_schema-requires
 encode_schema-requires g c = subst IsWithinLimits (sym c.schema.ensures) (entry_is (plain_entry c.args.entry.now) c.requires.sound).schema
 
-pub take_segments-requires-clause-placed : goal.take_segments-requires-clause-placed
-take_segments-requires-clause-placed g c =
-    let size = g.D.SectorDevice.size c.args.device.now in subst (λ (gs : List Segment). all_on_device size (runs_in_segments gs) ≡ true) (sym c.segments.ensures) c.requires.placed
+pub take_segments-requires-clause-readable : goal.take_segments-requires-clause-readable
+take_segments-requires-clause-readable g c =
+    subst (AreReadable (g.D.SegmentSource.can_read c.args.device.now)) (sym c.segments.ensures) c.requires.readable
 
 pub take_segments-requires-clause-sound : goal.take_segments-requires-clause-sound
 take_segments-requires-clause-sound g c =
@@ -34,7 +34,7 @@ take_segments-requires-clause-takes g c =
 
 pub returns-in-Ok-take_segments-clause-taken : goal.returns-in-Ok-take_segments-clause-taken
 returns-in-Ok-take_segments-clause-taken g c =
-    let D = g.D.SectorDevice in
+    let D = g.D.SegmentSource in
     let image = shown_image (now (D.story c.args.device.now)) in
     let e = plain_entry c.args.entry.now in
     let within = (entry_is e c.requires.sound).schema in
@@ -45,7 +45,7 @@ returns-in-Ok-take_segments-clause-taken g c =
 
 pub returns-in-Ok-clause-unread : goal.returns-in-Ok-clause-unread
 returns-in-Ok-clause-unread g c =
-    let D = g.D.SectorDevice in
+    let D = g.D.SegmentSource in
     let image = shown_image (now (D.story c.args.device.now)) in
     let e = plain_entry c.args.entry.now in
     let within = (entry_is e c.requires.sound).schema in
@@ -56,4 +56,7 @@ returns-in-Ok-clause-unread g c =
 
 -- without memory no call of the device is made
 pub returns-clause-reads : goal.returns-clause-reads
-returns-clause-reads g c = let D = g.D.SectorDevice in reads_quiet D.size D.story D.failed D.tells (refused OutOfMemory) c.args.device.now refl
+returns-clause-reads g c = let D = g.D.SegmentSource in reads_quiet D.size D.story D.failed D.tells (refused OutOfMemory) c.args.device.now refl
+
+pub returns-clause-goes_on : goal.returns-clause-goes_on
+returns-clause-goes_on g c = g.met.D.SegmentSource.stays c.args.device.now

@@ -8,14 +8,17 @@ use Rattle.cells.specs.declared.limits.TheConstants.{MAX_TABLE_WEIGHT}
 use Rattle.ipc_write.specs.Written.{schema_message}
 use Rattle.store_runs.specs.Calls.{done}
 use Rattle.store_runs.specs.Reading.{OnlyReadsDevice}
+use Rattle.store_changes.specs.Ahead.{IsAhead}
 use Rattle.store_changes.specs.inner.ReadRows.{ReadsRows}
 use Rattle.store.specs.inner.Taking.{TakesUnder}
 use Rattle.store.proofs.taking.take_segments.Given as goal
 
 -- the rows of the first segments were taken
 abbrev pub invariant-loop-place : goal.invariant-loop-place
-invariant-loop-place g l = let D = g.D.SectorDevice in let T = g.T.TakesRows in record {
+invariant-loop-place g l = let D = g.D.SegmentSource in let T = g.T.TakesRows in record {
   reads : OnlyReadsDevice D.size D.story D.failed D.tells done l.fn.device l.device;
+  goes_on : D.goes_on l.fn.device l.device;
+  ahead : IsAhead D.tells (shown_image (now (D.story l.device))) l.segments l.place l.ahead;
   light : l.weight ≤ MAX_TABLE_WEIGHT;
   takes : TakesUnder (T.takes l.taker) l.front;
   taken : (s : PlainSchema) → IsWithinLimits s → l.front ≡ schema_message s → (rows : List (List Cell))

@@ -12,12 +12,12 @@ use Rattle.store_changes.proofs.appending.append_after_reading.Goals as goal
 
 pub returns-in-Some-clause-reads : goal.returns-in-Some-clause-reads
 returns-in-Some-clause-reads g c =
-    let D = g.D.SectorDevice in
+    let D = g.D.SegmentSource in
     reads_ended D.size D.story D.failed D.tells c.decide_extension.result c.args.device.now c.weigh_entry.new.device c.decide_extension.ensures.no_device c.in-Ok.ensures.reads
 
 pub returns-in-Some-clause-answers : goal.returns-in-Some-clause-answers
 returns-in-Some-clause-answers g c = λ tested are.
-    let D = g.D.SectorDevice in
+    let D = g.D.SegmentSource in
     let e = plain_entry c.args.entry.now in
     let standing = c.in-Ok.ensures.weight in
     let rows = (table_of c.in-Some.field-0.table).rows in
@@ -30,7 +30,7 @@ returns-in-Some-clause-answers g c = λ tested are.
 
 pub returns-in-None-clause-answers : goal.returns-in-None-clause-answers
 returns-in-None-clause-answers g c = λ tested are.
-    let D = g.D.SectorDevice in
+    let D = g.D.SegmentSource in
     let e = plain_entry c.args.entry.now in
     let passed = rw c.in-None.is at are in
     let standing = c.in-Ok.ensures.weight in
@@ -52,11 +52,11 @@ returns-in-Err-clause-reads g c = c.in-Err.ensures.reads
 
 pub returns-in-Err-clause-answers : goal.returns-in-Err-clause-answers
 returns-in-Err-clause-answers g c = λ tested are.
-    let D = g.D.SectorDevice in
+    let D = g.D.SegmentSource in
     let e = plain_entry c.args.entry.now in
     unread_told D.tells (shown_image (now (D.story c.args.device.now))) (string_bytes c.args.name) e tested c.args.passed c.in-Err.refusal are c.in-Err.ensures.unread
 
 pub returns-in-Err-clause-not_halted : goal.returns-in-Err-clause-not_halted
 returns-in-Err-clause-not_halted g c = λ is.
-    let D = g.D.SectorDevice in
+    let D = g.D.SegmentSource in
     subst (λ (r : Refusal). Unreads D.tells (shown_image (now (D.story c.args.device.now))) (plain_entry c.args.entry.now) r) is c.in-Err.ensures.unread

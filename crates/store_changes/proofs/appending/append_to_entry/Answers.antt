@@ -19,12 +19,12 @@ append_unread-requires g c = let passed = rw c.in-Ok-Some.field-0-is at c.in-Ok-
 
 pub returns-then-stays_light-clause-reads : goal.returns-then-stays_light-clause-reads
 returns-then-stays_light-clause-reads g c =
-    let D = g.D.SectorDevice in
+    let D = g.D.SegmentSource in
     reads_ended D.size D.story D.failed D.tells c.append_unread.result c.args.device.now c.args.device.now c.append_unread.ensures.no_device (reads_none D.size D.story D.failed D.tells c.args.device.now)
 
 pub returns-then-stays_light-clause-answers : goal.returns-then-stays_light-clause-answers
 returns-then-stays_light-clause-answers g c =
-    let D = g.D.SectorDevice in
+    let D = g.D.SegmentSource in
     let e = plain_entry c.args.entry.now in
     let passed = rw c.in-Ok-Some.field-0-is at c.in-Ok-Some.ensures.passed in
     let rows = (table_of c.in-Ok-Some.weighed.table).rows in
@@ -43,12 +43,12 @@ returns-in-Ok-None-clause-answers g c =
 
 pub returns-in-Err-clause-reads : goal.returns-in-Err-clause-reads
 returns-in-Err-clause-reads g c =
-    let D = g.D.SectorDevice in
+    let D = g.D.SegmentSource in
     reads_quiet D.size D.story D.failed D.tells (refused c.in-Err.refusal) c.args.device.now (passes_quiet c.args.new (plain_entry c.args.entry.now) c.in-Err.refusal c.in-Err.ensures.refused).device
 
 pub returns-in-Err-clause-answers : goal.returns-in-Err-clause-answers
 returns-in-Err-clause-answers g c =
-    let D = g.D.SectorDevice in
+    let D = g.D.SegmentSource in
     passes_told c.args.new (plain_entry c.args.entry.now) c.in-Err.refusal c.in-Err.ensures.refused D.tells (shown_image (now (D.story c.args.device.now))) (string_bytes c.args.name)
 
 pub returns-in-Err-clause-not_halted : goal.returns-in-Err-clause-not_halted

@@ -16,8 +16,8 @@ returns-then-not-fits_below-clause-found g c =
     let is = last_is (map plain_entry c.args.entries.now) last c.in-Some.ensures in
     inr (record { number = last.table; place = last.place; entry = is.0; segment = last.segment; last = is.1; still = c.fits_below.ensures.still c.if-not-fits_below.true })
 
-pub read_bytes-requires-clause-placed : goal.read_bytes-requires-clause-placed
-read_bytes-requires-clause-placed g c =
+pub read_bytes-requires-clause-readable : goal.read_bytes-requires-clause-readable
+read_bytes-requires-clause-readable g c =
     let D = g.D.SectorDevice in last_placed (D.size c.args.device.now) (map plain_entry c.args.entries.now) c.requires.stands c.requires.placed c.in-Some.last c.in-Some.ensures
 
 pub read_bytes-requires-clause-sound : goal.read_bytes-requires-clause-sound

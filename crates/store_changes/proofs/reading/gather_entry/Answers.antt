@@ -3,16 +3,19 @@ use Rattle.sector_dev.specs.Disk.{now, shown_image}
 use Rattle.arrow_schema.specs.Column.{PlainSchema}
 use Rattle.arrow_schema.specs.Limits.{IsWithinLimits}
 use Rattle.cells.specs.Cell.{PlainTable}
-use Rattle.catalogue.specs.Entries.{PlainEntry, plain_entry, runs_in_segments}
+use Rattle.catalogue.specs.Entries.{PlainEntry, plain_entry}
 use Rattle.catalogue.specs.laws.Kept.{entry_is}
 use Rattle.catalogue.specs.declared.entry.Segment.{Segment}
-use Rattle.commit.specs.Standing.{all_on_device}
+use Rattle.commit.specs.Standing.{is_on_device}
 use Rattle.ipc_write.specs.Written.{schema_message}
 use Rattle.tables.specs.declared.refusal.Refusal.TheVariants.{OutOfMemory}
 use Rattle.store_runs.specs.Calls.{refused}
 use Rattle.store_changes.specs.inner.ReadRows.{ReadsRows}
 use Rattle.store_changes.specs.inner.TableBuilder.{table_so_far}
 use Rattle.store_runs.specs.Reading.{Unreads}
+use Rattle.segments.specs.declared.extent.Extent.{Extent}
+use Rattle.store_changes.specs.Source.{AreReadable}
+use Rattle.store_changes.specs.laws.Sources.{on_device_readable}
 use Rattle.store_changes.specs.laws.ReadTables.{reads_quiet}
 use Rattle.store_changes.specs.laws.ReadRows.{rows_are_read}
 use Rattle.store_changes.proofs.reading.gather_entry.Goals as goal
@@ -44,9 +47,10 @@ returns-in-Ok-clause-unread g c =
 
 -- ---- what is asked of the reading of its segments
 
-pub read_segments-requires-clause-placed : goal.read_segments-requires-clause-placed
-read_segments-requires-clause-placed g c =
-    let size = g.D.SectorDevice.size c.args.device.now in subst (λ (gs : List Segment). all_on_device size (runs_in_segments gs) ≡ true) (sym c.segments.ensures) c.requires.placed
+pub read_segments-requires-clause-readable : goal.read_segments-requires-clause-readable
+read_segments-requires-clause-readable g c =
+    let size = g.D.SectorDevice.size c.args.device.now in
+    subst (AreReadable (λ (place : Extent). is_on_device size place.run ≡ true)) (sym c.segments.ensures) (on_device_readable size (plain_entry c.args.entry.now).segments c.requires.placed)
 
 pub read_segments-requires-clause-limits : goal.read_segments-requires-clause-limits
 read_segments-requires-clause-limits g c = subst IsWithinLimits (sym (ap (λ (t : PlainTable). t.schema) c.in-Ok.ensures.empty ∙ c.schema.ensures)) (entry_is (plain_entry c.args.entry.now) c.requires.sound).schema

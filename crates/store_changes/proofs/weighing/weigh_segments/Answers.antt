@@ -1,19 +1,24 @@
 use Rattle.std.specs.Prelude.{get_or}
-use Rattle.std.proofs.Common.{[], List, refl, ap, ◌∙◌, subst, arith, take_all}
+use Rattle.std.proofs.Common.{◌+◌, [], List, refl, ap, ◌∙◌, subst, arith, take_all}
 use Rattle.sector_dev.specs.Disk.{now, shown_image}
 use Rattle.catalogue.specs.declared.entry.Segment.{Segment}
 use Rattle.commit.specs.Standing.{is_size}
 use Rattle.store_runs.specs.Calls.{done, refused}
-use Rattle.store_changes.specs.inner.ReadRows.{WeighsRows}
-use Rattle.store_changes.specs.laws.ReadTables.{no_segment, at_place, placed_at, sound_at, unreads_step, reads_more, reads_none, image_then}
+use Rattle.store_changes.specs.inner.ReadRows.{WeighsRows, WeighsNext}
+use Rattle.store_changes.specs.Ahead.{segment_at}
+use Rattle.store_changes.specs.ReadSegment.{UnreadsSegment}
+use Rattle.store_changes.specs.laws.Ahead.{still_readable, is_next, goes_ahead}
+use Rattle.store_changes.specs.laws.ReadTables.{no_segment, at_place, unreads_step, reads_more, reads_none, image_then}
 use Rattle.store_changes.specs.laws.ReadRows.{no_rows, reads_none_of, reads_step}
 use Rattle.store_changes.proofs.weighing.weigh_segments.Goals as goal
 
 pub loop-place-init : goal.loop-place-init
 loop-place-init g c =
-    let D = g.D.SectorDevice in
+    let D = g.D.SegmentSource in
     record {
       reads = reads_none D.size D.story D.failed D.tells c.args.device.now;
+      goes_on = g.met.D.SegmentSource.stays c.args.device.now;
+      ahead = c.new-ahead.ensures D.tells (shown_image (now (D.story c.args.device.now)));
       light = omega arith;
       weighs = λ s within message. ([], reads_none_of D.tells (shown_image (now (D.story c.args.device.now))) s (no_rows s within), refl);
     }
@@ -23,31 +28,35 @@ loop-place-init g c =
 pub weigh_next-requires-clause-size : goal.weigh_next-requires-clause-size
 weigh_next-requires-clause-size g c = ap is_size c.loop-place.invariant.reads.same ∙ c.requires.size
 
-pub weigh_next-requires-clause-placed : goal.weigh_next-requires-clause-placed
-weigh_next-requires-clause-placed g c =
-    let D = g.D.SectorDevice in
-    placed_at c.args.segments.now c.loop-place.place c.loop-place-test.true (D.size c.args.device.now) (D.size c.loop-place.device) c.loop-place.invariant.reads.same c.requires.placed
-
-pub weigh_next-requires-clause-sound : goal.weigh_next-requires-clause-sound
-weigh_next-requires-clause-sound g c = sound_at c.args.segments.now c.loop-place.place c.loop-place-test.true c.requires.sound
+pub weigh_next-requires-clause-next : goal.weigh_next-requires-clause-next
+weigh_next-requires-clause-next g c =
+    let D = g.D.SegmentSource in
+    let start = c.args.device.now in
+    let device = c.loop-place.device in
+    let segments = c.args.segments.now in
+    is_next D.tells (shown_image (now (D.story device))) segments c.loop-place.place c.loop-place.ahead (D.can_read device) c.loop-place-test.true
+    (still_readable (D.can_read start) (D.can_read device) segments (λ place. g.met.D.SegmentSource.still start device place c.loop-place.invariant.goes_on) c.requires.readable) c.requires.sound c.loop-place.invariant.ahead
 
 -- ---- one segment more
 
 pub loop-place-preserved : goal.loop-place-preserved
 loop-place-preserved g c =
-    let D = g.D.SectorDevice in
+    let D = g.D.SegmentSource in
     let segments = c.args.segments.now in
     let place = c.loop-place.place in
     let segment = get_or segments place no_segment in
     let inside = c.loop-place-test.true in
+    let same = c.loop-place.invariant.ahead.same in
     let before = D.story c.args.device.now in
     let mid = D.story c.loop-place.device in
     record {
       reads = reads_more D.size D.story D.failed D.tells done c.args.device.now c.loop-place.device c.weigh_next.new.device c.loop-place.invariant.reads c.in-Ok.ensures.reads;
+      goes_on = g.met.D.SegmentSource.onward c.args.device.now c.loop-place.device c.weigh_next.new.device c.loop-place.invariant.goes_on c.in-Ok.ensures.goes_on;
+      ahead = goes_ahead D.tells (shown_image (now (D.story c.weigh_next.new.device))) segments (place + 1) c.weigh_next.new.ahead c.loop-place.ahead same c.in-Ok.ensures.ahead;
       light = c.in-Ok.ensures.light;
       weighs = λ s within message.
           let so_far = c.loop-place.invariant.weighs s within message in
-          let next = c.in-Ok.ensures.weight s so_far.0 message so_far.1.kept so_far.2 in (
+          let next = subst (λ (gs : List Segment). WeighsNext D.tells (shown_image (now mid)) s so_far.0 (segment_at gs place) c.in-Ok.more) same (c.in-Ok.ensures.weight s so_far.0 message so_far.1.kept so_far.2) in (
             next.0,
             reads_step D.tells (shown_image (now before)) (shown_image (now mid)) (λ told. image_then before mid (c.loop-place.invariant.reads.moments told)) s segments place segment inside
                 (at_place segments place inside segment refl) so_far.0 next.0 so_far.1 next.1,
@@ -57,29 +66,38 @@ loop-place-preserved g c =
 
 pub returns-in-Err-clause-reads : goal.returns-in-Err-clause-reads
 returns-in-Err-clause-reads g c =
-    let D = g.D.SectorDevice in
+    let D = g.D.SegmentSource in
     reads_more D.size D.story D.failed D.tells (refused c.in-Err.refusal) c.args.device.now c.loop-place.device c.weigh_next.new.device c.loop-place.invariant.reads c.in-Err.ensures.reads
+
+pub returns-in-Err-clause-goes_on : goal.returns-in-Err-clause-goes_on
+returns-in-Err-clause-goes_on g c =
+    g.met.D.SegmentSource.onward c.args.device.now c.loop-place.device c.weigh_next.new.device c.loop-place.invariant.goes_on c.in-Err.ensures.goes_on
 
 pub returns-in-Err-clause-unread : goal.returns-in-Err-clause-unread
 returns-in-Err-clause-unread g c = λ s name page within message.
-    let D = g.D.SectorDevice in
+    let D = g.D.SegmentSource in
     let segments = c.args.segments.now in
     let place = c.loop-place.place in
     let segment = get_or segments place no_segment in
     let inside = c.loop-place-test.true in
+    let same = c.loop-place.invariant.ahead.same in
     let so_far = c.loop-place.invariant.weighs s within message in
     let before = D.story c.args.device.now in
     let mid = D.story c.loop-place.device in
     unreads_step D.tells (shown_image (now before)) (shown_image (now mid)) (record { name = name; schema = s; segments = segments; page = page }) s so_far.0 segment place c.in-Err.refusal refl
-    (λ told. image_then before mid (c.loop-place.invariant.reads.moments told)) inside (at_place segments place inside segment refl) so_far.1.kept.weight so_far.1.held (c.in-Err.ensures.unread s so_far.0 within message so_far.2)
+    (λ told. image_then before mid (c.loop-place.invariant.reads.moments told)) inside (at_place segments place inside segment refl) so_far.1.kept.weight so_far.1.held
+    (subst (λ (gs : List Segment). UnreadsSegment D.tells (shown_image (now mid)) s so_far.0 (segment_at gs place) place c.in-Err.refusal) same (c.in-Err.ensures.unread s so_far.0 within message so_far.2))
 
 -- ---- all were read
 
 pub returns-clause-reads : goal.returns-clause-reads
 returns-clause-reads g c = c.loop-place.invariant.reads
 
+pub returns-clause-goes_on : goal.returns-clause-goes_on
+returns-clause-goes_on g c = c.loop-place.invariant.goes_on
+
 pub returns-clause-weight : goal.returns-clause-weight
 returns-clause-weight g c = λ s within message.
-    let D = g.D.SectorDevice in
+    let D = g.D.SegmentSource in
     subst (λ (gs : List Segment). WeighsRows D.tells (shown_image (now (D.story c.args.device.now))) s gs c.loop-place.weight)
     (take_all c.loop-place.place c.args.segments.now (omega (arith, c.loop-place-test.false))) (c.loop-place.invariant.weighs s within message)

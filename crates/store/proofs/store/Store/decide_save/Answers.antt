@@ -12,12 +12,14 @@ use Rattle.store.specs.Fits.{listed_in}
 use Rattle.store_runs.specs.Reading.{ended}
 use Rattle.store_changes.specs.Tests.{decision_of}
 use Rattle.store_changes.specs.laws.ReadTables.{reads_quiet}
+use Rattle.store_changes.specs.laws.Sources.{on_device_readable}
 use Rattle.store.proofs.AtNames.{save_at, save_nowhere}
 use Rattle.store.proofs.StillSound.{still_sound, entry_placed}
 use Rattle.store.proofs.store.Store.decide_save.Goals as goal
 
-pub save_from_entry-change-requires-clause-placed : goal.save_from_entry-change-requires-clause-placed
-save_from_entry-change-requires-clause-placed g c = entry_placed c.args.self.now _ (plain_entry c.in-Some.entry.now) (sym c.in-Some.ensures.entry)
+pub save_from_entry-change-requires-clause-readable : goal.save_from_entry-change-requires-clause-readable
+save_from_entry-change-requires-clause-readable g c =
+    on_device_readable _ (plain_entry c.in-Some.entry.now).segments (entry_placed c.args.self.now _ (plain_entry c.in-Some.entry.now) (sym c.in-Some.ensures.entry))
 
 pub save_from_entry-change-requires-clause-sound : goal.save_from_entry-change-requires-clause-sound
 save_from_entry-change-requires-clause-sound g c = found_passes is_entry (listed_in c.args.self.now) _ (plain_entry c.in-Some.entry.now) c.in-Some.ensures.kept.entries (sym c.in-Some.ensures.entry)

@@ -11,13 +11,15 @@ use Rattle.store_runs.specs.Calls.{is_device_reply, refused}
 use Rattle.store.specs.Fits.{listed_in}
 use Rattle.store_runs.specs.Reading.{ended}
 use Rattle.store_changes.specs.laws.ReadTables.{reads_quiet}
+use Rattle.store_changes.specs.laws.Sources.{on_device_readable}
 use Rattle.store.proofs.Applied.{reads_nothing}
 use Rattle.store.proofs.AtNames.{read_at, read_nowhere, read_halted, unread_at}
 use Rattle.store.proofs.StillSound.{still_sound, entry_placed}
 use Rattle.store.proofs.store.Store.weigh_named.Goals as goal
 
-pub weigh_entry-weight-requires-clause-placed : goal.weigh_entry-weight-requires-clause-placed
-weigh_entry-weight-requires-clause-placed g c = entry_placed c.args.self.now _ (plain_entry c.in-Some.entry.now) (sym c.in-Some.ensures.entry)
+pub weigh_entry-weight-requires-clause-readable : goal.weigh_entry-weight-requires-clause-readable
+weigh_entry-weight-requires-clause-readable g c =
+    on_device_readable _ (plain_entry c.in-Some.entry.now).segments (entry_placed c.args.self.now _ (plain_entry c.in-Some.entry.now) (sym c.in-Some.ensures.entry))
 
 pub weigh_entry-weight-requires-clause-sound : goal.weigh_entry-weight-requires-clause-sound
 weigh_entry-weight-requires-clause-sound g c = found_passes is_entry (listed_in c.args.self.now) _ (plain_entry c.in-Some.entry.now) c.in-Some.ensures.kept.entries (sym c.in-Some.ensures.entry)
