@@ -10,7 +10,7 @@ use Rattle.tables.specs.declared.refusal.Refusal.TheVariants as refusals
 use Rattle.tables.specs.Refusals.{Origin, by_tables, by_room, by_memory, by_device, by_halt, elsewhere, origin_of}
 use Rattle.tables.specs.Tables.{Tables, table_at, row_counts}
 use Rattle.tables.specs.Commands.{PlainCommand, all_of}
-use Rattle.tables.specs.Verdict.{verdict, refused_line, AcceptsThrough, ReadsChanged}
+use Rattle.tables.specs.Verdict.{verdict, refused_line, AcceptsThrough}
 use Rattle.commit.specs.declared.opening_refusal.OpeningRefusal.TheVariants as openings
 use Rattle.store_runs.specs.Calls.{PlainCall, apply_call, format_call, open_call, close_call, tables_call, schema_call, read_call, export_call, stream_call, open_export_call, export_next_call, close_export_call, compact_call, upgrade_call, PlainReply, done, counts, schema_is, table_is, bytes_are, export_is, piece_is, merged, moved, nothing, already, refused, refused_at, shut_by}
 use Rattle.store_runs.specs.Machine.{Setting, shut, running, Export, Machine, with_doubt, tables_now, settle, opened, shut_down, halt, export_at, with_export, after_piece, without_export}

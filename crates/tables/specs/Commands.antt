@@ -48,13 +48,6 @@ abbrev mutual
   changed_by_each no_command = []
   changed_by_each (and_command c cs) = changed_names c ++ changed_by_each cs
 
--- the name of the table whose rows a command reads
-abbrev pub name_read : PlainCommand → Option (List ℕ)
-name_read (append_stream name bytes) = Some name
-name_read (append_rows name rows) = Some name
-name_read (save_as from to query) = Some from
-name_read _ = None
-
 abbrev mutual
   -- a command brings a schema within the limits, or a stream of bytes
   pub BringsTables : PlainCommand → Type 0

@@ -1,6 +1,5 @@
 -- The tables after a command, or the first of its tests that fails.
 use Rattle.std.specs.Prelude.{◌≡◌, ℕ, zero, suc, ◌+◌, IsOk, not, ◌&&◌, nat_le, nat_lt, List, [], ◌∷◌, ◌++◌, length, Option, Some, None, Result, Ok, Err}
-use Rattle.std.specs.List.{Contains}
 use Rattle.facts.specs.Checks.{when, first_some, unless}
 use Rattle.arrow_schema.specs.Column.{PlainSchema}
 use Rattle.arrow_schema.specs.OneShape.{have_one_shape}
@@ -22,7 +21,7 @@ use Rattle.tables.specs.Refusals.{query_refusal}
 use Rattle.catalogue.specs.declared.limits.TheConstants.{MAX_TABLES}
 use Rattle.catalogue.specs.Entries.{is_name}
 use Rattle.tables.specs.Tables.{Tables, table_at, has_table, with_table, without_table, table_count}
-use Rattle.tables.specs.Commands.{PlainCommand, create, import_stream, append_stream, append_rows, save_as, rename, drop_table, all_of, PlainCommands, no_command, and_command, changed_by_each, name_read}
+use Rattle.tables.specs.Commands.{PlainCommand, create, import_stream, append_stream, append_rows, save_as, rename, drop_table, all_of, PlainCommands, no_command, and_command}
 
 -- ---- the tests
 
@@ -140,19 +139,6 @@ first_commands (suc count) (and_command c cs) = and_command c (first_commands co
 abbrev pub AcceptsThrough : Tables → PlainCommand → (place : ℕ) → Type 0
 AcceptsThrough t (all_of cs) place = IsOk (verdict_in_turn t (first_commands (place + 1) cs))
 AcceptsThrough t _ place = ⊥
-
--- the command at this place of a list
-abbrev pub command_at : (place : ℕ) → PlainCommands → Option PlainCommand
-command_at place no_command = None
-command_at zero (and_command c cs) = Some c
-command_at (suc place) (and_command c cs) = command_at place cs
-
--- the commands of a list before this place are accepted, and may change the table whose rows the one at this place reads
-abbrev pub ReadsChanged : Tables → PlainCommand → (place : ℕ) → Type 0
-ReadsChanged t (all_of cs) place =
-    IsOk (verdict_in_turn t (first_commands place cs))
-    × ((c : PlainCommand) × (name : List ℕ) × (command_at place cs ≡ Some c) × (name_read c ≡ Some name) × Contains (changed_by_each (first_commands place cs)) name)
-ReadsChanged t _ place = ⊥
 
 -- the refused line of a command that is a list, counted from 0
 abbrev pub refused_line : Tables → PlainCommand → Option (ℕ × Refusal)
