@@ -67,12 +67,12 @@ all_stated (t ∷ ts) are =
     first_stated (condition_of t) (conditions_of ts) parts.0 (all_stated ts parts.1)
 
 -- texts that have the form of conditions state a query
-query_right : (texts : List (List ℕ)) (columns : Option (List ℕ)) → are_conditions texts ≡ true → stated_query texts columns None Numbers ≢ None
-query_right texts columns are none =
+query_right : (texts : List (List ℕ)) (columns : Option (List ℕ)) (limit : Option ℕ) → are_conditions texts ≡ true → stated_query texts columns limit Numbers ≢ None
+query_right texts columns limit are none =
     let stated = all_stated texts are in
     some_is_not_none (stated_by stated.0) (sym (ap stated_as stated.1) ∙ none) where
       stated_by : List PlainCondition → PlainQuery
-      stated_by cs = record { columns = named_columns columns; conditions = cs; limit = None; dates = Numbers }
+      stated_by cs = record { columns = named_columns columns; conditions = cs; limit = limit; dates = Numbers }
 
       stated_as : Option (List PlainCondition) → Option PlainQuery
       stated_as found = option_map stated_by found
@@ -81,12 +81,12 @@ query_right texts columns are none =
       some_is_not_none q is = absurd cc
 
 -- so the words are not refused
-pub words_right : (texts slice : List (List ℕ)) (columns : Option (List ℕ)) (e : Refusal) (r : QueryRefusal) → slice ≡ texts → are_conditions texts ≡ true → e ≡ refusals.Query r
-    → RefusesWords (stated_query slice columns None Numbers) e → ⊥
-words_right texts slice columns e r same are is refused =
-    by r (subst (λ (ts : List (List ℕ)). RefusesWords (stated_query ts columns None Numbers) (refusals.Query r)) same
-    (subst (RefusesWords (stated_query slice columns None Numbers)) is refused))
+pub words_right : (texts slice : List (List ℕ)) (columns : Option (List ℕ)) (limit : Option ℕ) (e : Refusal) (r : QueryRefusal) → slice ≡ texts → are_conditions texts ≡ true → e ≡ refusals.Query r
+    → RefusesWords (stated_query slice columns limit Numbers) e → ⊥
+words_right texts slice columns limit e r same are is refused =
+    by r (subst (λ (ts : List (List ℕ)). RefusesWords (stated_query ts columns limit Numbers) (refusals.Query r)) same
+    (subst (RefusesWords (stated_query slice columns limit Numbers)) is refused))
   where
-    by : (r : QueryRefusal) → RefusesWords (stated_query texts columns None Numbers) (refusals.Query r) → ⊥
-    by BadCondition none = query_right texts columns are none
+    by : (r : QueryRefusal) → RefusesWords (stated_query texts columns limit Numbers) (refusals.Query r) → ⊥
+    by BadCondition none = query_right texts columns limit are none
     by _ none = none

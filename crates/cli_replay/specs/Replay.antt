@@ -1,5 +1,5 @@
 -- The replay of a script: on which device, what was answered, what a crash left of it, and what is printed.
-use Rattle.std.specs.Prelude.{◌≡◌, ◌+◌, ◌-◌, ◌^◌, ◌++◌, ℕ, zero, suc, min, true, false, List, [], ◌∷◌, take, length, codes, Option, Some, None, IfSome, Ok, Err}
+use Rattle.std.specs.Prelude.{◌≡◌, ◌+◌, ◌-◌, ◌^◌, ◌++◌, ℕ, zero, suc, min, true, false, List, [], ◌∷◌, take, length, codes, Option, Some, IfSome, Ok, Err}
 use Rattle.sector_dev.specs.Disk.{now, shown_image}
 use Rattle.sector_dev.specs.Chosen.{IsChosen}
 use Rattle.sector_dev.specs.Faults.{no_faults}
@@ -53,9 +53,9 @@ IsOfFile {F} remaining bytes = (file : F) × IfSome (remaining file) (λ all. by
 abbrev pub IsFrontOfFile : {F : Type 0} → (remaining : F → Option (List ℕ)) → List ℕ → Type 0
 IsFrontOfFile {F} remaining bytes = (file : F) × IfSome (remaining file) (λ all. bytes ≡ take (LARGEST_INPUT + 1) all)
 
--- the command saves the rows that these texts select
+-- the command saves these rows
 abbrev pub SavesRows : (from to : List ℕ) → PlainRows → PlainCommand → Type 0
-SavesRows from to rows command = (query : PlainQuery) × (stated_query rows.conditions rows.columns None Numbers ≡ Some query) × (command ≡ commands.save_as from to query)
+SavesRows from to rows command = (query : PlainQuery) × (stated_query rows.conditions rows.columns rows.limit Numbers ≡ Some query) × (command ≡ commands.save_as from to query)
 
 -- the command of a line that changes tables
 abbrev pub IsCommandOfLine : {F : Type 0} → (remaining : F → Option (List ℕ)) → PlainLine → PlainCommand → Type 0

@@ -45,7 +45,7 @@ fn save(alloc: Global, from: &str, to: &str, rows: &SavedRows<'_>) -> Result<Com
         alloc,
         &rows.conditions,
         rows.columns,
-        None,
+        rows.limit,
         DateForm::Numbers,
     ) {
         Ok(query) => query,

@@ -12,8 +12,8 @@ use clap::ArgMatches;
 use commit::FormatVersion;
 use std::alloc::{AllocError, Global};
 
-/// Parses a number of decimal digits, without a sign.
-pub(crate) fn number_of(text: &str) -> Option<u64>
+/// Parses a number of 64 bits, in decimal digits without a sign. Any other text is `None`.
+pub fn number_of(text: &str) -> Option<u64>
     ensures read { IfSome result (IsNumber text.now) }
     ensures taken { is_number text.now ≡ true → IsSome result }
 {

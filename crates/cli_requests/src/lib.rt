@@ -23,6 +23,7 @@ mod store_command_line;
 mod store_words;
 
 pub use command_parameters::cli_commands;
+pub use found_values::number_of;
 pub use laws::options_are_read;
 pub use naming::refused_word;
 pub use replaying::ReplayWords;

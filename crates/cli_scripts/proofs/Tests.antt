@@ -1,11 +1,12 @@
 -- The tests of the texts of a line, one after another, and the texts of a line that saves rows.
-use Rattle.std.proofs.Common.{◌≡◌, ◌<◌, ◌+◌, ◌∙◌, ◌&&◌, ℕ, Bool, false, List, drop, get_or, length, Option, Some, None, sym, ap, Bor}
+use Rattle.std.proofs.Common.{◌≡◌, ◌<◌, ◌≤◌, ◌+◌, ◌-◌, ◌∙◌, ◌&&◌, ℕ, Bool, true, false, List, [], ◌∷◌, take, drop, get_or, length, codes, Option, Some, None, option_map, bytes_eq, sym, ap, arith, Bor}
 use Rattle.std.specs.Prelude.{is_some}
-use Rattle.std.proofs.lemmas.List.{drop_more}
+use Rattle.std.proofs.lemmas.Bool.{cond-true}
+use Rattle.std.proofs.lemmas.List.{drop_more, take_all}
 use Rattle.facts.specs.Texts.{text_list}
 use Rattle.query.specs.ConditionText.{condition_of}
 use Rattle.query.specs.Query.{PlainCondition}
-use Rattle.cli_scripts.specs.Script.{PlainRows, are_conditions, columns_at, after_dashes, rows_of}
+use Rattle.cli_scripts.specs.Script.{PlainRows, are_conditions, option_at, option_or_at, limit_of, after_dashes, rows_of}
 
 -- the next text, and those after it
 next_text : (texts : List (Bor (List ℕ))) (i : ℕ) (d : Bor (List ℕ)) (found : Option PlainCondition) → i < length texts → condition_of (get_or texts i d).now ≡ found
@@ -22,13 +23,34 @@ pub condition_refused : (texts : List (Bor (List ℕ))) (i : ℕ) (d : Bor (List
     → are_conditions (text_list (drop i texts)) ≡ all → all ≡ false
 condition_refused texts i d all lt is so_far = sym so_far ∙ next_text texts i d None lt is
 
--- the columns, and the conditions after them
-abbrev pub made : Option (List ℕ) → List (List ℕ) → PlainRows
-made columns conditions = record { columns = columns; conditions = conditions }
+-- ---- the rows that are saved
 
 abbrev pub Found : Type 0
 Found = Option (List ℕ) × List (List ℕ)
 
-pub rows_are : (found : Found) (words conditions : List (List ℕ)) → found ≡ columns_at words → conditions ≡ after_dashes found.1 → made found.0 conditions ≡ rows_of words
+abbrev pub made : Option (List ℕ) → List (List ℕ) → Option ℕ → PlainRows
+made columns conditions limit = record { columns = columns; limit = limit; conditions = conditions }
+
+-- the options that were found, one after another
+pub rows_found : (first limit columns : Found) (number : Option (Option ℕ)) (words : List (List ℕ)) → first ≡ option_at (codes "--columns") words
+    → limit ≡ option_at (codes "--limit") first.1 → columns ≡ option_or_at first.0 (codes "--columns") limit.1 → number ≡ limit_of limit.0
+    → option_map (made columns.0 (after_dashes columns.1)) number ≡ rows_of words
 unfolding rows_of
-rows_are found words conditions is are = ap (made found.0) are ∙ ap (λ (p : Found). made p.0 (after_dashes p.1)) is
+rows_found first limit columns number words is_first is_limit is_columns is_number =
+    ap (option_map (made columns.0 (after_dashes columns.1))) is_number
+    ∙ ap (λ (c : Found). rows_by c limit) is_columns
+    ∙ ap (λ (l : Found). rows_by (option_or_at first.0 (codes "--columns") l.1) l) is_limit
+    ∙ ap (λ (f : Found). rows_by (option_or_at f.0 (codes "--columns") (option_at (codes "--limit") f.1).1) (option_at (codes "--limit") f.1)) is_first
+  where
+    rows_by : Found → Found → Option PlainRows
+    rows_by c l = option_map (made c.0 (after_dashes c.1)) (limit_of l.0)
+
+-- a word behind its option
+pub option_taken : (option : List ℕ) (words : List (Bor (List ℕ))) (d e : Bor (List ℕ)) → 2 ≤ length words → bytes_eq option (get_or words 0 d).now ≡ true
+    → (Some (get_or words 1 e).now, text_list (take (length words - 2) (drop 2 words))) ≡ option_at option (text_list words)
+unfolding option_at
+option_taken option [] d e enough same = absurd (omega (arith, enough))
+option_taken option (w ∷ []) d e enough same = absurd (omega (arith, enough))
+option_taken option (w ∷ v ∷ more) d e enough same =
+    let whole : take (length (w ∷ v ∷ more) - 2) more ≡ more = take_all (length (w ∷ v ∷ more) - 2) more (omega arith) in
+    (λ k. (Some v.now, text_list (whole k))) ∙ sym (cond-true (bytes_eq option w.now) (Some v.now, text_list more) (None, w.now ∷ v.now ∷ text_list more) same)

@@ -12,7 +12,7 @@ abbrev pub plain_words : Option (Vec (String Global)) → Option (List (List ℕ
 plain_words words = option_map (λ v. map string_bytes v.items) words
 
 abbrev pub plain_rows : SavedRows → PlainRows
-plain_rows rows = record { columns = option_copied rows.columns; conditions = text_list rows.conditions.items }
+plain_rows rows = record { columns = option_copied rows.columns; limit = rows.limit; conditions = text_list rows.conditions.items }
 
 abbrev pub plain_line : ScriptLine → PlainLine
 plain_line (Create name fields) = create name.now (text_list fields.items)

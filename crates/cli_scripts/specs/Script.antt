@@ -1,19 +1,22 @@
 -- Scripts: one command on each line (`docs/using.md`).
-use Rattle.std.specs.Prelude.{◌≡◌, ◌≢◌, ◌⊎◌, ◌<◌, ◌+◌, ℕ, Bool, true, false, if◌then◌else◌, List, [], ◌∷◌, length, take, get_or, codes, Option, Some, None, is_some, Result, Ok, Err}
+use Rattle.std.specs.Prelude.{◌≡◌, ◌≢◌, ◌⊎◌, ◌<◌, ◌+◌, ℕ, Bool, true, false, if◌then◌else◌, List, [], ◌∷◌, length, take, get_or, codes, Option, Some, None, is_some, option_map, Result, Ok, Err}
 use Rattle.std.specs.List.{list_all}
 use Rattle.std.specs.Str.{bytes_eq}
+use Rattle.std.specs.Str.Parse.{digits_value}
 use Rattle.arrow_schema.specs.Column.{Column}
 use Rattle.field_texts.specs.Reported.{IsReported}
 use Rattle.field_texts.specs.declared.parse.ParseError.{ParseError}
 use Rattle.field_texts.specs.declared.parse.ParseError.TheVariants as fields
 use Rattle.query.specs.ConditionText.{condition_of}
+use Rattle.cli_requests.specs.Numbers.{is_number}
 use Rattle.cli_scripts.specs.declared.script.ScriptError.{ScriptError}
 use Rattle.cli_scripts.specs.declared.script.ScriptError.TheVariants.{BadLine, OutOfMemory}
 use Rattle.cli_scripts.specs.Words.{lines_of, HaveWords}
 
--- the texts of a command that saves selected rows
+-- what selects the rows that a command saves: the names of the columns, with commas between them, the maximum number of rows, and the texts of conditions
 pub record PlainRows : Type 0 where
   pub columns : Option (List ℕ)
+  pub limit : Option ℕ
   pub conditions : List (List ℕ)
 
 -- a command of a script; `create` has the texts of its fields
@@ -55,23 +58,38 @@ unfoldable pub create_of : List (List ℕ) → Option PlainLine
 create_of [] = None
 create_of (name ∷ texts) = Some (create name texts)
 
--- ---- the rows to be saved: `--columns` and a word, then `--`, if these are there, and then the conditions
+-- ---- the rows to be saved: `--columns` and a word, and `--limit` and a number, each once at most and in any order; then `--`, if it is there, and then the
+-- conditions
 
--- the columns that the first words name, and the words after these; or the words as they are
-unfoldable pub columns_at : List (List ℕ) → Option (List ℕ) × List (List ℕ)
-columns_at [] = (None, [])
-columns_at (word ∷ []) = (None, word ∷ [])
-columns_at (word ∷ columns ∷ more) = if bytes_eq (codes "--columns") word then (Some columns, more) else (None, word ∷ columns ∷ more)
+-- the word behind this option, if the words begin with it, and the words after that one; or the words as they are
+unfoldable pub option_at : List ℕ → List (List ℕ) → Option (List ℕ) × List (List ℕ)
+option_at option [] = (None, [])
+option_at option (word ∷ []) = (None, word ∷ [])
+option_at option (word ∷ value ∷ more) = if bytes_eq option word then (Some value, more) else (None, word ∷ value ∷ more)
+
+-- an option that was found before, or else the one that the words begin with
+unfoldable pub option_or_at : Option (List ℕ) → List ℕ → List (List ℕ) → Option (List ℕ) × List (List ℕ)
+option_or_at None option words = option_at option words
+option_or_at (Some value) option words = (Some value, words)
+
+-- the limit that a text states, if there is one; or none, if it is no number
+unfoldable pub limit_of : Option (List ℕ) → Option (Option ℕ)
+limit_of None = Some None
+limit_of (Some text) = if is_number text then Some (Some (digits_value 10 text)) else None
 
 unfoldable pub after_dashes : List (List ℕ) → List (List ℕ)
 after_dashes [] = []
 after_dashes (word ∷ more) = if bytes_eq (codes "--") word then more else word ∷ more
 
-unfoldable pub rows_of : List (List ℕ) → PlainRows
-rows_of words = let found = columns_at words in record { columns = found.0; conditions = after_dashes found.1 }
+unfoldable pub rows_of : List (List ℕ) → Option PlainRows
+rows_of words =
+    let first = option_at (codes "--columns") words in
+    let limit = option_at (codes "--limit") first.1 in
+    let columns = option_or_at first.0 (codes "--columns") limit.1 in
+    option_map (λ number. record { columns = columns.0; limit = number; conditions = after_dashes columns.1 }) (limit_of limit.0)
 
 unfoldable pub save_of : List (List ℕ) → Option PlainLine
-save_of (from ∷ to ∷ words) = Some (save from to (rows_of words))
+save_of (from ∷ to ∷ words) = option_map (λ rows. save from to rows) (rows_of words)
 save_of (word ∷ []) = None
 save_of [] = None
 

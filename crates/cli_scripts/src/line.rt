@@ -3,15 +3,19 @@ ghost use Rattle.std.specs.Prelude.{◌≡◌, IfOk, option_map};
 ghost use Rattle.std.specs.Option.{option_copied};
 ghost use Rattle.facts.specs.Texts.{text_list};
 ghost use Rattle.cli_scripts.specs.Plain.{plain_line, plain_rows};
-ghost use Rattle.cli_scripts.specs.Script.{alone, with_name, with_two, other_of, create_of, columns_at, after_dashes, rows_of, save_of, save_or_other, line_of};
+ghost use Rattle.cli_scripts.specs.Script.{alone, with_name, with_two, other_of, create_of, option_at, option_or_at, limit_of, after_dashes, rows_of, save_of, save_or_other, line_of};
 
+use cli_requests::number_of;
 use std::alloc::{AllocError, Global};
 
-/// The texts that say which rows are saved.
+/// Which rows are saved.
 #[derive(Drop)]
 pub struct SavedRows<'a> {
     /// The names of the columns, with commas between them.
     pub columns: Option<&'a str>,
+    /// The maximum number of rows.
+    pub limit: Option<u64>,
+    /// The texts of the conditions.
     pub conditions: Vec<&'a str>,
 }
 
@@ -124,20 +128,49 @@ fn create_of<'a>(alloc: Global, arguments: &[&'a str]) -> Result<Option<ScriptLi
 }
 
 // Returns the columns that the first words name, and the words after these; or `None` and the words as they are.
-#[tactic(auto, unfolding(crate::specs::Script::columns_at))]
-fn columns_at<'r, 'a>(words: &'r [&'a str]) -> (Option<&'a str>, &'r [&'a str])
-    ensures { (option_copied result.0, text_list result.1.now) ≡ columns_at (text_list words.now) }
+// Returns the word behind an option at the beginning, and the words after that one.
+#[tactic(auto, unfolding(crate::specs::Script::option_at))]
+fn option_at<'r, 'a>(option: &str, words: &'r [&'a str]) -> (Option<&'a str>, &'r [&'a str])
+    ensures { (option_copied result.0, text_list result.1.now) ≡ option_at option.now (text_list words.now) }
 {
     match words {
-        [word, columns, more @ ..] => {
-            if *word == "--columns" {
-                (Some(*columns), more)
+        [word, value, more @ ..] => {
+            if option == *word {
+                (Some(*value), more)
             } else {
                 (None, words)
             }
         }
         [_] => (None, words),
         [] => (None, words),
+    }
+}
+
+#[tactic(auto, unfolding(crate::specs::Script::option_or_at))]
+fn option_or_at<'r, 'a>(
+    found: Option<&'a str>,
+    option: &str,
+    words: &'r [&'a str],
+) -> (Option<&'a str>, &'r [&'a str])
+    ensures { (option_copied result.0, text_list result.1.now) ≡ option_or_at (option_copied found.entry) option.now (text_list words.now) }
+{
+    match found {
+        None => option_at(option, words),
+        Some(value) => (Some(value), words),
+    }
+}
+
+// Returns the limit that a text states, if there is one; `None` if it is no number.
+#[tactic(auto, unfolding(crate::specs::Script::limit_of))]
+fn limit_of(text: Option<&str>) -> Option<Option<u64>>
+    ensures { result ≡ limit_of (option_copied text.entry) }
+{
+    let Some(text) = text else {
+        return Some(None);
+    };
+    match number_of(text) {
+        Some(number) => Some(Some(number)),
+        None => None,
     }
 }
 
@@ -152,15 +185,21 @@ fn after_dashes<'r, 'a>(words: &'r [&'a str]) -> &'r [&'a str]
 }
 
 #[tactic(auto, unfolding(crate::specs::Script::rows_of))]
-fn rows_of<'a>(alloc: Global, words: &[&'a str]) -> Result<SavedRows<'a>, AllocError>
-    ensures { IfOk result (λ rows. plain_rows rows ≡ rows_of (text_list words.now)) }
+fn rows_of<'a>(alloc: Global, words: &[&'a str]) -> Result<Option<SavedRows<'a>>, AllocError>
+    ensures { IfOk result (λ rows. option_map plain_rows rows ≡ rows_of (text_list words.now)) }
 {
-    let (columns, others) = columns_at(words);
+    let (columns, others) = option_at("--columns", words);
+    let (limit, others) = option_at("--limit", others);
+    let (columns, others) = option_or_at(columns, "--columns", others);
+    let Some(limit) = limit_of(limit) else {
+        return Ok(None);
+    };
     let conditions = Vec::from_slice(alloc, after_dashes(others))?;
-    Ok(SavedRows {
+    Ok(Some(SavedRows {
         columns,
+        limit,
         conditions,
-    })
+    }))
 }
 
 #[tactic(auto, unfolding(crate::specs::Script::save_of))]
@@ -168,10 +207,10 @@ fn save_of<'a>(alloc: Global, arguments: &[&'a str]) -> Result<Option<ScriptLine
     ensures { IfOk result (λ line. option_map plain_line line ≡ save_of (text_list arguments.now)) }
 {
     match arguments {
-        [from, to, words @ ..] => {
-            let rows = rows_of(alloc, words)?;
-            Ok(Some(ScriptLine::Save { from, to, rows }))
-        }
+        [from, to, words @ ..] => match rows_of(alloc, words)? {
+            Some(rows) => Ok(Some(ScriptLine::Save { from, to, rows })),
+            None => Ok(None),
+        },
         [_] => Ok(None),
         [] => Ok(None),
     }

@@ -11,12 +11,12 @@ pub returns : goal.returns
 returns c =
     let rows = c.args.rows.now in
     let stated =
-    subst (λ (ts : List (Bor (List ℕ))). stated_query (text_list ts) (option_copied rows.columns) None Numbers ≡ Some (query_in c.in-Ok.query)) c.deref.ensures.value c.in-Ok.ensures.stated in
+    subst (λ (ts : List (Bor (List ℕ))). stated_query (text_list ts) (option_copied rows.columns) rows.limit Numbers ≡ Some (query_in c.in-Ok.query)) c.deref.ensures.value c.in-Ok.ensures.stated in
     (query_in c.in-Ok.query, stated, search rules)
 
 pub unreachable-requires : goal.unreachable-requires
 unreachable-requires c =
     let rows = c.args.rows.now in
     let e = c.in-Err-Query in
-    words_right (text_list rows.conditions.items) (text_list c.deref.result.now) (option_copied rows.columns) e.field-0 e.field-0-0 (ap text_list c.deref.ensures.value) c.requires e.field-0-is
+    words_right (text_list rows.conditions.items) (text_list c.deref.result.now) (option_copied rows.columns) rows.limit e.field-0 e.field-0-0 (ap text_list c.deref.ensures.value) c.requires e.field-0-is
     e.ensures.refused
