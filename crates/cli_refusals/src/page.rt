@@ -209,8 +209,9 @@ or appended. If no advice follows a fault, the cause is the program that wrote t
     "
 - G3 BadScript N: `replay` or `apply` cannot play line N of the script, counted from 1. Single spaces
   separate the words of a line, and a word with spaces stands in quotation marks. Either these words are not
-  a command of a script, or the text of a field (P) or the form of a condition (Q2) is refused. `apply` takes
-  only commands on tables, and none of `compact`, `upgrade` and `reopen`.
+  a command of a script, or the text of a field (P), the form of a condition (Q2) or the number of a `--limit`
+  is refused. `apply` takes only commands on tables, and so does `replay` between `begin` and `commit`; each
+  `begin` has its `commit`.
   ",
     LINES_OF_A_SCRIPT,
     "

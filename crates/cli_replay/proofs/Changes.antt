@@ -8,8 +8,8 @@ use Rattle.cli_scripts.specs.Plain.{plain_line, plain_lines}
 use Rattle.cli_scripts.specs.Script.{PlainLine, HaveLines, changes_tables}
 use Rattle.tables.specs.View.{command_of}
 use Rattle.tables.specs.declared.command.Command.{Command}
-use Rattle.cli_replay.specs.Listed.{IsTested, IsChange, AreCommandsOfLines}
-use Rattle.cli_replay.specs.Replay.{IsCommandOfLine}
+use Rattle.cli_replay.specs.Listed.{IsTested, IsChange}
+use Rattle.cli_replay.specs.Replay.{AreCommandsOfLines, IsCommandOfLine}
 
 -- ---- what is known of each line
 
@@ -27,10 +27,10 @@ change_lines (l ∷ ls) tested all =
     ((tested.0, parts.0), change_lines ls tested.1 parts.1)
 
 -- one of them
-pub line_at : (P : PlainLine → Type 0) (lines : List ScriptLine) (i : ℕ) (line : ScriptLine) → i < length lines → line ≡ get_or lines i line → AllByRecursion P (plain_lines lines)
-    → P (plain_line line)
-line_at P lines i line lt is all = subst (λ (l : ScriptLine). P (plain_line l)) (sym is) (at lines i lt all) where
-  at : (lines : List ScriptLine) (i : ℕ) → i < length lines → AllByRecursion P (plain_lines lines) → P (plain_line (get_or lines i line))
+pub line_at : {A B : Type 0} (plain : A → B) (P : B → Type 0) (lines : List A) (i : ℕ) (line : A) → i < length lines → line ≡ get_or lines i line → AllByRecursion P (map plain lines)
+    → P (plain line)
+line_at {A} plain P lines i line lt is all = subst (λ (l : A). P (plain l)) (sym is) (at lines i lt all) where
+  at : (lines : List A) (i : ℕ) → i < length lines → AllByRecursion P (map plain lines) → P (plain (get_or lines i line))
   at [] i lt all = absurd (omega (arith, lt))
   at (l ∷ ls) zero lt all = all.0
   at (l ∷ ls) (suc i) lt all = at ls i (omega (arith, lt)) all.1

@@ -1,5 +1,5 @@
 pub mod Scripts
-pub mod LineCalls
+pub mod ItemCalls
 pub mod Changes
 pub mod Texts
 pub mod Inputs

@@ -1,13 +1,14 @@
 -- The commands of a script that is applied as one commit.
-use Rattle.std.specs.Prelude.{◌≡◌, ℕ, true, List, [], ◌∷◌, Option, Ok, Err}
-use Rattle.tables.specs.View.{command_of}
+use Rattle.std.specs.Prelude.{◌≡◌, ℕ, true, List, Option, Ok, Err}
+use Rattle.std.specs.List.{AllByRecursion}
 use Rattle.tables.specs.declared.command.Command.{Command}
 use Rattle.cli_refusals.specs.declared.refusal.Refusal.{Refusal}
 use Rattle.cli_refusals.specs.declared.refusal.Refusal.TheVariants.{Io, BadScript, OutOfMemory}
 use Rattle.cli_refusals.specs.declared.refusal.Side.TheVariants.{File}
 use Rattle.cli_scripts.specs.declared.script.ScriptError.TheVariants.{BadLine}
+use Rattle.cli_scripts.specs.Items.{PlainItem, one, listed, is_alone}
 use Rattle.cli_scripts.specs.Script.{IsScriptOfChanges, PlainLine, AreTested, changes_tables}
-use Rattle.cli_replay.specs.Replay.{IsCommandOfLine}
+use Rattle.cli_replay.specs.Replay.{AreCommandsOfLines}
 
 -- the texts of a line can be parsed
 abbrev pub IsTested : PlainLine → Type 0
@@ -17,11 +18,10 @@ IsTested line = AreTested true line
 abbrev pub IsChange : PlainLine → Type 0
 IsChange line = IsTested line × (changes_tables line ≡ true)
 
--- each line has its command
-abbrev pub AreCommandsOfLines : {F : Type 0} → (remaining : F → Option (List ℕ)) → List PlainLine → List Command → Type 0
-AreCommandsOfLines remaining [] [] = Unit {0}
-AreCommandsOfLines remaining (line ∷ lines) (command ∷ more) = IsCommandOfLine remaining line (command_of command) × AreCommandsOfLines remaining lines more
-AreCommandsOfLines remaining _ _ = ⊥
+-- an item whose call can be made
+abbrev pub IsPlayable : PlainItem → Type 0
+IsPlayable (one number line) = IsTested line × (is_alone line ≡ true)
+IsPlayable (listed list) = AllByRecursion IsChange list.lines
 
 -- a script with these lines has these commands
 pub record HasCommands {F : Type 0} (remaining : F → Option (List ℕ)) (script : List ℕ) (commands : List Command) : Type 0 where

@@ -1,5 +1,5 @@
--- Lines that are played one after another on a device that may stop.
-use Rattle.std.specs.Prelude.{◌≡◌, ◌++◌, ℕ, Bool, true, false, List, [], ◌∷◌, length, take, codes, Option, Some, None}
+-- Calls that are played one after another on a device that may stop.
+use Rattle.std.specs.Prelude.{◌≡◌, ◌+◌, ◌-◌, ◌^◌, ◌++◌, ℕ, min, Bool, true, false, List, [], ◌∷◌, length, take, codes, Option, Some, None}
 use Rattle.sector_dev.specs.declared.device.SectorDevice.{Ghosts}
 use Rattle.tables.specs.Tables.{Tables}
 use Rattle.tables.specs.declared.refusal.Refusal.TheVariants.{OutOfMemory}
@@ -11,7 +11,7 @@ use Rattle.store_runs.specs.Machine.{Machine}
 use Rattle.store.specs.Places.{AreCallsOf, device_in, reply_in, PlaceRuns}
 use Rattle.store.specs.Answering.{AnswersCall}
 use Rattle.cli_refusals.specs.declared.refusal.Refusal.{Refusal}
-use Rattle.cli_refusals.specs.declared.refusal.Refusal.TheVariants.{Opening, Store}
+use Rattle.cli_refusals.specs.declared.refusal.Refusal.TheVariants.{Line, Opening, Store}
 use Rattle.cli_refusals.specs.Refusals.{refusal_text}
 use Rattle.cli_commands.specs.Printed.{tables_text}
 
@@ -64,16 +64,23 @@ pub record ArePlayedAsRun {D : Type 0} (g : Ghosts D) {R : Type 0} (remaining : 
 abbrev pub refused_text : Refusal → List ℕ
 refused_text refusal = codes "refused " ++ refusal_text refusal ++ codes "\n"
 
--- for each line: that it was done, or why not
-abbrev pub reply_text : PlainReply → List ℕ
-reply_text (refused refusal) = refused_text (Store refusal)
-reply_text (refused_at place refusal) = refused_text (Store refusal)
-reply_text (shut_by refusal) = refused_text (Opening refusal)
-reply_text _ = codes "ok\n"
+-- the number of a line in a list, by its place there, which counts from 0, and the number of the list's `begin`. No script has so many lines that a number
+-- would have more than 64 bits
+abbrev pub line_number : (begun place : ℕ) → ℕ
+line_number begun place = min (begun + place + 1) (2 ^ 64 - 1)
 
-abbrev pub replies_text : List PlainReply → List ℕ
-replies_text [] = []
-replies_text (reply ∷ replies) = reply_text reply ++ replies_text replies
+-- for an item whose first line has this number: that it was done, or why not
+abbrev pub reply_text : ℕ → PlainReply → List ℕ
+reply_text number (refused refusal) = refused_text (Store refusal)
+reply_text number (refused_at place refusal) = refused_text (Line (line_number number place) refusal)
+reply_text number (shut_by refusal) = refused_text (Opening refusal)
+reply_text number _ = codes "ok\n"
+
+-- for each item that was answered
+abbrev pub replies_text : List ℕ → List PlainReply → List ℕ
+replies_text [] replies = []
+replies_text (number ∷ numbers) [] = []
+replies_text (number ∷ numbers) (reply ∷ replies) = reply_text number reply ++ replies_text numbers replies
 
 abbrev pub stop_text : Bool → List ℕ
 stop_text true = codes "stopped\n"
@@ -100,5 +107,5 @@ AreOfListing _ listing = ⊥
 -- of an opening and the list of tables after it: that list, or why the store was not opened
 abbrev pub FoundText : PlainReply → PlainReply → List ℕ → Type 0
 FoundText done (counts tables) text = text ≡ tables_text tables
-FoundText (shut_by refusal) listing text = text ≡ reply_text (shut_by refusal)
+FoundText (shut_by refusal) listing text = text ≡ refused_text (Opening refusal)
 FoundText _ _ text = ⊥

@@ -1,5 +1,5 @@
 -- The replay of a script: on which device, what was answered, what a crash left of it, and what is printed.
-use Rattle.std.specs.Prelude.{◌≡◌, ◌+◌, ◌-◌, ◌^◌, ◌++◌, ℕ, zero, suc, min, true, false, List, [], ◌∷◌, take, length, codes, Option, Some, IfSome, Ok, Err}
+use Rattle.std.specs.Prelude.{◌≡◌, ◌+◌, ◌-◌, ◌^◌, ◌++◌, ℕ, zero, suc, min, true, false, List, [], ◌∷◌, map, take, length, codes, Option, Some, IfSome, Ok, Err}
 use Rattle.sector_dev.specs.Disk.{now, shown_image}
 use Rattle.sector_dev.specs.Chosen.{IsChosen}
 use Rattle.sector_dev.specs.Faults.{no_faults}
@@ -13,6 +13,7 @@ use Rattle.tables.specs.Verdict.{after}
 use Rattle.tables.specs.Commands as commands
 use Rattle.tables.specs.Commands.{PlainCommand}
 use Rattle.tables.specs.View.{command_of}
+use Rattle.tables.specs.declared.command.Command.{Command}
 use Rattle.store.specs.declared.store.Store.{Store}
 use Rattle.store.specs.declared.call.Call.{Call}
 use Rattle.store.specs.declared.call.Call.TheVariants as calls
@@ -37,13 +38,13 @@ use Rattle.cli_commands.specs.Changing.{StateSchema}
 use Rattle.civil_days.specs.declared.date_form.DateForm.TheVariants.{Numbers}
 use Rattle.cli_commands.specs.Selecting.{stated_query}
 use Rattle.query.specs.Query.{PlainQuery}
-use Rattle.civil_days.specs.declared.date_form.DateForm.TheVariants.{Numbers}
 use Rattle.cli_scripts.specs.declared.script.ScriptError.TheVariants.{BadLine}
 use Rattle.std.specs.Io.KnownBytes.{Appends}
-use Rattle.cli_scripts.specs.Script.{IsScript, PlainLine, PlainRows, create, import_file, append_file, save, rename, drop, compact, upgrade, reopen}
+use Rattle.cli_scripts.specs.Items.{IsScript, PlainItem, one, listed, number_of}
+use Rattle.cli_scripts.specs.Script.{PlainLine, PlainRows, create, import_file, append_file, save, rename, drop, compact, upgrade, reopen}
 use Rattle.cli_replay.specs.Playing.{Plays, replies_text, stop_text, FoundText}
 
--- ---- lines as calls
+-- ---- items as calls
 
 -- some file has these bytes, where they are known
 abbrev pub IsOfFile : {F : Type 0} → (remaining : F → Option (List ℕ)) → List ℕ → Type 0
@@ -67,7 +68,13 @@ IsCommandOfLine remaining (rename from to) command = command ≡ commands.rename
 IsCommandOfLine remaining (drop name) command = command ≡ commands.drop_table name
 IsCommandOfLine remaining _ command = ⊥
 
--- the call of a line
+-- each line has its command
+abbrev pub AreCommandsOfLines : {F : Type 0} → (remaining : F → Option (List ℕ)) → List PlainLine → List Command → Type 0
+AreCommandsOfLines remaining [] [] = Unit {0}
+AreCommandsOfLines remaining (line ∷ lines) (command ∷ more) = IsCommandOfLine remaining line (command_of command) × AreCommandsOfLines remaining lines more
+AreCommandsOfLines remaining _ _ = ⊥
+
+-- the call of a line by itself
 abbrev pub IsCallOfLine : {F R : Type 0} → (remaining : F → Option (List ℕ)) → PlainLine → Call R → Type 0
 IsCallOfLine remaining line (calls.Apply command) = IsCommandOfLine remaining line (command_of command)
 IsCallOfLine remaining compact calls.Compact = Unit {0}
@@ -75,11 +82,17 @@ IsCallOfLine remaining upgrade calls.Upgrade = Unit {0}
 IsCallOfLine remaining reopen calls.Open = Unit {0}
 IsCallOfLine remaining _ _ = ⊥
 
--- each line has its call
-abbrev pub AreCallsOfLines : {F R : Type 0} → (remaining : F → Option (List ℕ)) → List PlainLine → List (Call R) → Type 0
-AreCallsOfLines remaining [] [] = Unit {0}
-AreCallsOfLines remaining (line ∷ lines) (call ∷ calls) = IsCallOfLine remaining line call × AreCallsOfLines remaining lines calls
-AreCallsOfLines remaining _ _ = ⊥
+-- the call of an item: the lines of a list are applied by one
+abbrev pub IsCallOfItem : {F R : Type 0} → (remaining : F → Option (List ℕ)) → PlainItem → Call R → Type 0
+IsCallOfItem remaining (one number line) call = IsCallOfLine remaining line call
+IsCallOfItem remaining (listed list) (calls.ApplyAll commands) = AreCommandsOfLines remaining list.lines commands.items
+IsCallOfItem remaining (listed list) _ = ⊥
+
+-- each item has its call
+abbrev pub AreCallsOfItems : {F R : Type 0} → (remaining : F → Option (List ℕ)) → List PlainItem → List (Call R) → Type 0
+AreCallsOfItems remaining [] [] = Unit {0}
+AreCallsOfItems remaining (item ∷ items) (call ∷ calls) = IsCallOfItem remaining item call × AreCallsOfItems remaining items calls
+AreCallsOfItems remaining _ _ = ⊥
 
 -- ---- the device
 
@@ -108,13 +121,13 @@ pub record IsFound {D : Type 0} (g : Ghosts D) {R : Type 0} (remaining : R → O
   pub lists : AnswersCall g.size g.story g.failed g.tells remaining found calls.Tables listing after
   pub printed : FoundText opened listing text
 
--- what is listed after the crash keeps what was acknowledged: the tables are those after some commands of the lines that were played, in their
--- order; all acknowledged commands are among them, and only these and those in which the device failed
-pub record IsKept {R : Type 0} (remaining : R → Option (List ℕ)) (lines : List (Call R)) (replies : List PlainReply) (listed : List (List ℕ × ℕ)) : Type 0 where
+-- what is listed after the crash keeps what was acknowledged: the tables are those after some commands of the calls that were played, in their
+-- order; all acknowledged commands are among them, and only these and those in which the device failed. The lines of a list are one command
+pub record IsKept {R : Type 0} (remaining : R → Option (List ℕ)) (calls : List (Call R)) (replies : List PlainReply) (shown : List (List ℕ × ℕ)) : Type 0 where
   pub plains : List PlainCall
-  pub are : AreCallsOf remaining (take (length replies) lines) plains
+  pub are : AreCallsOf remaining (take (length replies) calls) plains
   pub settled : List PlainCommand
-  pub tables : listed ≡ row_counts (after no_tables settled)
+  pub tables : shown ≡ row_counts (after no_tables settled)
   pub kept : InOrder (acknowledged plains replies) settled
   pub only : InOrder settled (begun plains replies)
 
@@ -122,17 +135,17 @@ pub record IsKept {R : Type 0} (remaining : R → Option (List ℕ)) (lines : Li
 
 pub record IsReplay (g : Ghosts ModelDevice) {R : Type 0} (remaining : R → Option (List ℕ)) (sectors : ℕ) (version : FormatVersion) (fail stop : ℕ)
     (choice : CrashChoice)
-    (lines : List (Call R)) (text : List ℕ) : Type 0 where
+    (numbers : List ℕ) (played : List (Call R)) (text : List ℕ) : Type 0 where
   -- a device with an empty store, of which these calls fail
   pub device : ModelDevice
   pub empty : IsEmptyStore g sectors version device
   pub faults : faults_of device ≡ record no_faults { fail = after_opening fail; stop = after_opening stop }
-  -- its store is opened, and the lines are played
+  -- its store is opened, and the calls are played
   pub begin : StoreOrDevice ModelDevice g
   pub opening : AnswersCall g.size g.story g.failed g.tells remaining (places.Shut device) calls.Open done begin
   pub replies : List PlainReply
   pub end : StoreOrDevice ModelDevice g
-  pub plays : Plays g (λ d. (faults_of d).stopped) remaining begin lines replies end
+  pub plays : Plays g (λ d. (faults_of d).stopped) remaining begin played replies end
   -- what a crash leaves under this choice
   pub left : ModelDevice
   pub crash : IsLeftOf size_of history_of (device_in end) left
@@ -140,20 +153,20 @@ pub record IsReplay (g : Ghosts ModelDevice) {R : Type 0} (remaining : R → Opt
   -- and what is found there
   pub tables : List ℕ
   pub found : IsFound g remaining left tables
-  pub kept : found.opened ≡ done → (listed : List (List ℕ × ℕ)) → found.listing ≡ counts listed → IsKept remaining lines replies listed
-  pub printed : text ≡ replies_text replies ++ stop_text (faults_of (device_in end)).stopped ++ codes "after:\n" ++ tables
+  pub kept : found.opened ≡ done → (shown : List (List ℕ × ℕ)) → found.listing ≡ counts shown → IsKept remaining played replies shown
+  pub printed : text ≡ replies_text numbers replies ++ stop_text (faults_of (device_in end)).stopped ++ codes "after:\n" ++ tables
 
--- a file has a script, its lines have these calls, and what their replay prints is written
+-- a file has a script, its items have these calls, and what their replay prints is written
 pub record IsReplayOfFile (g : Ghosts ModelDevice) {F R : Type 0} (remaining : F → Option (List ℕ)) (no_reader : R → Option (List ℕ)) (sectors : ℕ)
     (version : FormatVersion) (fail stop : ℕ) (choice : CrashChoice) (output output' : Option (List ℕ)) : Type 0 where
   pub script : List ℕ
   pub of_file : IsOfFile remaining script
-  pub lines : List PlainLine
-  pub parsed : IsScript script (Ok lines)
+  pub items : List PlainItem
+  pub parsed : IsScript script (Ok items)
   pub calls : List (Call R)
-  pub are : AreCallsOfLines remaining lines calls
+  pub are : AreCallsOfItems remaining items calls
   pub text : List ℕ
-  pub replay : IsReplay g no_reader sectors version fail stop choice calls text
+  pub replay : IsReplay g no_reader sectors version fail stop choice (map number_of items) calls text
   pub written : Appends output output' text
 
 -- ---- why nothing is played

@@ -82,7 +82,11 @@ pub(crate) fn command_of<F: Read + OpenFile + Drop, H: Files<File = F> + AllocGl
         ScriptLine::Save { from, to, rows } => save(rt.alloc(), from, to, rows)?,
         ScriptLine::Rename { from, to } => rename_table(rt.alloc(), from, to)?,
         ScriptLine::Drop { name } => drop_table(rt.alloc(), name)?,
-        ScriptLine::Compact | ScriptLine::Upgrade | ScriptLine::Reopen => unreachable!(),
+        ScriptLine::Compact
+        | ScriptLine::Upgrade
+        | ScriptLine::Reopen
+        | ScriptLine::Begin
+        | ScriptLine::Commit => unreachable!(),
     };
     Ok(command)
 }

@@ -4,8 +4,8 @@ ghost use Rattle.std.specs.List.{AllByRecursion};
 ghost use Rattle.cli_scripts.specs.Plain.{plain_lines, plain_words};
 ghost use Rattle.cli_scripts.specs.Script.{IsScriptOfChanges};
 ghost use Rattle.cli_scripts.specs.Words.{HaveWords, lines_of};
-ghost use Rattle.cli_replay.specs.Listed.{AreCommandsOfLines, HasCommands, IsChange, RefusesCommands};
-ghost use Rattle.cli_replay.specs.Replay.{IsOfReading};
+ghost use Rattle.cli_replay.specs.Listed.{HasCommands, IsChange, RefusesCommands};
+ghost use Rattle.cli_replay.specs.Replay.{AreCommandsOfLines, IsOfReading};
 
 use crate::commands::command_of;
 use cli_refusals::Refusal;
@@ -16,8 +16,8 @@ use std::io::Read;
 use std::rt::Files;
 use tables::Command;
 
-// Returns a command for each line. Reads all files that the lines name.
-fn commands_of<F: Read + OpenFile + Drop, H: Files<File = F> + AllocGlobal>(
+/// Returns a command for each line. Reads all files that the lines name.
+pub(crate) fn commands_of<F: Read + OpenFile + Drop, H: Files<File = F> + AllocGlobal>(
     rt: &H,
     lines: &[ScriptLine<'_>],
 ) -> Result<Vec<Command>, Refusal>

@@ -1,8 +1,8 @@
-// Plays the lines of a script one after another, and reports what they answer.
+// Plays the calls of a script one after another, and reports what they answer.
 ghost use Rattle.std.specs.Prelude.{◌≡◌, ◌++◌, string_bytes, IfOk, OnOk};
 ghost use Rattle.sector_dev.specs.View.{faults_of};
 ghost use Rattle.store.specs.Places.{reply_in, replies_of};
-ghost use Rattle.cli_replay.specs.Playing.{IsPlayedLine, Plays, refused_text, reply_text, replies_text};
+ghost use Rattle.cli_replay.specs.Playing.{IsPlayedLine, Plays, line_number, refused_text, reply_text, replies_text};
 
 use cli_refusals::Refusal;
 use sector_dev::{ModelDevice, SectorDevice};
@@ -11,7 +11,7 @@ use std::fmt::Write as _;
 use std::io::{Empty, Read};
 use store::{Call, Reply, StoreOrDevice, answer};
 
-// Plays one line, unless the device has stopped.
+// Plays one call, unless the device has stopped.
 fn play_line(
     alloc: Global,
     place: StoreOrDevice<ModelDevice>,
@@ -28,7 +28,7 @@ fn play_line(
     (next, Some(reply))
 }
 
-/// Answers the lines in order until the device has stopped.
+/// Answers the calls in order until the device has stopped.
 pub(crate) fn play(
     alloc: Global,
     place: StoreOrDevice<ModelDevice>,
@@ -56,25 +56,40 @@ pub(crate) fn push_refusal(text: &mut String, refusal: Refusal) -> Result<(), Al
     write!(text, "refused {refusal}\n")
 }
 
-fn push_reply(text: &mut String, reply: &Reply) -> Result<(), AllocError>
-    ensures { OnOk result (string_bytes text.new ≡ string_bytes text.old ++ reply_text (reply_in reply.now)) }
+fn line_number(begun: u64, place: usize) -> u64
+    ensures { result ≡ line_number begun place }
+{
+    begun.saturating_add(place as u64).saturating_add(1)
+}
+
+// Appends the reply to an item whose first line has this number.
+fn push_reply(text: &mut String, number: u64, reply: &Reply) -> Result<(), AllocError>
+    ensures { OnOk result (string_bytes text.new ≡ string_bytes text.old ++ reply_text number (reply_in reply.now)) }
 {
     match reply {
-        Reply::Refused(refusal) | Reply::RefusedAt { refusal, .. } => {
-            push_refusal(text, Refusal::Store(*refusal))
+        Reply::Refused(refusal) => push_refusal(text, Refusal::Store(*refusal)),
+        Reply::RefusedAt { place, refusal } => {
+            push_refusal(text, Refusal::Line(line_number(number, *place), *refusal))
         }
         Reply::NotOpened(refusal) => push_refusal(text, Refusal::Opening(*refusal)),
         _ => text.push_str("ok\n"),
     }
 }
 
-/// Returns a line for each reply.
-pub(crate) fn lines_of_replies(alloc: Global, replies: &[Reply]) -> Result<String, AllocError>
-    ensures { IfOk result (λ text. string_bytes text ≡ replies_text (replies_of replies.now)) }
+/// Returns a line for each reply, of items whose first lines have these numbers.
+pub(crate) fn lines_of_replies(
+    alloc: Global,
+    numbers: &[u64],
+    replies: &[Reply],
+) -> Result<String, AllocError>
+    ensures { IfOk result (λ text. string_bytes text ≡ replies_text numbers.now (replies_of replies.now)) }
 {
     let mut text = String::new(alloc);
-    for reply in replies {
-        push_reply(&mut text, reply)?;
+    for (place, reply) in replies.iter().enumerate() {
+        match numbers.get(place) {
+            Some(number) => push_reply(&mut text, *number, reply)?,
+            None => {}
+        }
     }
     Ok(text)
 }

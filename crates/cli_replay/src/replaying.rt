@@ -1,21 +1,21 @@
 // Replays a whole script.
 ghost use Rattle.std.specs.Prelude.{◌≡◌, ◌≢◌, ◌++◌, ℕ, List, codes, map, string_bytes, Ok, IfOk, IfErr, OnOk};
 ghost use Rattle.std.specs.List.{AllByRecursion};
-ghost use Rattle.cli_replay.specs.Listed.{IsTested};
+ghost use Rattle.cli_replay.specs.Listed.{IsPlayable};
 ghost use Rattle.cli_replay.specs.Playing.{stop_text};
 ghost use Rattle.cli_replay.specs.Replay.{IsEmptyStore, IsOfPlaying, IsReplay, IsReplayOfFile, RefusesReplay, RefusesScript};
-ghost use Rattle.cli_scripts.specs.Plain.{plain_lines, plain_words};
-ghost use Rattle.cli_scripts.specs.Script.{IsScript};
+ghost use Rattle.cli_scripts.specs.Items.{IsScript};
+ghost use Rattle.cli_scripts.specs.Plain.{plain_items, plain_words};
 ghost use Rattle.cli_scripts.specs.Words.{HaveWords, lines_of};
 ghost use Rattle.sector_dev.specs.Faults.{no_faults};
 ghost use Rattle.sector_dev.specs.View.{faults_of};
 
-use crate::calls::calls_of;
+use crate::calls::{calls_of, numbers_of};
 use crate::device::{empty_store, found_on, left_by_crash, open, with_faults};
 use crate::files::read_script;
 use crate::playing::{lines_of_replies, play};
 use cli_refusals::{Refusal, Side, write_whole};
-use cli_scripts::{ScriptError, ScriptLine, parse_script, script_words};
+use cli_scripts::{ScriptError, ScriptItem, parse_script, script_words};
 use commit::FormatVersion;
 use sector_dev::{CrashChoice, ModelDevice, SectorDevice};
 use std::alloc::{AllocError, Global};
@@ -48,26 +48,28 @@ fn joined_text(lines: String, stopped: bool, found: &str) -> Result<String, Allo
     Ok(text)
 }
 
-/// Plays lines on a device with an empty store on which no call is set to fail, and returns what they answered and what a crash left.
-pub(crate) fn play_lines(
+/// Plays calls on a device with an empty store on which no call is set to fail, and returns what they answered and what a crash left. The numbers are
+/// those of the first lines of their items.
+pub(crate) fn play_calls(
     alloc: Global,
     device: ModelDevice,
-    lines: Vec<Call>,
+    numbers: &[u64],
+    calls: Vec<Call>,
     faults: Faults,
 ) -> Result<String, Refusal>
     requires { faults_of device ≡ no_faults }
     ensures replays { IfOk result (λ text. (sectors : ℕ) (version : FormatVersion)
         → IsEmptyStore ⟦<ModelDevice as SectorDevice>⟧ sectors version device
         → IsReplay ⟦<ModelDevice as SectorDevice>⟧ ⟦<Empty as Read>⟧.remaining sectors version faults.fail faults.stop faults.choice
-        lines.items (string_bytes text)) }
+        numbers.now calls.items (string_bytes text)) }
     ensures told { IfErr result (λ refusal. (sectors : ℕ) (version : FormatVersion)
         → IsEmptyStore ⟦<ModelDevice as SectorDevice>⟧ sectors version device
         → IsOfPlaying refusal) }
 {
     let device = with_faults(device, faults.fail, faults.stop);
     let place = open(alloc, device)?;
-    let (place, replies) = play(alloc, place, lines)?;
-    let text = lines_of_replies(alloc, &replies)?;
+    let (place, replies) = play(alloc, place, calls)?;
+    let text = lines_of_replies(alloc, numbers, &replies)?;
     let left = left_by_crash(place.device(), faults.choice)?;
     acknowledged_commands_are_settled();
     left_devices_fit(place.device(), &left);
@@ -75,25 +77,25 @@ pub(crate) fn play_lines(
     Ok(joined_text(text, place.device().has_stopped(), &found)?)
 }
 
-// Parses the lines of a script that have these words, with errors as the program reports them.
-fn lines_of<'a>(
+// Parses the items of a script that has these words, with errors as the program reports them.
+fn items_of<'a>(
     alloc: Global,
     words: &'a [Option<Vec<String>>],
-) -> Result<Vec<ScriptLine<'a>>, Refusal>
-    ensures lines { IfOk result (λ lines. (script : List ℕ) → HaveWords (lines_of script) (map plain_words words.now)
-        → IsScript script (Ok (plain_lines lines.items))) }
-    ensures tested { IfOk result (λ lines. AllByRecursion IsTested (plain_lines lines.items)) }
+) -> Result<Vec<ScriptItem<'a>>, Refusal>
+    ensures items { IfOk result (λ items. (script : List ℕ) → HaveWords (lines_of script) (map plain_words words.now)
+        → IsScript script (Ok (plain_items items.items))) }
+    ensures playable { IfOk result (λ items. AllByRecursion IsPlayable (plain_items items.items)) }
     ensures told { IfErr result (λ refusal. (script : List ℕ) → HaveWords (lines_of script) (map plain_words words.now)
         → RefusesScript script refusal) }
 {
     match parse_script(alloc, words) {
-        Ok(lines) => Ok(lines),
+        Ok(items) => Ok(items),
         Err(ScriptError::BadLine(number)) => Err(Refusal::BadScript(number)),
         Err(ScriptError::OutOfMemory) => Err(Refusal::OutOfMemory),
     }
 }
 
-/// Plays the script at a path on a device in memory of `sectors` sectors, with an empty store of this version, and prints what its lines answer,
+/// Plays the script at a path on a device in memory of `sectors` sectors, with an empty store of this version, and prints what its items answer,
 /// whether the device stopped, and which tables a crash leaves.
 ///
 /// # Errors
@@ -117,8 +119,9 @@ pub fn replay<F: Read + OpenFile + Drop, H: Files<File = F> + AllocGlobal, W: Wr
     let device = empty_store(alloc, sectors, version)?;
     let script = read_script(rt, script)?;
     let words = script_words(alloc, &script)?;
-    let lines = lines_of(alloc, &words)?;
-    let calls = calls_of(rt, &lines)?;
-    let text = play_lines(alloc, device, calls, faults)?;
+    let items = items_of(alloc, &words)?;
+    let calls = calls_of(rt, &items)?;
+    let numbers = numbers_of(alloc, &items)?;
+    let text = play_calls(alloc, device, &numbers, calls, faults)?;
     write_whole(output, text.as_bytes())
 }

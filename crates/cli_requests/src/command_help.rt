@@ -86,7 +86,7 @@ since 1970-01-01; with --dates iso they are as in 2026-11-30 or
         example: "Example: arrowstore apply store script
 where each line of script is one of these, with single spaces between the words:
 create NAME FIELD .., import NAME FILE, append NAME FILE, rename NAME NEW, drop NAME or
-save NAME NEW [--columns A,B] [--] CONDITION ..
+save NAME NEW [--columns A,B] [--limit N] [--] CONDITION ..
 A word with spaces stands in quotation marks, and a mark in it is written twice.
 
 The lines see what the lines before them have done. So this script deletes rows:
@@ -165,10 +165,11 @@ copy again.",
         example: "Example: arrowstore replay script --sectors 16 --stop 8 --choice new
 where each line of script is one of these, with single spaces between the words:
 create NAME FIELD .., import NAME FILE, append NAME FILE, rename NAME NEW, drop NAME,
-save NAME NEW [--columns A,B] [--] CONDITION .., compact (one step), upgrade or reopen.
-A word with spaces stands in quotation marks, and a mark in it is written twice. It
-prints ok or a refusal for each line. Writes and syncs of the device are counted from 1,
-after the formatting. No line may be empty.",
+save NAME NEW [--columns A,B] [--limit N] [--] CONDITION .., compact (one step), upgrade,
+reopen, begin or commit. A word with spaces stands in quotation marks, and a mark in it
+is written twice. The lines between begin and commit are one commit, as a script of
+apply is. It prints ok or a refusal for each other line, and for each commit. Writes and
+syncs of the device are counted from 1, after the formatting. No line may be empty.",
     },
 ];
 

@@ -5,3 +5,4 @@ pub mod Reading
 pub mod Written
 pub mod Tests
 pub mod Lines
+pub mod Grouped

@@ -9,7 +9,7 @@ use Rattle.std.proofs.lemmas.List.Folds.{list_all-append}
 use Rattle.facts.specs.Texts.{text_list}
 use Rattle.cli_scripts.specs.declared.line.ScriptLine.{ScriptLine}
 use Rattle.cli_scripts.specs.Plain.{plain_line, plain_lines, plain_words}
-use Rattle.cli_scripts.specs.Script.{PlainLine, HasLine, HasNone, ReadsLine, HaveLines, IsBadLine, changes_tables, HasNoChange, ReadsChange, HaveChanges, IsNoChange}
+use Rattle.cli_scripts.specs.Script.{PlainLine, HasLine, ReadsLine, HaveLines, changes_tables, HasNoChange, ReadsChange, HaveChanges, IsNoChange}
 use Rattle.cli_scripts.specs.Words.{lines_of, ends_empty, HasWords, HaveWords}
 
 -- ---- the lines of a script
@@ -58,7 +58,7 @@ words_kept parts i d words found lt so_far has =
     (have_more (take i (text_list parts)) (map plain_words words) (get_or (text_list parts) i []) (plain_words found) so_far
     (subst (λ (line : List ℕ). HasWords line (plain_words found)) (sym at) has)))
 
-lines_more : (fronts : List (Option (List (List ℕ)))) (lines : List PlainLine) (words : Option (List (List ℕ))) (line : PlainLine) → HaveLines fronts lines → HasLine words line
+pub lines_more : (fronts : List (Option (List (List ℕ)))) (lines : List PlainLine) (words : Option (List (List ℕ))) (line : PlainLine) → HaveLines fronts lines → HasLine words line
     → HaveLines (fronts ++ words ∷ []) (lines ++ line ∷ [])
 lines_more [] [] words line have is = (is, tt)
 lines_more [] (l ∷ ls) words line have is = absurd have
@@ -77,18 +77,6 @@ line_kept all i item lines found line lt here read some so_far =
     (subst (λ (ls : List PlainLine). HaveLines (take i (map plain_words all) ++ get_or (map plain_words all) i None ∷ []) ls) (sym (map-append plain_line lines (line ∷ [])))
     (lines_more (take i (map plain_words all)) (plain_lines lines) (get_or (map plain_words all) i None) (plain_line line) so_far
     (subst (λ (words : Option (List (List ℕ))). HasLine words (plain_line line)) at is)))
-
--- the first line without a command
-pub bad_line : (all : List (Option (Vec (String Global)))) (i : ℕ) (item : Option (Vec (String Global))) (lines : List ScriptLine) (number : ℕ) → number ≡ i + 1 → i < length all
-    → item ≡ get_or all i item → HaveLines (take i (map plain_words all)) (plain_lines lines) → HasNone (plain_words item) → IsBadLine (map plain_words all) number
-bad_line all i item lines number counted lt here before none = record {
-  index = i;
-  counted = counted;
-  among = omega (arith, lt, length-map all plain_words);
-  front = plain_lines lines;
-  before = before;
-  bad = subst (λ (words : Option (List (List ℕ))). HasNone words) (ap plain_words here ∙ sym (get_or-map plain_words all i item None lt)) none;
-}
 
 -- ---- lines that change tables
 

@@ -5,8 +5,13 @@ use Rattle.std.specs.Option.{option_copied}
 use Rattle.facts.specs.Texts.{text_list}
 use Rattle.cli_scripts.specs.declared.line.SavedRows.{SavedRows}
 use Rattle.cli_scripts.specs.declared.line.ScriptLine.{ScriptLine}
-use Rattle.cli_scripts.specs.declared.line.ScriptLine.TheVariants.{Create, Import, Append, Save, Rename, Drop, Compact, Upgrade, Reopen}
-use Rattle.cli_scripts.specs.Script.{PlainRows, PlainLine, create, import_file, append_file, save, rename, drop, compact, upgrade, reopen}
+use Rattle.cli_scripts.specs.declared.line.ScriptLine.TheVariants.{Create, Import, Append, Save, Rename, Drop, Compact, Upgrade, Reopen, Begin, Commit}
+use Rattle.cli_scripts.specs.Script.{PlainRows, PlainLine, create, import_file, append_file, save, rename, drop, compact, upgrade, reopen, begin_list, commit_list}
+use Rattle.cli_scripts.specs.Items.{PlainList, PlainItem, PlainGrouping, one, listed}
+use Rattle.cli_scripts.specs.declared.items.ScriptList.{ScriptList}
+use Rattle.cli_scripts.specs.declared.items.ScriptItem.{ScriptItem}
+use Rattle.cli_scripts.specs.declared.items.ScriptItem.TheVariants as items
+use Rattle.cli_scripts.specs.declared.items.Grouping.{Grouping}
 
 abbrev pub plain_words : Option (Vec (String Global)) → Option (List (List ℕ))
 plain_words words = option_map (λ v. map string_bytes v.items) words
@@ -24,6 +29,21 @@ plain_line (Drop name) = drop name.now
 plain_line Compact = compact
 plain_line Upgrade = upgrade
 plain_line Reopen = reopen
+plain_line Begin = begin_list
+plain_line Commit = commit_list
 
 abbrev pub plain_lines : List ScriptLine → List PlainLine
 plain_lines lines = map plain_line lines
+
+abbrev pub plain_list : ScriptList → PlainList
+plain_list list = record { number = list.number; lines = plain_lines list.lines.items }
+
+abbrev pub plain_item : ScriptItem → PlainItem
+plain_item (items.Line number line) = one number (plain_line line)
+plain_item (items.List list) = listed (plain_list list)
+
+abbrev pub plain_items : List ScriptItem → List PlainItem
+plain_items items = map plain_item items
+
+abbrev pub plain_grouping : Grouping → PlainGrouping
+plain_grouping grouping = record { items = plain_items grouping.items.items; list = option_map plain_list grouping.list }

@@ -30,14 +30,21 @@ pub data PlainLine : Type 0 where
   compact : PlainLine
   upgrade : PlainLine
   reopen : PlainLine
+  -- the lines from `begin` to `commit` are one commit
+  begin_list : PlainLine
+  commit_list : PlainLine
 
 -- ---- what the words ask for
+
+-- what begins and ends a list
+unfoldable pub list_bound : List ℕ → Option PlainLine
+list_bound word = if bytes_eq (codes "begin") word then Some begin_list else if bytes_eq (codes "commit") word then Some commit_list else None
 
 unfoldable pub alone : List ℕ → Option PlainLine
 alone word =
     if bytes_eq (codes "compact") word then Some compact
     else if bytes_eq (codes "upgrade") word then Some upgrade
-    else if bytes_eq (codes "reopen") word then Some reopen else None
+    else if bytes_eq (codes "reopen") word then Some reopen else list_bound word
 
 unfoldable pub with_name : List ℕ → List ℕ → Option PlainLine
 with_name word name = if bytes_eq (codes "drop") word then Some (drop name) else None
@@ -138,7 +145,7 @@ abbrev pub ReadsLine : Option (List (List ℕ)) → Option PlainLine → Type 0
 ReadsLine words (Some line) = HasLine words line
 ReadsLine words None = HasNone words
 
--- ---- a script
+-- ---- lines
 
 abbrev pub HaveLines : List (Option (List (List ℕ))) → List PlainLine → Type 0
 HaveLines [] [] = Unit {0}
@@ -146,31 +153,14 @@ HaveLines (words ∷ more) (line ∷ lines) = HasLine words line × HaveLines mo
 HaveLines [] (line ∷ lines) = ⊥
 HaveLines (words ∷ more) [] = ⊥
 
--- the first invalid line; its number counts from 1
-pub record IsBadLine (texts : List (Option (List (List ℕ)))) (number : ℕ) : Type 0 where
-  pub index : ℕ
-  pub counted : number ≡ index + 1
-  pub among : index < length texts
-  pub front : List PlainLine
-  pub before : HaveLines (take index texts) front
-  pub bad : HasNone (get_or texts index None)
-
--- the lines that words have, or the first line without a command
-abbrev pub AreParsed : List (Option (List (List ℕ))) → Result (List PlainLine) ScriptError → Type 0
-AreParsed texts (Ok lines) = HaveLines texts lines
-AreParsed texts (Err (BadLine number)) = IsBadLine texts number
-AreParsed texts (Err OutOfMemory) = Unit {0}
-
--- the lines of a script, or its first invalid line
-abbrev pub IsScript : List ℕ → Result (List PlainLine) ScriptError → Type 0
-IsScript script parsed = (texts : List (Option (List (List ℕ)))) × HaveWords (lines_of script) texts × AreParsed texts parsed
-
--- ---- a script that is applied as one commit: each line changes tables
+-- ---- lines that change tables, and a script of such lines, which is applied as one commit
 
 abbrev pub changes_tables : PlainLine → Bool
 changes_tables compact = false
 changes_tables upgrade = false
 changes_tables reopen = false
+changes_tables begin_list = false
+changes_tables commit_list = false
 changes_tables _ = true
 
 -- these words are those of such a line

@@ -3,7 +3,7 @@ ghost use Rattle.std.specs.Prelude.{◌≡◌, IfOk, option_map};
 ghost use Rattle.std.specs.Option.{option_copied};
 ghost use Rattle.facts.specs.Texts.{text_list};
 ghost use Rattle.cli_scripts.specs.Plain.{plain_line, plain_rows};
-ghost use Rattle.cli_scripts.specs.Script.{alone, with_name, with_two, other_of, create_of, option_at, option_or_at, limit_of, after_dashes, rows_of, save_of, save_or_other, line_of};
+ghost use Rattle.cli_scripts.specs.Script.{list_bound, alone, with_name, with_two, other_of, create_of, option_at, option_or_at, limit_of, after_dashes, rows_of, save_of, save_or_other, line_of};
 
 use cli_requests::number_of;
 use std::alloc::{AllocError, Global};
@@ -56,6 +56,22 @@ pub enum ScriptLine<'a> {
     Upgrade,
     /// Closes the store and opens it again.
     Reopen,
+    /// The lines after this one, up to `Commit`, are one commit.
+    Begin,
+    Commit,
+}
+
+#[tactic(auto, unfolding(crate::specs::Script::list_bound))]
+fn list_bound<'a>(word: &str) -> Option<ScriptLine<'a>>
+    ensures { option_map plain_line result ≡ list_bound word.now }
+{
+    if word == "begin" {
+        Some(ScriptLine::Begin)
+    } else if word == "commit" {
+        Some(ScriptLine::Commit)
+    } else {
+        None
+    }
 }
 
 #[tactic(auto, unfolding(crate::specs::Script::alone))]
@@ -69,7 +85,7 @@ fn alone<'a>(word: &str) -> Option<ScriptLine<'a>>
     } else if word == "reopen" {
         Some(ScriptLine::Reopen)
     } else {
-        None
+        list_bound(word)
     }
 }
 

@@ -1,13 +1,16 @@
 // Parses the lines of a script.
-ghost use Rattle.std.specs.Prelude.{◌≡◌, IfOk, IfErr, option_map, map, string_bytes};
+ghost use Rattle.std.specs.Prelude.{◌≡◌, IfOk, IfErr, None, Some, option_map, map, string_bytes};
 ghost use Rattle.std.specs.Result.{result_map_both};
 ghost use Rattle.facts.specs.Texts.{text_list};
-ghost use Rattle.cli_scripts.specs.Plain.{plain_words, plain_line, plain_lines};
-ghost use Rattle.cli_scripts.specs.Script.{StateFields, are_conditions, AreTested, ReadsLine, ReadsChange, AreParsed, AreChanges, changes_tables};
+ghost use Rattle.cli_scripts.specs.Items.{AreParsed};
+ghost use Rattle.cli_scripts.specs.Plain.{plain_grouping, plain_items, plain_words, plain_line, plain_lines};
+ghost use Rattle.cli_scripts.specs.Script.{StateFields, are_conditions, AreTested, ReadsLine, ReadsChange, AreChanges};
+ghost use Rattle.cli_scripts.specs.inner.Grouping.{AddsWords};
 ghost use Rattle.cli_scripts.specs.declared.script.ScriptError.TheVariants.{OutOfMemory};
 
-use crate::ScriptLine;
+use crate::items::{Grouping, add_line, changes_tables};
 use crate::line::line_of;
+use crate::{ScriptItem, ScriptLine};
 use field_texts::{ParseError, parse_fields};
 use query::{Condition, QueryError};
 use std::alloc::{AllocError, AllocFailed, Global};
@@ -108,33 +111,57 @@ fn read_line<'a>(
     }
 }
 
-/// Parses the lines of a script from their words, as [`crate::script_words`] returns them.
+// Adds the line of these words to those that are grouped. `None` if they have none that may follow.
+fn add_words<'a>(
+    alloc: Global,
+    grouping: Grouping<'a>,
+    words: &'a Option<Vec<String>>,
+    number: u64,
+) -> Result<Option<Grouping<'a>>, ScriptError>
+    ensures added { IfOk result (λ new. AddsWords (plain_grouping grouping.entry) number (plain_words words.now) (option_map plain_grouping new)) }
+    ensures memory { IfErr result (λ e. e ≡ ScriptError.OutOfMemory) }
+{
+    let Some(line) = read_line(alloc, words)? else {
+        return Ok(None);
+    };
+    Ok(add_line(alloc, grouping, line, number)?)
+}
+
+// Returns the items of all lines, unless a list is still open.
+fn items_of<'a>(grouping: Grouping<'a>) -> Result<Vec<ScriptItem<'a>>, ScriptError>
+    ensures ended { IfOk result (λ items. plain_grouping grouping.entry ≡ record { items = plain_items items.items; list = None }) }
+    ensures open { IfErr result (λ e. (list : _) × ((plain_grouping grouping.entry).list ≡ Some list) × (e ≡ ScriptError.BadLine list.number)) }
+{
+    let Grouping { items, list } = grouping;
+    match list {
+        Some(list) => Err(ScriptError::BadLine(list.number)),
+        None => Ok(items),
+    }
+}
+
+/// Parses the lines of a script that is played from their words, as [`crate::script_words`] returns them.
 ///
 /// # Errors
-/// `BadLine` with the number of the first line that has no words or whose words are no command, counted from 1; `OutOfMemory`.
+/// `BadLine` with a number counted from 1: of the first line that has no words, whose words are no command, or whose command may not follow the lines
+/// before it, as `commit` without a `begin`; or of a `begin` without `commit`. `OutOfMemory`.
 pub fn parse_script<'a>(
     alloc: Global,
     words: &'a [Option<Vec<String>>],
-) -> Result<Vec<ScriptLine<'a>>, ScriptError>
-    ensures { AreParsed (map plain_words words.now) (result_map_both (λ lines. plain_lines lines.items) (λ e. e) result) }
+) -> Result<Vec<ScriptItem<'a>>, ScriptError>
+    ensures { AreParsed (map plain_words words.now) (result_map_both (λ items. plain_items items.items) (λ e. e) result) }
 {
-    let mut lines = Vec::with_capacity(alloc, words.len())?;
+    let mut grouping = Grouping {
+        items: Vec::with_capacity(alloc, words.len())?,
+        list: None,
+    };
     for (place, found) in words.iter().enumerate() {
-        match read_line(alloc, found)? {
-            Some(line) => lines.push(line)?,
-            None => return Err(ScriptError::BadLine(place as u64 + 1)),
+        let number = place as u64 + 1;
+        match add_words(alloc, grouping, found, number)? {
+            Some(longer) => grouping = longer,
+            None => return Err(ScriptError::BadLine(number)),
         }
     }
-    Ok(lines)
-}
-
-fn changes_tables(line: &ScriptLine<'_>) -> bool
-    ensures { result ≡ changes_tables (plain_line line.now) }
-{
-    match line {
-        ScriptLine::Compact | ScriptLine::Upgrade | ScriptLine::Reopen => false,
-        _ => true,
-    }
+    items_of(grouping)
 }
 
 // Reads a line that changes tables. Any other line is `None`.

@@ -1,7 +1,7 @@
 use Rattle.std.proofs.Common.{take}
-use Rattle.cli_scripts.specs.Plain.{plain_lines}
-use Rattle.cli_replay.specs.Replay.{AreCallsOfLines}
+use Rattle.cli_scripts.specs.Plain.{plain_items}
+use Rattle.cli_replay.specs.Replay.{AreCallsOfItems}
 use Rattle.cli_replay.proofs.calls.calls_of.Given as goal
 
-abbrev pub invariant-loop-line : goal.invariant-loop-line
-invariant-loop-line g l = AreCallsOfLines g.F.Read.remaining (plain_lines (take l.line-index l.lines)) l.calls.items
+abbrev pub invariant-loop-item : goal.invariant-loop-item
+invariant-loop-item g l = AreCallsOfItems g.F.Read.remaining (plain_items (take l.item-index l.items)) l.calls.items

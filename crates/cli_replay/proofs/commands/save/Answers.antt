@@ -1,4 +1,4 @@
-use Rattle.std.proofs.Common.{◌≡◌, ℕ, List, Some, None, Bor, rules, ap, subst}
+use Rattle.std.proofs.Common.{◌≡◌, ℕ, List, Some, Bor, rules, ap, subst}
 use Rattle.std.specs.Option.{option_copied}
 use Rattle.civil_days.specs.declared.date_form.DateForm.TheVariants.{Numbers}
 use Rattle.facts.specs.Texts.{text_list}

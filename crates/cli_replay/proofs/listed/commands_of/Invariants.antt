@@ -1,6 +1,6 @@
 use Rattle.std.proofs.Common.{take}
 use Rattle.cli_scripts.specs.Plain.{plain_lines}
-use Rattle.cli_replay.specs.Listed.{AreCommandsOfLines}
+use Rattle.cli_replay.specs.Replay.{AreCommandsOfLines}
 use Rattle.cli_replay.proofs.listed.commands_of.Given as goal
 
 abbrev pub invariant-loop-line : goal.invariant-loop-line

@@ -4,5 +4,5 @@ use Rattle.store.specs.Places.{replies_of}
 use Rattle.cli_replay.specs.Playing.{replies_text}
 use Rattle.cli_replay.proofs.playing.lines_of_replies.Given as goal
 
-abbrev pub invariant-loop-reply : goal.invariant-loop-reply
-invariant-loop-reply l = string_bytes l.text ++ replies_text (replies_of (drop l.reply-index l.replies)) ≡ replies_text (replies_of l.replies)
+abbrev pub invariant-loop-place : goal.invariant-loop-place
+invariant-loop-place l = string_bytes l.text ++ replies_text (drop l.place l.numbers) (replies_of (drop l.place l.replies)) ≡ replies_text l.numbers (replies_of l.replies)

@@ -1,18 +1,18 @@
-use Rattle.std.proofs.Common.{◌+◌, List, take, map, refl, sym, subst}
-use Rattle.cli_scripts.specs.Plain.{plain_lines, plain_words}
-use Rattle.cli_scripts.specs.Script.{HaveLines}
-use Rattle.cli_scripts.specs.declared.line.ScriptLine.{ScriptLine}
-use Rattle.cli_scripts.proofs.Lines.{line_kept, bad_line}
+use Rattle.std.proofs.Common.{Option, inl, refl, ap}
+use Rattle.std.specs.Prelude.{option_map}
+use Rattle.cli_scripts.specs.Plain.{plain_grouping}
+use Rattle.cli_scripts.specs.declared.items.Grouping.{Grouping}
+use Rattle.cli_scripts.proofs.Grouped.{words_read, words_refused}
 use Rattle.cli_scripts.proofs.script.parse_script.Goals as goal
 
 pub loop-place-preserved : goal.loop-place-preserved
 loop-place-preserved c =
-    let all = c.args.words.now in
     let item = c.index-words-place in
-    subst (λ (lines : List ScriptLine). HaveLines (take (c.loop-place.place + 1) (map plain_words all)) (plain_lines lines)) (sym c.in_ok-push-in-Some.ensures.items)
-    (line_kept all c.loop-place.place item.result c.loop-place.lines.items c.in_ok-line.field-0 c.in-Some.line c.loop-place-test.true item.is c.in_ok-line.ensures.read c.in-Some.is c.loop-place.invariant)
+    words_read c.args.words.now c.loop-place.place item.result (plain_grouping c.loop-place.grouping) (plain_grouping c.in-Some.longer) _ _ refl c.loop-place-test.true item.is c.in_ok-longer.ensures.added
+    (ap (λ (o : Option Grouping). option_map plain_grouping o) c.in-Some.is) c.loop-place.invariant
 
 pub returns-in-None : goal.returns-in-None
 returns-in-None c =
     let item = c.index-words-place in
-    bad_line c.args.words.now c.loop-place.place item.result c.loop-place.lines.items _ refl c.loop-place-test.true item.is c.loop-place.invariant (rw c.in-None.is at c.in_ok-line.ensures.read)
+    inl (words_refused c.args.words.now c.loop-place.place item.result (plain_grouping c.loop-place.grouping) _ _ refl c.loop-place-test.true item.is c.in_ok-longer.ensures.added
+    (ap (λ (o : Option Grouping). option_map plain_grouping o) c.in-None.is) c.loop-place.invariant)

@@ -17,7 +17,7 @@ use Rattle.cli_replay.proofs.Formatted.{still_empty, all_faults}
 use Rattle.cli_replay.proofs.Kept.{replay_keeps}
 use Rattle.cli_replay.proofs.Results.{printed_text}
 use Rattle.cli_replay.proofs.Plays.{over, none_left}
-use Rattle.cli_replay.proofs.replaying.play_lines.Goals as goal
+use Rattle.cli_replay.proofs.replaying.play_calls.Goals as goal
 
 pub returns-in_err-place-clause-told : goal.returns-in_err-place-clause-told
 returns-in_err-place-clause-told c =
@@ -55,9 +55,9 @@ returns-clause-replays c = λ sectors version empty.
       tables = string_bytes c.in_ok-found.found;
       found = found;
       kept =
-          replay_keeps ghosts over none_left refl c.acknowledged_commands_are_settled.ensures faulty.result stands.stands c.in_ok-place.place c.in_ok-place.ensures.opened c.args.lines.items
+          replay_keeps ghosts over none_left refl c.acknowledged_commands_are_settled.ensures faulty.result stands.stands c.in_ok-place.place c.in_ok-place.ensures.opened c.args.calls.items
           (replies_of replies) end c.in_ok-place-2.ensures left goes_on crash found.opened found.found found.opens found.listing found.after found.lists;
       printed =
-          printed_text _ _ _ _ _ c.has_stopped.result _ c.in_ok-joined_text.ensures (c.in_ok-text.ensures ∙ ap (λ (rs : List Reply). replies_text (replies_of rs)) c.deref.ensures.value)
+          printed_text _ _ _ _ _ c.has_stopped.result _ c.in_ok-joined_text.ensures (c.in_ok-text.ensures ∙ ap (λ (rs : List Reply). replies_text c.args.numbers.now (replies_of rs)) c.deref.ensures.value)
           (c.has_stopped.ensures ∙ ap over c.device-3.ensures) c.deref-2.ensures;
     }
