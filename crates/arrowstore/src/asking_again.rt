@@ -132,7 +132,7 @@ fn found_of<F: Read + Write + Seek + OpenFile + LockFile + Drop, H: Files<File =
             Some(AskedAgain::Listed(about_tables(rt.alloc(), &tables)?))
         }
         Refusal::BadScript(number) | Refusal::Line(number, _) => {
-            let line = line_of_script(rt, request, *number)?;
+            let line = line_of_script(rt, request, served.start, *number)?;
             Some(AskedAgain::Line(line))
         }
         Refusal::Query(_) | Refusal::Store(tables::Refusal::Query(_)) => {
