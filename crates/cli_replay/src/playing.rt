@@ -86,8 +86,9 @@ pub(crate) fn lines_of_replies(
 {
     let mut text = String::new(alloc);
     for (place, reply) in replies.iter().enumerate() {
-        if let Some(number) = numbers.get(place) {
-            push_reply(&mut text, *number, reply)?;
+        match numbers.get(place) {
+            Some(number) => push_reply(&mut text, *number, reply)?,
+            None => {}
         }
     }
     Ok(text)
