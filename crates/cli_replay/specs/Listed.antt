@@ -31,7 +31,7 @@ pub record HasCommands {F : Type 0} (remaining : F → Option (List ℕ)) (scrip
   pub ended : is_ended script ≡ true
   pub are : AreCommandsOfLines remaining lines commands
 
--- why a script has none: the line of this number is the first that is no command or changes no tables; or all lines are right, and this last one lacks its line
+-- why a script has none: the line of this number is the first that is no command or changes no tables; or all lines are right, and the last one lacks its line
 -- feed, or a file that one of them names can't be read; or memory is refused
 abbrev pub RefusesCommands : (script : List ℕ) → Refusal → Type 0
 RefusesCommands script (BadScript number) =

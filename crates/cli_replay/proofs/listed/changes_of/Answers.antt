@@ -1,4 +1,4 @@
-use Rattle.std.proofs.Common.{map}
+use Rattle.std.proofs.Common.{map, inl}
 use Rattle.cli_scripts.specs.Plain.{plain_lines, plain_words}
 use Rattle.cli_replay.proofs.Changes.{change_lines, tested_lines}
 use Rattle.cli_replay.proofs.listed.changes_of.Goals as goal
