@@ -1,9 +1,9 @@
 -- The commands of a list, one after another, before anything is written.
-use Rattle.std.specs.Prelude.{◌≢◌, ◌⊎◌, ◌||◌, ◌+◌, ◌-◌, ◌^◌, min, slice_get, if◌then◌else◌, IfErr}
-use Rattle.std.proofs.Common.{◌≡◌, ◌++◌, ◌∙◌, ◌≤◌, ℕ, zero, suc, Bool, true, false, List, [], ◌∷◌, Some, map, take, length, Result, Ok, Err, inl, inr, refl, sym, ap, subst, arith}
+use Rattle.std.specs.Prelude.{◌≢◌, ◌⊎◌, ◌||◌, ◌+◌, ◌-◌, ◌^◌, min, slice_get, if◌then◌else◌}
+use Rattle.std.proofs.Common.{◌≡◌, ◌++◌, ◌∙◌, ◌≤◌, ℕ, zero, suc, Bool, true, false, List, [], ◌∷◌, Some, map, take, length, Ok, Err, inl, inr, refl, sym, ap, subst, arith}
 use Rattle.std.proofs.lemmas.Bool.{true≢false}
 use Rattle.std.proofs.lemmas.List.{map-append, length-map, length-append, take_at}
-use Rattle.sector_dev.specs.Disk.{Story, Image, now}
+use Rattle.sector_dev.specs.Disk.{Story, Image}
 use Rattle.catalogue.specs.Entries.{PlainCatalogue, runs_of}
 use Rattle.catalogue.specs.View.{catalogue_of}
 use Rattle.tables.specs.declared.command.Command.{Command}
@@ -60,10 +60,10 @@ get_behind [] x ys (suc n) is = absurd (omega (arith, is))
 get_behind (y ∷ xs) x ys zero is = absurd (omega (arith, is))
 get_behind (y ∷ xs) x ys (suc n) is = get_behind xs x ys n (omega (arith, is))
 
-pub ends_there : (tells : Bool) (image : Image) (c : PlainCatalogue) (from : ℕ) (d : Draft) (front : List Command) (command : Command) (rest all : List Command) (place : ℕ) (r : Refusal) → AreBefore from (runs_of c) → d.from ≡ from
+pub ends_there : (tells : Bool) (image : Image) (c : PlainCatalogue) (from : ℕ) (d : Draft) (front : List Command) (command : Command) (rest all : List Command) (place : ℕ) (r : Refusal) → AreBefore from (runs_of c)
     → place ≡ length front → front ++ command ∷ rest ≡ all → LeadsThrough tells from image c (map command_of front) d.next (laid d.from (streams_of d) image) (catalogue_of d.made)
-    → EndsAtLine tells d.from d.next (laid d.from (streams_of d) image) (catalogue_of d.made) (command_of command) r → IsRefusedAt tells image c (map command_of all) place r
-ends_there tells image c from d front command rest all place r before own size parts leads ends =
+    → EndsAtLine tells d.next (laid d.from (streams_of d) image) (catalogue_of d.made) (command_of command) r → IsRefusedAt tells image c (map command_of all) place r
+ends_there tells image c from d front command rest all place r before size parts leads ends =
     let fronts = map command_of front in
     let x = command_of command in
     let others = map command_of rest in
@@ -81,7 +81,7 @@ ends_there tells image c from d front command rest all place r before own size p
       leads = subst (λ (cs : List PlainCommand). LeadsThrough tells from image c cs d.next over made) (sym first) leads;
       command = x;
       at = ap (λ (cs : List PlainCommand). slice_get cs place) whole ∙ get_behind fronts x others place count;
-      ends = subst (λ (n : ℕ). EndsAtLine tells n d.next over made x r) own ends;
+      ends = ends;
     }
 
 -- ---- how they are refused
@@ -121,10 +121,10 @@ reads_told size story failed tells place r (Whole q) a b (same, why) reads = sub
 abbrev pub NotAdded : (next : ℕ) → PlainCatalogue → PlainChange → Refusal → Type 0
 NotAdded next c change r = (r ≡ refusals.OutOfMemory) ⊎ ((r ≡ refusals.TooMany limits.Segments) × ExceedsSegments next c change)
 
-pub ends_unadded : (tells : Bool) (from next : ℕ) (image : Image) (c : PlainCatalogue) (command : PlainCommand) (change : PlainChange) (r : Refusal) → IsDecided tells image c command (Ok change) → NotAdded next c change r
-    → EndsAtLine tells from next image c command r
-ends_unadded tells from next image c command change r decided (inl memory) = inl (inr (inl (ap Err memory)))
-ends_unadded tells from next image c command change r decided (inr (many, exceeds)) = inr (many, (change, decided, exceeds))
+pub ends_unadded : (tells : Bool) (next : ℕ) (image : Image) (c : PlainCatalogue) (command : PlainCommand) (change : PlainChange) (r : Refusal) → IsDecided tells image c command (Ok change) → NotAdded next c change r
+    → EndsAtLine tells next image c command r
+ends_unadded tells next image c command change r decided (inl memory) = inl (inl (ap Err memory))
+ends_unadded tells next image c command change r decided (inr (many, exceeds)) = inr (many, (change, decided, exceeds))
 
 pub unadded_quiet : (next : ℕ) (c : PlainCatalogue) (change : PlainChange) (r : Refusal) → NotAdded next c change r → (is_failure r ≡ false) × (r ≢ refusals.Halted)
 unadded_quiet next c change r (inl memory) = (ap is_failure memory, λ is. let both : refusals.OutOfMemory ≡ refusals.Halted = sym memory ∙ is in cc both)

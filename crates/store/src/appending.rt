@@ -46,7 +46,7 @@ impl<D: SectorDevice> Store<D> {
         let opened = &self.opened;
         match opened.catalogue.list.get(&name) {
             Some(entry) => {
-                let change = append_to_entry(alloc, &mut self.device, entry, name, new);
+                let change = append_to_entry(alloc, &mut self.device, entry, name, new, false);
                 self.halted = halts(&change);
                 change
             }

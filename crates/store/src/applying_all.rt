@@ -90,9 +90,9 @@ impl<D: SectorDevice> Store<D> {
     ///
     /// # Errors
     /// `Halted` if the store is halted, before any other test. Then the refusal of the first command that is refused, with its place: those of
-    /// [`Store::apply`]; `RowsUnwritten` if it would have to read rows that one before it put into a table; `TooMany(Segments)` if there are too many after
-    /// it. Then `TooMany(Epochs)`, `NoRoom` and `Device` for all together. `Device` and `OutOfMemory` are told without a place. After `Device` the store is
-    /// halted, and only opening the device again shows whether the commands were applied. After any other error nothing has changed.
+    /// [`Store::apply`]; `TooMany(Segments)` if there are too many after it. Then `TooMany(Epochs)`, `NoRoom` and `Device` for all together. `Device` and
+    /// `OutOfMemory` are told without a place. After `Device` the store is halted, and only opening the device again shows whether the commands were applied.
+    /// After any other error nothing has changed.
     pub fn apply_all(&mut self, alloc: Global, commands: Vec<Command>) -> Result<(), ListRefusal>
         // On a store that represents a machine, it does what the list of commands does to the tables of the settled commands, as one command.
         ensures goes { D.tells ≡ true → (base : Tables) (m : Machine) → StoreFits D.size D.story base m self.old

@@ -8,24 +8,24 @@ ghost use Rattle.query.specs.View.{query_in};
 ghost use Rattle.tables.specs.Commands.{save_as, commands_of};
 ghost use Rattle.tables.specs.View.{command_of};
 ghost use Rattle.store_runs.specs.Changes.{CanChange};
-ghost use Rattle.store_runs.specs.Deciding.{reads_device, any_reads_device};
+ghost use Rattle.store_runs.specs.Deciding.{reads_device, any_reads_device, IsAnswered};
 ghost use Rattle.store_runs.specs.Reading.{OnlyReadsDevice, ended};
 ghost use Rattle.store_changes.specs.Appending.{append_of};
 ghost use Rattle.store_changes.specs.Change.{change_of};
 ghost use Rattle.store_changes.specs.Draft.{laid, streams_of, IsDraft};
 ghost use Rattle.store_changes.specs.Tests.{decision_of};
-ghost use Rattle.store_changes.specs.Verdicts.{LeadsThrough, IsLineAnswered, EndsAtLine};
+ghost use Rattle.store_changes.specs.Verdicts.{LeadsThrough, EndsAtLine};
 ghost use Rattle.store.specs.Lists.{refusal_of, ended_list, RefusesList};
 ghost use Rattle.store.specs.inner.Drafting.{Shows, StepsTo, IsToldAt};
 
 use crate::applying_all::ListRefusal;
-use crate::saving::{save_from_entry, save_from_unwritten};
+use crate::saving::save_from_entry;
 use catalogue::Catalogue;
 use query::Query;
 use sector_dev::SectorDevice;
 use std::alloc::Global;
 use store_changes::{
-    Change, Draft, NewRows, append_to_entry, append_to_unwritten, decide_create, decide_drop,
+    Change, Draft, DraftSource, NewRows, append_to_entry, decide_create, decide_drop,
     decide_import, decide_rename, has_new,
 };
 use tables::{Command, Refusal};
@@ -40,21 +40,20 @@ fn append_line<D: SectorDevice>(
 ) -> Result<Change, Refusal>
     requires size { is_size (D.size device.old) ≡ true }
     requires draft { IsDraft draft.now }
+    requires begins { draft.now.from ≡ D.size device.old }
     requires placed { all_on_device (D.size device.old) (runs_of (catalogue_of draft.now.old)) ≡ true }
     ensures reads { OnlyReadsDevice D.size D.story D.failed D.tells (ended result) device.old device.new }
     ensures ok { IfOk result (λ change. CanChange (catalogue_of draft.now.made) (change_of change)) }
     ensures answers { (image : Image) → Shows D.tells (D.story device.old) image
-        → IsLineAnswered D.tells draft.now.from (laid draft.now.from (streams_of draft.now) image) (catalogue_of draft.now.made)
+        → IsAnswered D.tells (laid draft.now.from (streams_of draft.now) image) (catalogue_of draft.now.made)
         (append_of (string_bytes name) new) (decision_of result) }
     ensures not_halted { IfErr result (λ e. e ≢ Refusal.Halted) }
 {
     match draft.made.get(&name) {
         Some(entry) => {
-            if has_new(draft.from, entry) {
-                append_to_unwritten(alloc, entry, name, new)
-            } else {
-                append_to_entry(alloc, device, entry, name, new)
-            }
+            let mut source = DraftSource { device, draft };
+            let is_known = has_new(draft.from, entry);
+            append_to_entry(alloc, &mut source, entry, name, new, is_known)
         }
         None => {
             // Dropped by a call, since the drop of each variant would be inlined here.
@@ -75,21 +74,19 @@ fn save_line<D: SectorDevice>(
 ) -> Result<Change, Refusal>
     requires size { is_size (D.size device.old) ≡ true }
     requires draft { IsDraft draft.now }
+    requires begins { draft.now.from ≡ D.size device.old }
     requires placed { all_on_device (D.size device.old) (runs_of (catalogue_of draft.now.old)) ≡ true }
     ensures reads { OnlyReadsDevice D.size D.story D.failed D.tells (ended result) device.old device.new }
     ensures ok { IfOk result (λ change. CanChange (catalogue_of draft.now.made) (change_of change)) }
     ensures answers { (image : Image) → Shows D.tells (D.story device.old) image
-        → IsLineAnswered D.tells draft.now.from (laid draft.now.from (streams_of draft.now) image) (catalogue_of draft.now.made)
+        → IsAnswered D.tells (laid draft.now.from (streams_of draft.now) image) (catalogue_of draft.now.made)
         (save_as (string_bytes from) (string_bytes to) (query_in query)) (decision_of result) }
     ensures not_halted { IfErr result (λ e. e ≢ Refusal.Halted) }
 {
     match draft.made.get(&from) {
         Some(entry) => {
-            if has_new(draft.from, entry) {
-                Err(save_from_unwritten(alloc, &draft.made, entry, &to, &query))
-            } else {
-                save_from_entry(alloc, device, &draft.made, entry, to, &query)
-            }
+            let mut source = DraftSource { device, draft };
+            save_from_entry(alloc, &mut source, &draft.made, entry, to, &query)
         }
         None => Err(Refusal::NoTable),
     }
@@ -104,12 +101,13 @@ fn decide_line<D: SectorDevice>(
 ) -> Result<Change, Refusal>
     requires size { is_size (D.size device.old) ≡ true }
     requires draft { IsDraft draft.now }
+    requires begins { draft.now.from ≡ D.size device.old }
     requires placed { all_on_device (D.size device.old) (runs_of (catalogue_of draft.now.old)) ≡ true }
     ensures reads { OnlyReadsDevice D.size D.story D.failed D.tells (ended result) device.old device.new }
     ensures still { reads_device (command_of command) ≡ false → device.new ≡ device.old }
     ensures ok { IfOk result (λ change. CanChange (catalogue_of draft.now.made) (change_of change)) }
     ensures answers { (image : Image) → Shows D.tells (D.story device.old) image
-        → IsLineAnswered D.tells draft.now.from (laid draft.now.from (streams_of draft.now) image) (catalogue_of draft.now.made)
+        → IsAnswered D.tells (laid draft.now.from (streams_of draft.now) image) (catalogue_of draft.now.made)
         (command_of command) (decision_of result) }
     ensures not_halted { IfErr result (λ e. e ≢ Refusal.Halted) }
 {
@@ -140,6 +138,7 @@ fn add_line<D: SectorDevice>(
 ) -> Result<Draft, Refusal>
     requires size { is_size (D.size device.old) ≡ true }
     requires draft { IsDraft draft }
+    requires begins { draft.from ≡ D.size device.old }
     requires placed { all_on_device (D.size device.old) (runs_of (catalogue_of draft.old)) ≡ true }
     ensures reads { OnlyReadsDevice D.size D.story D.failed D.tells (ended result) device.old device.new }
     ensures still { reads_device (command_of command) ≡ false → device.new ≡ device.old }
@@ -148,7 +147,7 @@ fn add_line<D: SectorDevice>(
     ensures steps { IfOk result (λ next. (image : Image) → Shows D.tells (D.story device.old) image
         → StepsTo D.tells image draft (command_of command) next) }
     ensures ends { IfErr result (λ e. (image : Image) → Shows D.tells (D.story device.old) image
-        → EndsAtLine D.tells draft.from draft.next (laid draft.from (streams_of draft) image) (catalogue_of draft.made) (command_of command) e) }
+        → EndsAtLine D.tells draft.next (laid draft.from (streams_of draft) image) (catalogue_of draft.made) (command_of command) e) }
     ensures not_halted { IfErr result (λ e. e ≢ Refusal.Halted) }
 {
     match decide_line(alloc, device, &draft, command) {

@@ -136,32 +136,6 @@ pub(crate) fn save_from_entry<D: SegmentSource>(
     }
 }
 
-// Returns why a query on the table of an entry whose segments are not all written is not saved: the first test that fails, or that the table would have to be
-// read.
-pub(crate) fn save_from_unwritten(
-    alloc: Global,
-    catalogue: &Catalogue,
-    entry: &TableEntry,
-    to: &str,
-    query: &Query,
-) -> Refusal
-    ensures answers { (result ≡ Refusal.OutOfMemory)
-        ⊎ ((selected_entry (catalogue_of catalogue.now) to.now (query_in query.now) (plain_entry entry.now) ≡ Ok (plain_entry entry.now))
-        × (result ≡ Refusal.RowsUnwritten))
-        ⊎ (selected_entry (catalogue_of catalogue.now) to.now (query_in query.now) (plain_entry entry.now) ≡ Err result) }
-    ensures no_device { is_failure result ≡ false }
-    ensures not_halted { result ≢ Refusal.Halted }
-{
-    match test_save(alloc, catalogue, entry.schema(), to, query) {
-        Ok(builder) => {
-            // Dropped by a call, since a value that is left out of a pattern is dropped behind the match.
-            drop(builder);
-            Refusal::RowsUnwritten
-        }
-        Err(refusal) => refusal,
-    }
-}
-
 impl<D: SectorDevice> Store<D> {
     ghost use Rattle.store_runs.specs.Deciding.{IsAnswered};
     ghost use Rattle.store.specs.Fits.{device_of, listed_in};

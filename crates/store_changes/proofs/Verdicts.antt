@@ -23,15 +23,15 @@ use Rattle.commit.specs.Standing.{rules, standing, used_runs, Stands, InSome}
 use Rattle.commit.specs.laws.Frame.{rules_found}
 use Rattle.tables.specs.declared.refusal.Refusal.{Refusal}
 use Rattle.tables.specs.declared.refusal.Refusal.TheVariants as refusals
-use Rattle.tables.specs.Commands.{PlainCommand, create, import_stream, append_stream, append_rows, save_as, rename, drop_table, all_of, PlainCommands, no_command, and_command, name_read, BringsTables, EachBringsTables}
+use Rattle.tables.specs.Commands.{PlainCommand, create, import_stream, append_stream, append_rows, save_as, rename, drop_table, all_of, PlainCommands, no_command, and_command, BringsTables, EachBringsTables}
 use Rattle.tables.specs.Tables.{Tables, table_at, with_table, without_table}
 use Rattle.tables.specs.Verdict.{import_tests, of_meaning, empty_table, verdict, verdict_in_turn}
 use Rattle.store_runs.specs.Machine.{holds}
 use Rattle.store_runs.specs.Held.{table_where, table_of_rows, table_held, tables_held, held_tables, held_by}
 use Rattle.pages.specs.Stored.{stored_reading}
-use Rattle.store_runs.specs.Changes.{PlainEdit, put, move, remove, PlainChange, placed_segments, stream_rows, Makes, MakesOf, IsOfCatalogue}
+use Rattle.store_runs.specs.Changes.{PlainEdit, put, move, remove, PlainChange, placed_segments, stream_rows, Makes, MakesOf}
 use Rattle.store_runs.specs.Reading.{Unreads}
-use Rattle.store_runs.specs.Deciding.{missing_in, full_in, create_tests, rename_tests, names_changed, pieces_put, decided_create, decided_table, of_entry, Addition, given_rows, streamed_rows, unselected, entry_added, entry_selected, entry_read, reads_device, IsNotRead, AreBefore, Leaves, IsDecided, IsDecidedInTurn, Stops, IsAnswered}
+use Rattle.store_runs.specs.Deciding.{missing_in, full_in, create_tests, rename_tests, names_changed, pieces_put, decided_create, decided_table, of_entry, Addition, given_rows, streamed_rows, unselected, entry_added, entry_selected, entry_read, reads_device, IsNotRead, AreBefore, Leaves, IsDecided, IsDecidedInTurn, IsAnswered}
 use Rattle.store_runs.specs.Carrying.{placed, commit_placed}
 use Rattle.store_changes.specs.OnDisk.{HasDone}
 use Rattle.store_changes.specs.LawsBelow.{LawsBelow, TableLaws}
@@ -222,14 +222,13 @@ pub record ReadsAt (c : PlainCatalogue) (command : PlainCommand) (e : PlainEntry
   pub name : List ℕ
   pub there : entry_of c name ≡ Some e
   pub reads : reads_device command ≡ true
-  pub named : name_read command ≡ Some name
 
 pub reads_at : (c : PlainCatalogue) (command : PlainCommand) (e : PlainEntry) → entry_read c command ≡ Some e → ReadsAt c command e
 reads_at c (append_stream name bytes) e is =
-    record { name = name; there = added_at e (streamed_rows bytes) (λ own a test. (streamed_is own bytes a test).entry) (entry_of c name) is; reads = refl; named = refl }
+    record { name = name; there = added_at e (streamed_rows bytes) (λ own a test. (streamed_is own bytes a test).entry) (entry_of c name) is; reads = refl }
 reads_at c (append_rows name rows) e is =
-    record { name = name; there = added_at e (given_rows rows) (λ own a test. (given_is own rows a test).entry) (entry_of c name) is; reads = refl; named = refl }
-reads_at c (save_as from to query) e is = record { name = from; there = selected_at e (λ own. first_some (unselected own.schema query ∷ create_tests c to ∷ [])) (entry_of c from) is; reads = refl; named = refl }
+    record { name = name; there = added_at e (given_rows rows) (λ own a test. (given_is own rows a test).entry) (entry_of c name) is; reads = refl }
+reads_at c (save_as from to query) e is = record { name = from; there = selected_at e (λ own. first_some (unselected own.schema query ∷ create_tests c to ∷ [])) (entry_of c from) is; reads = refl }
 reads_at c _ e is = absurd (cc is)
 
 -- a table that is held is not read only where the device fails, or memory is refused

@@ -10,7 +10,7 @@ use Rattle.values.specs.TableView.{table_of}
 use Rattle.values.specs.declared.weighed_table.WeighedTable.{WeighedTable}
 use Rattle.catalogue.specs.Entries.{PlainEntry}
 use Rattle.tables.specs.declared.refusal.Refusal.{Refusal}
-use Rattle.tables.specs.declared.refusal.Refusal.TheVariants.{OutOfMemory, RowsUnwritten}
+use Rattle.tables.specs.declared.refusal.Refusal.TheVariants.{OutOfMemory}
 use Rattle.tables.specs.Commands.{PlainCommand, append_stream, append_rows}
 use Rattle.store_changes.specs.declared.new_rows.NewRows.{NewRows}
 use Rattle.store_changes.specs.declared.new_rows.NewRows.TheVariants.{Stream, Given, OfTable}
@@ -40,8 +40,3 @@ ArePassed e tested None = (rows : List (List Cell)) × (tested ≡ Ok (record { 
 -- the answers to new rows for the table of an entry
 abbrev pub IsAppended : (tells : Bool) → Image → List ℕ → Result Addition Refusal → Result PlainChange Refusal → Type 0
 IsAppended tells image name tested answer = (answer ≡ Err OutOfMemory) ⊎ IsNotRead tells image (entry_added tested) answer ⊎ IsAdded tells image name tested answer
-
--- the same where this existing table has segments that are not written yet: it would have to be read
-abbrev pub IsAppendedUnwritten : (tells : Bool) → Image → List ℕ → PlainEntry → Result Addition Refusal → Result PlainChange Refusal → Type 0
-IsAppendedUnwritten tells image name e tested answer =
-    (answer ≡ Err OutOfMemory) ⊎ ((entry_added tested ≡ Some e) × (answer ≡ Err RowsUnwritten)) ⊎ IsAdded tells image name tested answer

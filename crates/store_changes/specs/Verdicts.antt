@@ -9,12 +9,12 @@ use Rattle.tables.specs.declared.refusal.Refusal.{Refusal}
 use Rattle.tables.specs.declared.refusal.Refusal.TheVariants.{TooMany, Device, OutOfMemory}
 use Rattle.tables.specs.declared.refusal.Limit.TheVariants as limits
 use Rattle.tables.specs.Tables.{Tables, table_at, table_count}
-use Rattle.tables.specs.Commands.{PlainCommand, all_of}
+use Rattle.tables.specs.Commands.{PlainCommand}
 use Rattle.tables.specs.Verdict.{verdict}
 use Rattle.store_runs.specs.Machine.{holds}
 use Rattle.store_runs.specs.Held.{table_held, held_by}
 use Rattle.store_runs.specs.Changes.{PlainChange, MakesOf}
-use Rattle.store_runs.specs.Deciding.{AreBefore, Leaves, ExceedsSegments, IsUnwritten, reads_device, IsDecided, IsAnswered}
+use Rattle.store_runs.specs.Deciding.{AreBefore, Leaves, ExceedsSegments, reads_device, IsDecided, IsAnswered}
 
 -- what a catalogue says about a table, by its entry
 abbrev pub TellsTable : Option PlainEntry → Option PlainTable → Type 0
@@ -45,14 +45,10 @@ LeadsThrough tells next image c (x ∷ xs) next' image' c' =
     (change : PlainChange) × (mid : ℕ) × (between : Image) × (d : PlainCatalogue) × IsDecided tells image c x (Ok change)
     × Leaves next image c change mid between d × LeadsThrough tells mid between d xs next' image' c'
 
--- an answer to a command of a list: it would have to read rows that are not written yet, or it is answered as a command alone
-abbrev pub IsLineAnswered : (tells : Bool) → (from : ℕ) → Image → PlainCatalogue → PlainCommand → Result PlainChange Refusal → Type 0
-IsLineAnswered tells from image c command answer = IsUnwritten from c command answer ⊎ IsAnswered tells image c command answer
-
 -- why a list ends at a command: its answer is a refusal, or there are too many segments after it
-abbrev pub EndsAtLine : (tells : Bool) → (from next : ℕ) → Image → PlainCatalogue → PlainCommand → Refusal → Type 0
-EndsAtLine tells from next image c command r =
-    IsLineAnswered tells from image c command (Err r)
+abbrev pub EndsAtLine : (tells : Bool) → (next : ℕ) → Image → PlainCatalogue → PlainCommand → Refusal → Type 0
+EndsAtLine tells next image c command r =
+    IsAnswered tells image c command (Err r)
     ⊎ ((r ≡ TooMany limits.Segments) × ((change : PlainChange) × IsDecided tells image c command (Ok change) × ExceedsSegments next c change))
 
 -- a list ends at the command at this place, counted from 0: those before it are accepted one after another
@@ -65,7 +61,7 @@ pub record IsRefusedAt (tells : Bool) (image : Image) (c : PlainCatalogue) (comm
   pub leads : LeadsThrough tells from image c (take place commands) next over made
   pub command : PlainCommand
   pub at : slice_get commands place ≡ Some command
-  pub ends : EndsAtLine tells from next over made command r
+  pub ends : EndsAtLine tells next over made command r
 
 -- nothing was decided: memory was refused, or the device failed in a command that reads it
 abbrev pub IsUndecided : PlainCommand → Result PlainChange Refusal → Type 0

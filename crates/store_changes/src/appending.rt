@@ -1,7 +1,7 @@
 // Appends rows to the table of an entry, which is read for its weight unless its segments are short enough.
-ghost use Rattle.std.specs.Prelude.{◌≡◌, ◌≢◌, ◌⊎◌, ◌++◌, Bool, List, Option, Some, Result, Ok, Err, IfOk, IfErr, IfSome, false, true, not, nat_le, string_bytes};
+ghost use Rattle.std.specs.Prelude.{◌≡◌, ◌≢◌, ◌⊎◌, ◌++◌, List, Option, Some, Result, Ok, Err, IfOk, IfErr, IfSome, false, true, not, nat_le, string_bytes};
 ghost use Rattle.facts.specs.Checks.{when};
-ghost use Rattle.sector_dev.specs.Disk.{Image, now, shown_image};
+ghost use Rattle.sector_dev.specs.Disk.{now, shown_image};
 ghost use Rattle.cells.specs.Cell.{Cell};
 ghost use Rattle.cells.specs.Weight.{table_weight};
 ghost use Rattle.catalogue.specs.Edits.{entry_of};
@@ -14,13 +14,12 @@ ghost use Rattle.store_changes.specs.Change.{change_of};
 ghost use Rattle.store_runs.specs.Changes.{CanChange, extend, rows_under};
 ghost use Rattle.store_runs.specs.Deciding.{Addition, decided_extension, pieces_put};
 ghost use Rattle.store_runs.specs.Reading.{OnlyReadsDevice, ended};
-ghost use Rattle.store_changes.specs.Appending.{added_to, ArePassed, IsAppended, IsAppendedUnwritten};
-ghost use Rattle.store_changes.specs.laws.Quiet.{IsQuiet};
+ghost use Rattle.store_changes.specs.Appending.{added_to, ArePassed, IsAppended};
 ghost use Rattle.store_changes.specs.Source.{AreReadable};
 ghost use Rattle.store_changes.specs.Tests.{Tests, decision_of};
 
 use crate::change::{Change, Edit, NewSegments, SegmentRows};
-use crate::lightness::{is_surely_light, stays_light};
+use crate::lightness::stays_light;
 use crate::new_rows::{NewRows, pass_new};
 use crate::source::SegmentSource;
 use crate::weighing::weigh_entry;
@@ -151,6 +150,7 @@ fn append_after_reading<D: SegmentSource>(
 }
 
 /// Decides on an append to the table of an entry: its tests in order. For the last one the table is read, unless it is surely light enough with the new rows.
+/// `is_known` is whether a command before this one had to read it, or made it: then a small table is not read either.
 ///
 /// # Errors
 /// Those of the new rows, in their order; those of reading the table; `TooMany(Weight)`; `OutOfMemory`.
@@ -160,6 +160,7 @@ pub fn append_to_entry<D: SegmentSource>(
     entry: &TableEntry,
     name: String,
     new: NewRows,
+    is_known: bool,
 ) -> Result<Change, Refusal>
     requires size { is_size (D.size device.old) ≡ true }
     requires readable { AreReadable (D.can_read device.old) (plain_entry entry.now).segments }
@@ -174,44 +175,13 @@ pub fn append_to_entry<D: SegmentSource>(
 {
     match pass_new(alloc, entry, new) {
         Ok(Some(weighed)) => {
-            if stays_light(entry, weighed.weight) {
+            if stays_light(entry, weighed.weight, is_known) {
                 append_unread(alloc, entry, name, weighed.table)
             } else {
                 append_after_reading(alloc, device, entry, name, Some(weighed))
             }
         }
         Ok(None) => append_after_reading(alloc, device, entry, name, None),
-        Err(refusal) => Err(refusal),
-    }
-}
-
-/// Decides on an append to the table of an entry whose segments are not all written: its tests in order. The table is not read.
-///
-/// # Errors
-/// Those of the new rows, in their order; `RowsUnwritten` if the table would have to be read for its weight; `OutOfMemory`.
-pub fn append_to_unwritten(
-    alloc: Global,
-    entry: &TableEntry,
-    name: String,
-    new: NewRows,
-) -> Result<Change, Refusal>
-    requires sound { is_entry (plain_entry entry.now) ≡ true }
-    ensures ok { IfOk result (λ change. (c : PlainCatalogue) → entry_of c (string_bytes name) ≡ Some (plain_entry entry.now)
-        → CanChange c (change_of change)) }
-    ensures answers { (tells : Bool) (image : Image) → IsAppendedUnwritten tells image (string_bytes name) (plain_entry entry.now)
-        (added_to new (plain_entry entry.now)) (decision_of result) }
-    ensures quiet { IfErr result IsQuiet }
-{
-    match pass_new(alloc, entry, new) {
-        Ok(Some(weighed)) => {
-            if is_surely_light(entry, weighed.weight) {
-                append_unread(alloc, entry, name, weighed.table)
-            } else {
-                drop(weighed);
-                Err(Refusal::RowsUnwritten)
-            }
-        }
-        Ok(None) => Err(Refusal::RowsUnwritten),
         Err(refusal) => Err(refusal),
     }
 }

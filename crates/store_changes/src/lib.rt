@@ -9,6 +9,7 @@ mod change;
 mod compacting;
 mod deciding;
 mod digests;
+mod draft_source;
 mod drafting;
 mod editing;
 mod laws;
@@ -24,13 +25,14 @@ mod source;
 mod table_builder;
 mod weighing;
 
-pub use appending::{append_to_entry, append_to_unwritten};
+pub use appending::append_to_entry;
 pub use change::{Change, Edit, NewSegments, SegmentRows};
 pub use compacting::{Step, decide_step};
 pub use deciding::{
     decide_create, decide_drop, decide_import, decide_rename, has_table, put_table, test_create,
 };
 pub use digests::all_digests;
+pub use draft_source::DraftSource;
 pub use drafting::Draft;
 pub use laws::{
     compactions_end, decisions_are_verdicts, laws_below, rows_have_their_digest, table_laws,

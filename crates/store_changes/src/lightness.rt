@@ -28,8 +28,8 @@ fn sizes_of(segments: &[Segment]) -> Option<(u64, u64)>
     Some((rows, bytes))
 }
 
-/// Returns whether the table of an entry is surely light enough together with new rows of this weight. Reads nothing.
-pub(crate) fn is_surely_light(entry: &TableEntry, new: u64) -> bool
+// Returns whether the table of an entry is surely light enough together with new rows of this weight. Reads nothing.
+fn is_surely_light(entry: &TableEntry, new: u64) -> bool
     requires sound { is_entry (plain_entry entry.now) ≡ true }
     ensures { result ≡ true → (rows : List (List Cell)) → new ≡ table_weight (plain_entry entry.now).schema rows
         → IsSurelyLight (record { entry = plain_entry entry.now; rows = rows }) }
@@ -42,14 +42,14 @@ pub(crate) fn is_surely_light(entry: &TableEntry, new: u64) -> bool
     }
 }
 
-/// Returns the same for a table that is not read anyway.
-pub(crate) fn stays_light(entry: &TableEntry, new: u64) -> bool
+/// Returns the same for a table that is not read anyway. `is_known` is whether a command before this one had to read it, or made it.
+pub(crate) fn stays_light(entry: &TableEntry, new: u64, is_known: bool) -> bool
     requires sound { is_entry (plain_entry entry.now) ≡ true }
     ensures { result ≡ true → (rows : List (List Cell)) → new ≡ table_weight (plain_entry entry.now).schema rows
         → IsSurelyLight (record { entry = plain_entry entry.now; rows = rows }) }
 {
     match sizes_of(entry.segments()) {
-        Some((_, bytes)) => bytes > FEW_BYTES && is_surely_light(entry, new),
+        Some((_, bytes)) => (is_known || bytes > FEW_BYTES) && is_surely_light(entry, new),
         None => false,
     }
 }

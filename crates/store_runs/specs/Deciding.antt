@@ -1,7 +1,7 @@
 -- The decision on a command by the catalogue, and for an append or a saved query by the existing table: the first of its tests that fails, or its
 -- change.
 -- The tests are those of the verdict on the tables that the catalogue lists.
-use Rattle.std.specs.Prelude.{◌≡◌, ◌≢◌, ◌⊎◌, ◌≤◌, ◌<◌, ◌+◌, ◌||◌, ℕ, Bool, true, false, not, ◌&&◌, nat_le, List, [], ◌∷◌, ◌++◌, length, is_some, Option, Some, None, Result, Ok, Err}
+use Rattle.std.specs.Prelude.{◌≡◌, ◌⊎◌, ◌≤◌, ◌<◌, ◌+◌, ◌||◌, ℕ, Bool, true, false, not, ◌&&◌, nat_le, List, [], ◌∷◌, ◌++◌, length, is_some, Option, Some, None, Result, Ok, Err}
 use Rattle.std.specs.List.{AllByRecursion}
 use Rattle.facts.specs.Checks.{when, first_some, unless}
 use Rattle.segments.specs.declared.run.Run.{Run}
@@ -23,7 +23,7 @@ use Rattle.catalogue.specs.declared.limits.TheConstants.{MAX_TABLES, MAX_SEGMENT
 use Rattle.commit.specs.declared.sector.FormatVersion.TheVariants.{One}
 use Rattle.tables.specs.declared.refusal.Limit.TheVariants as limits
 use Rattle.tables.specs.declared.refusal.Refusal.{Refusal}
-use Rattle.tables.specs.declared.refusal.Refusal.TheVariants.{NoTable, NameTaken, TooMany, RowsUnwritten, OutOfMemory}
+use Rattle.tables.specs.declared.refusal.Refusal.TheVariants.{NoTable, NameTaken, TooMany, OutOfMemory}
 use Rattle.tables.specs.Commands.{PlainCommand, create, import_stream, append_stream, append_rows, save_as, rename, drop_table, all_of, PlainCommands, no_command, and_command}
 use Rattle.tables.specs.Refusals.{query_refusal}
 use Rattle.tables.specs.Verdict.{bad_name, too_many_bytes, import_tests, other_shape, unfit_row, too_heavy, of_meaning, of_query, empty_table}
@@ -232,25 +232,19 @@ pub record IsNotRead (tells : Bool) (image : Image) (found : Option PlainEntry) 
 abbrev pub ExceedsSegments : (from : ℕ) → PlainCatalogue → PlainChange → Type 0
 ExceedsSegments from c change = MAX_SEGMENTS < segment_count (edited c change.edit (new_behind from change.streams change.counts))
 
--- a command of a list would have to read a table of which commands before it made segments: these start from the sector `from` on, and are not written yet
-abbrev pub IsUnwritten : (from : ℕ) → PlainCatalogue → PlainCommand → Result PlainChange Refusal → Type 0
-IsUnwritten from c command answer = (e : PlainEntry) × (entry_read c command ≡ Some e) × (new_in from e.segments ≢ []) × (answer ≡ Err RowsUnwritten)
-
 abbrev mutual
-  -- why there is no decision: reading the table of a command fails; or a command of a list would have to read rows that are not written yet, or there are too
-  -- many segments after it
+  -- why there is no decision: reading the table of a command fails, or there are too many segments after a command of a list
   pub Stops : (tells : Bool) → Image → PlainCatalogue → PlainCommand → Result PlainChange Refusal → Type 0
-  Stops tells image c (all_of cs) answer = (from : ℕ) × AreBefore from (runs_of c) × StopsInTurn tells from from image c cs answer
+  Stops tells image c (all_of cs) answer = (from : ℕ) × AreBefore from (runs_of c) × StopsInTurn tells from image c cs answer
   Stops tells image c command answer = IsNotRead tells image (entry_read c command) answer
 
-  pub StopsInTurn : (tells : Bool) → (from next : ℕ) → Image → PlainCatalogue → PlainCommands → Result PlainChange Refusal → Type 0
-  StopsInTurn tells from next image c no_command answer = ⊥
-  StopsInTurn tells from next image c (and_command x xs) answer =
+  pub StopsInTurn : (tells : Bool) → (next : ℕ) → Image → PlainCatalogue → PlainCommands → Result PlainChange Refusal → Type 0
+  StopsInTurn tells next image c no_command answer = ⊥
+  StopsInTurn tells next image c (and_command x xs) answer =
       Stops tells image c x answer
-      ⊎ IsUnwritten from c x answer
       ⊎ ((change : PlainChange) × IsDecided tells image c x (Ok change)
       × (((answer ≡ Err (TooMany limits.Segments)) × ExceedsSegments next c change)
-      ⊎ ((next' : ℕ) × (image' : Image) × (c' : PlainCatalogue) × Leaves next image c change next' image' c' × StopsInTurn tells from next' image' c' xs answer)))
+      ⊎ ((next' : ℕ) × (image' : Image) × (c' : PlainCatalogue) × Leaves next image c change next' image' c' × StopsInTurn tells next' image' c' xs answer)))
 
 -- the possible answers: the decision, that reading the table failed, or that memory was refused
 abbrev pub IsAnswered : (tells : Bool) → Image → PlainCatalogue → PlainCommand → Result PlainChange Refusal → Type 0

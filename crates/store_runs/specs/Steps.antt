@@ -10,7 +10,7 @@ use Rattle.tables.specs.declared.refusal.Refusal.TheVariants as refusals
 use Rattle.tables.specs.Refusals.{Origin, by_tables, by_room, by_memory, by_device, by_halt, by_list, elsewhere, origin_of}
 use Rattle.tables.specs.Tables.{Tables, table_at, row_counts}
 use Rattle.tables.specs.Commands.{PlainCommand, all_of}
-use Rattle.tables.specs.Verdict.{verdict, refused_line, AcceptsThrough, ReadsChanged}
+use Rattle.tables.specs.Verdict.{verdict, refused_line, AcceptsThrough}
 use Rattle.commit.specs.declared.opening_refusal.OpeningRefusal.TheVariants as openings
 use Rattle.store_runs.specs.Calls.{PlainCall, apply_call, format_call, open_call, close_call, tables_call, schema_call, read_call, export_call, stream_call, open_export_call, export_next_call, close_export_call, compact_call, upgrade_call, PlainReply, done, counts, schema_is, table_is, bytes_are, export_is, piece_is, merged, moved, nothing, already, refused, refused_at, shut_by}
 use Rattle.store_runs.specs.Machine.{Setting, shut, running, Export, Machine, with_doubt, tables_now, settle, opened, shut_down, halt, export_at, with_export, after_piece, without_export}
@@ -35,11 +35,10 @@ RefusesFrom by_list s m c r wrote new = ⊥
 RefusesFrom elsewhere s m c r wrote new = ⊥
 
 -- a list of commands that is refused for the one at this place, by the origin of its refusal: it is the first that the tables refuse; or the tables accept all
--- up to it, and there are too many segments after it; or it reads rows of a table that those before it may have changed, which the tables accept
+-- up to it, and there are too many segments after it
 abbrev pub RefusesLine : Origin → Tables → PlainCommand → (place : ℕ) → Refusal → Type 0
 RefusesLine by_tables t c place r = refused_line t c ≡ Some (place, r)
 RefusesLine by_room t c place r = (r ≡ refusals.TooMany limits.Segments) × AcceptsThrough t c place
-RefusesLine by_list t c place r = (r ≡ refusals.RowsUnwritten) × ReadsChanged t c place
 RefusesLine _ t c place r = ⊥
 
 abbrev pub StepApply : Setting → Machine → PlainCommand → PlainReply → Bool → Machine → Type 0

@@ -40,6 +40,29 @@ const DONE: &[Row] = &[
         "s: 1 2, t: 7 -1, u: 5 6",
     ),
     (
+        &[
+            Import("s", Ints(&[3, 1])),
+            Save("s", "v", (&[], &["a >= 2"], None)),
+            Append("v", Ints(&[8])),
+            Save("v", "w", (&[], &[], None)),
+            Remove("s"),
+        ],
+        "ok",
+        "t: 7 -1, u:, v: 3 8, w: 3 8",
+    ),
+    (
+        &[
+            Append("t", Ints(&[-2, 4])),
+            Save("t", "kept", (&[], &["a >= 0"], None)),
+            Append("t", Ints(&[9])),
+            Save("t", "s", (&[], &["a >= 5"], Some(1))),
+            Rename("t", "x"),
+            Save("x", "t", (&[], &["a < 0"], None)),
+        ],
+        "ok",
+        "kept: 7 4, s: 7, t: -1 -2, u:, x: 7 -1 -2 4 9",
+    ),
+    (
         &[Import("s", Ints(&[1])), Remove("s"), Remove("t")],
         "ok",
         "u:",
@@ -68,8 +91,8 @@ const REFUSED: &[Row] = &[
         "t: 7 -1, u:",
     ),
     (
-        &[Import("s", Ints(&[1])), Save("s", "w", (&[], &[], None))],
-        "S16 RowsUnwritten of 1",
+        &[Import("s", Ints(&[1])), Save("s", "t", (&[], &[], None))],
+        "S2 NameTaken of 1",
         "t: 7 -1, u:",
     ),
 ];

@@ -18,8 +18,6 @@ pub const FROM_TWENTY: &[&str] = &["a >= 20"];
 struct Rows {
     wide: bool,
     values: Vec<i32>,
-    // Whether one of several commands as one put rows into the table, which are written only after all of them.
-    unwritten: bool,
 }
 
 /// The tables by the places of their names, and the exports by their ids.
@@ -27,8 +25,6 @@ struct Rows {
 pub struct Plain {
     tables: Vec<Option<Rows>>,
     exports: Vec<Snapshot>,
-    // Whether several commands as one are executed.
-    together: bool,
 }
 
 // Returns the place of a name among these, or their number if it is not there.
@@ -70,7 +66,6 @@ fn rows_of(alloc: Global, input: Input) -> Result<Rows, NotMade> {
     add_input(&mut values, input)?;
     Ok(Rows {
         wide: is_wide(columns),
-        unwritten: !values.is_empty(),
         values,
     })
 }
@@ -96,17 +91,14 @@ fn kept(alloc: Global, asked: Asked, rows: &Rows) -> Result<Rows, NotMade> {
     add_kept(&mut values, asked, rows)?;
     Ok(Rows {
         wide: rows.wide,
-        unwritten: !values.is_empty(),
         values,
     })
 }
 
-// Copies a table that stands on the device.
 fn copied(rows: &Rows) -> Result<Rows, NotMade> {
     Ok(Rows {
         wide: rows.wide,
         values: rows.values.clone()?,
-        unwritten: false,
     })
 }
 
@@ -143,7 +135,6 @@ impl Plain {
         Ok(Plain {
             tables,
             exports: Vec::new(alloc),
-            together: false,
         })
     }
 
@@ -174,7 +165,6 @@ impl Plain {
         let rows = Rows {
             wide: is_wide(columns),
             values: Vec::new(alloc),
-            unwritten: false,
         };
         self.put(name, Some(rows));
         "ok"
@@ -194,9 +184,7 @@ impl Plain {
                 if rows.wide != is_wide(columns) && !of_any_schema {
                     return Ok("S4 SchemaMismatch");
                 }
-                let before = rows.values.len();
                 add_input(&mut rows.values, input)?;
-                rows.unwritten = rows.unwritten || rows.values.len() > before;
                 Ok("ok")
             }
             _ => Ok("S1 NoTable"),
@@ -215,9 +203,6 @@ impl Plain {
         };
         if self.get(to).is_some() {
             return Ok("S2 NameTaken");
-        }
-        if self.together && rows.unwritten {
-            return Ok("S16 RowsUnwritten");
         }
         let new = kept(alloc, asked, rows)?;
         self.put(to, Some(new));
@@ -297,9 +282,7 @@ impl Plain {
         let steps = drawn_commands(alloc, seed)?;
         let before = self.copied(alloc)?;
         self.tables = self.copied(alloc)?;
-        self.together = true;
         let refused = self.change_in_turn(alloc, &steps)?;
-        self.together = false;
         if refused.is_some() {
             self.tables = before;
         }

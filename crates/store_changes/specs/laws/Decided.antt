@@ -61,15 +61,14 @@ module _ (tells : Bool) (image : Image) (c : PlainCatalogue) (name bytes : List 
 -- what ends a decision before it is made is a refusal
 mutual
   pub stops_refused : (tells : Bool) (image : Image) (c : PlainCatalogue) (command : PlainCommand) (answer : Result PlainChange Refusal) → Stops tells image c command answer → (r : Refusal) × (answer ≡ Err r)
-  stops_refused tells image c (all_of cs) answer stops = in_turn_refused tells stops.0 stops.0 image c cs answer stops.2
+  stops_refused tells image c (all_of cs) answer stops = in_turn_refused tells stops.0 image c cs answer stops.2
   stops_refused tells image c _ answer stops = (stops.refusal, stops.told)
 
-  in_turn_refused : (tells : Bool) (from next : ℕ) (image : Image) (c : PlainCatalogue) (cs : PlainCommands) (answer : Result PlainChange Refusal) → StopsInTurn tells from next image c cs answer → (r : Refusal) × (answer ≡ Err r)
-  in_turn_refused tells from next image c no_command answer stops = absurd stops
-  in_turn_refused tells from next image c (and_command x xs) answer (inl stops) = stops_refused tells image c x answer stops
-  in_turn_refused tells from next image c (and_command x xs) answer (inr (inl (e, read, new, is))) = (refusals.RowsUnwritten, is)
-  in_turn_refused tells from next image c (and_command x xs) answer (inr (inr (change, is, inl told))) = (refusals.TooMany limits.Segments, told.0)
-  in_turn_refused tells from next image c (and_command x xs) answer (inr (inr (change, is, inr (next', image', c', leaves, more)))) = in_turn_refused tells from next' image' c' xs answer more
+  in_turn_refused : (tells : Bool) (next : ℕ) (image : Image) (c : PlainCatalogue) (cs : PlainCommands) (answer : Result PlainChange Refusal) → StopsInTurn tells next image c cs answer → (r : Refusal) × (answer ≡ Err r)
+  in_turn_refused tells next image c no_command answer stops = absurd stops
+  in_turn_refused tells next image c (and_command x xs) answer (inl stops) = stops_refused tells image c x answer stops
+  in_turn_refused tells next image c (and_command x xs) answer (inr (change, is, inl told)) = (refusals.TooMany limits.Segments, told.0)
+  in_turn_refused tells next image c (and_command x xs) answer (inr (change, is, inr (next', image', c', leaves, more))) = in_turn_refused tells next' image' c' xs answer more
 
 -- an answer that is a change is what is decided
 pub is_change : (tells : Bool) (image : Image) (c : PlainCatalogue) (command : PlainCommand) (change : PlainChange) → tells ≡ true → IsAnswered tells image c command (Ok change)

@@ -1,5 +1,5 @@
 -- Commands of a list, one after another: where they lead, and what is answered where they end.
-use Rattle.std.specs.Prelude.{◌≡◌, ◌⊎◌, ◌+◌, ◌++◌, ℕ, zero, suc, Bool, true, List, [], ◌∷◌, take, drop, slice_get, Option, Some, None, Result, Ok, Err, refl}
+use Rattle.std.specs.Prelude.{◌≡◌, ◌+◌, ◌++◌, ℕ, zero, suc, Bool, List, [], ◌∷◌, take, drop, slice_get, Some, Result, Ok, Err, refl}
 use Rattle.std.proofs.Common.{inl, inr, sym, ap, ◌∙◌, subst, arith}
 use Rattle.sector_dev.specs.Disk.{Image}
 use Rattle.catalogue.specs.Entries.{PlainCatalogue, runs_of}
@@ -8,7 +8,7 @@ use Rattle.tables.specs.declared.refusal.Refusal.TheVariants as refusals
 use Rattle.tables.specs.Commands.{PlainCommand, PlainCommands, all_of, no_command, and_command, commands_of}
 use Rattle.store_runs.specs.Changes.{PlainChange}
 use Rattle.store_runs.specs.Deciding.{AreBefore, Leaves, IsWhole, IsDecided, IsDecidedInTurn, StopsInTurn, IsAnswered}
-use Rattle.store_changes.specs.Verdicts.{LeadsThrough, IsLineAnswered, EndsAtLine, IsRefusedAt}
+use Rattle.store_changes.specs.Verdicts.{LeadsThrough, EndsAtLine, IsRefusedAt}
 
 -- the first commands, and then the others
 abbrev pub in_front : List PlainCommand → PlainCommands → PlainCommands
@@ -52,12 +52,12 @@ module _ (tells : Bool) where
   decided_behind from old next image c (x ∷ xs) next' image' c' rest r (first, m, b, e, decides, leaves, leads) more =
       (Ok first, decides, (m, b, e, leaves, decided_behind from old m b e xs next' image' c' rest r leads more))
 
-  stops_behind : (from next : ℕ) (image : Image) (c : PlainCatalogue) (xs : List PlainCommand) (next' : ℕ) (image' : Image) (c' : PlainCatalogue) (rest : PlainCommands) (r : Result PlainChange Refusal)
-      → LeadsThrough tells next image c xs next' image' c' → StopsInTurn tells from next' image' c' rest r → StopsInTurn tells from next image c (in_front xs rest) r
-  stops_behind from next image c [] next' image' c' rest r (at, shown, listed) more =
-      subst (λ (n : ℕ). StopsInTurn tells from n image c rest r) at (subst (λ (i : Image). StopsInTurn tells from next' i c rest r) shown (subst (λ (e : PlainCatalogue). StopsInTurn tells from next' image' e rest r) listed more))
-  stops_behind from next image c (x ∷ xs) next' image' c' rest r (first, m, b, e, decides, leaves, leads) more =
-      inr (inr (first, decides, inr (m, b, e, leaves, stops_behind from m b e xs next' image' c' rest r leads more)))
+  stops_behind : (next : ℕ) (image : Image) (c : PlainCatalogue) (xs : List PlainCommand) (next' : ℕ) (image' : Image) (c' : PlainCatalogue) (rest : PlainCommands) (r : Result PlainChange Refusal)
+      → LeadsThrough tells next image c xs next' image' c' → StopsInTurn tells next' image' c' rest r → StopsInTurn tells next image c (in_front xs rest) r
+  stops_behind next image c [] next' image' c' rest r (at, shown, listed) more =
+      subst (λ (n : ℕ). StopsInTurn tells n image c rest r) at (subst (λ (i : Image). StopsInTurn tells next' i c rest r) shown (subst (λ (e : PlainCatalogue). StopsInTurn tells next' image' e rest r) listed more))
+  stops_behind next image c (x ∷ xs) next' image' c' rest r (first, m, b, e, decides, leaves, leads) more =
+      inr (first, decides, inr (m, b, e, leaves, stops_behind m b e xs next' image' c' rest r leads more))
 
   -- the change of all
   pub leads_to_change : (from : ℕ) (image : Image) (c : PlainCatalogue) (commands : List PlainCommand) (next : ℕ) (over : Image) (made : PlainCatalogue) (change : PlainChange) → AreBefore from (runs_of c)
@@ -76,24 +76,23 @@ module _ (tells : Bool) where
       rest : PlainCommands
       rest = commands_of (drop (place + 1) commands)
 
-      stops : StopsInTurn tells is.from is.next is.over is.made (and_command is.command rest) (Err r) → IsAnswered tells image c (all_of (commands_of commands)) (Err r)
+      stops : StopsInTurn tells is.next is.over is.made (and_command is.command rest) (Err r) → IsAnswered tells image c (all_of (commands_of commands)) (Err r)
       stops at =
           inr (inl (
             is.from,
             is.before,
-            subst (λ (cs : PlainCommands). StopsInTurn tells is.from is.from image c cs (Err r)) (parted commands place is.command is.at)
-                (stops_behind is.from is.from image c (take place commands) is.next is.over is.made (and_command is.command rest) (Err r) is.leads at),
+            subst (λ (cs : PlainCommands). StopsInTurn tells is.from image c cs (Err r)) (parted commands place is.command is.at)
+                (stops_behind is.from image c (take place commands) is.next is.over is.made (and_command is.command rest) (Err r) is.leads at),
           ))
 
-      by_end : EndsAtLine tells is.from is.next is.over is.made is.command r → IsAnswered tells image c (all_of (commands_of commands)) (Err r)
-      by_end (inl (inl unwritten)) = stops (inr (inl unwritten))
-      by_end (inl (inr (inl memory))) = inl memory
-      by_end (inl (inr (inr (inl stopped)))) = stops (inl stopped)
-      by_end (inl (inr (inr (inr decided)))) =
+      by_end : EndsAtLine tells is.next is.over is.made is.command r → IsAnswered tells image c (all_of (commands_of commands)) (Err r)
+      by_end (inl (inl memory)) = inl memory
+      by_end (inl (inr (inl stopped))) = stops (inl stopped)
+      by_end (inl (inr (inr decided))) =
           inr (inr (
             is.from,
             is.before,
             subst (λ (cs : PlainCommands). IsDecidedInTurn tells is.from c is.from image c cs (Err r)) (parted commands place is.command is.at)
                 (decided_behind is.from c is.from image c (take place commands) is.next is.over is.made (and_command is.command rest) (Err r) is.leads (Err r, decided, refl)),
           ))
-      by_end (inr (many, (change, decided, exceeds))) = stops (inr (inr (change, decided, inl (ap Err many, exceeds))))
+      by_end (inr (many, (change, decided, exceeds))) = stops (inr (change, decided, inl (ap Err many, exceeds)))

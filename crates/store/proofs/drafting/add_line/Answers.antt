@@ -1,5 +1,5 @@
 use Rattle.std.specs.Prelude.{◌≢◌, false}
-use Rattle.std.proofs.Common.{◌≡◌, Ok, inl, refl}
+use Rattle.std.proofs.Common.{◌≡◌, inl, refl}
 use Rattle.std.proofs.lemmas.Result.{IfOk-weaker, IfErr-weaker}
 use Rattle.sector_dev.specs.Disk.{Image, now, shown_image}
 use Rattle.catalogue.specs.View.{catalogue_of}
@@ -26,7 +26,7 @@ add-requires-clause-line g c =
     let d = c.args.draft in
     let shown = shown_image (now (D.story c.args.device.now)) in
     let change : PlainChange = change_of c.in-Ok.change in
-    line_edits D.tells d.from (laid d.from (streams_of d) shown) (catalogue_of d.made) (command_of c.args.command) change (single_command c.args.command) (c.in-Ok.ensures.answers shown (λ told. refl))
+    line_edits D.tells (laid d.from (streams_of d) shown) (catalogue_of d.made) (command_of c.args.command) change (single_command c.args.command) (c.in-Ok.ensures.answers shown (λ told. refl))
 
 pub returns-in-Ok-clause-reads : goal.returns-in-Ok-clause-reads
 returns-in-Ok-clause-reads g c =
@@ -45,7 +45,7 @@ returns-in-Ok-clause-steps g c =
     IfOk-weaker c.add.result
     (λ (next : Draft). (image : Image) → Leaves d.next (laid d.from (streams_of d) image) made change next.next (laid next.from (streams_of next) image) (catalogue_of next.made))
     (λ (next : Draft). (image : Image) → Shows D.tells (D.story c.args.device.now) image → StepsTo D.tells image d (command_of c.args.command) next)
-    (λ next leaves image shows. (change, line_decided D.tells d.from (laid d.from (streams_of d) image) made (command_of c.args.command) change (c.in-Ok.ensures.answers image shows), leaves image)) c.add.ensures.leaves
+    (λ next leaves image shows. (change, line_decided D.tells (laid d.from (streams_of d) image) made (command_of c.args.command) change (c.in-Ok.ensures.answers image shows), leaves image)) c.add.ensures.leaves
 
 pub returns-in-Ok-clause-ends : goal.returns-in-Ok-clause-ends
 returns-in-Ok-clause-ends g c =
@@ -54,10 +54,10 @@ returns-in-Ok-clause-ends g c =
     let made = catalogue_of d.made in
     let change : PlainChange = change_of c.in-Ok.change in
     IfErr-weaker c.add.result (NotAdded d.next made change)
-    (λ (e : Refusal). (image : Image) → Shows D.tells (D.story c.args.device.now) image → EndsAtLine D.tells d.from d.next (laid d.from (streams_of d) image) made (command_of c.args.command) e)
+    (λ (e : Refusal). (image : Image) → Shows D.tells (D.story c.args.device.now) image → EndsAtLine D.tells d.next (laid d.from (streams_of d) image) made (command_of c.args.command) e)
     (λ e why image shows.
-    ends_unadded D.tells d.from d.next (laid d.from (streams_of d) image) made (command_of c.args.command) change e
-    (line_decided D.tells d.from (laid d.from (streams_of d) image) made (command_of c.args.command) change (c.in-Ok.ensures.answers image shows)) why) c.add.ensures.told
+    ends_unadded D.tells d.next (laid d.from (streams_of d) image) made (command_of c.args.command) change e
+    (line_decided D.tells (laid d.from (streams_of d) image) made (command_of c.args.command) change (c.in-Ok.ensures.answers image shows)) why) c.add.ensures.told
 
 pub returns-in-Ok-clause-not_halted : goal.returns-in-Ok-clause-not_halted
 returns-in-Ok-clause-not_halted g c =

@@ -1,5 +1,5 @@
 use Rattle.std.specs.Prelude.{◌≢◌}
-use Rattle.std.proofs.Common.{◌≡◌, true, false, None, inr, refl, sym, ap, ◌∙◌, subst, string_bytes}
+use Rattle.std.proofs.Common.{◌≡◌, true, false, None, refl, sym, ap, ◌∙◌, subst, string_bytes}
 use Rattle.std.proofs.lemmas.Bool.{true≢false}
 use Rattle.std.proofs.lemmas.Result.{IfErr-weaker}
 use Rattle.sector_dev.specs.Disk.{Image}
@@ -10,11 +10,10 @@ use Rattle.tables.specs.declared.refusal.Refusal.TheVariants as refusals
 use Rattle.tables.specs.Commands.{create, import_stream, rename, drop_table}
 use Rattle.tables.specs.View.{command_of}
 use Rattle.store_runs.specs.Calls.{is_failure}
-use Rattle.store_runs.specs.Deciding.{reads_device}
+use Rattle.store_runs.specs.Deciding.{reads_device, IsAnswered}
 use Rattle.store_runs.specs.Reading.{ended}
 use Rattle.store_changes.specs.Draft.{laid, streams_of}
 use Rattle.store_changes.specs.Tests.{decision_of}
-use Rattle.store_changes.specs.Verdicts.{IsLineAnswered}
 use Rattle.store_changes.specs.laws.Quiet.{IsQuiet, answers_quiet}
 use Rattle.store_changes.specs.laws.ReadTables.{reads_quiet}
 use Rattle.store.proofs.Applied.{ended_quiet}
@@ -47,7 +46,7 @@ returns-in-Create-clause-answers g c = λ image shows.
     let D = g.D.SectorDevice in
     let d = c.args.draft.now in
     let over = laid d.from (streams_of d) image in
-    subst (λ (k : Command). IsLineAnswered D.tells d.from over (catalogue_of d.made) (command_of k) (decision_of c.decide_create.result)) (sym c.in-Create.is) (inr (c.decide_create.ensures.answers D.tells over))
+    subst (λ (k : Command). IsAnswered D.tells over (catalogue_of d.made) (command_of k) (decision_of c.decide_create.result)) (sym c.in-Create.is) (c.decide_create.ensures.answers D.tells over)
 
 -- ---- ImportStream
 
@@ -72,7 +71,7 @@ returns-in-ImportStream-clause-answers g c = λ image shows.
     let D = g.D.SectorDevice in
     let d = c.args.draft.now in
     let over = laid d.from (streams_of d) image in
-    subst (λ (k : Command). IsLineAnswered D.tells d.from over (catalogue_of d.made) (command_of k) (decision_of c.decide_import.result)) (sym c.in-ImportStream.is) (inr (c.decide_import.ensures.answers D.tells over))
+    subst (λ (k : Command). IsAnswered D.tells over (catalogue_of d.made) (command_of k) (decision_of c.decide_import.result)) (sym c.in-ImportStream.is) (c.decide_import.ensures.answers D.tells over)
 
 -- ---- Rename
 
@@ -97,7 +96,7 @@ returns-in-Rename-clause-answers g c = λ image shows.
     let D = g.D.SectorDevice in
     let d = c.args.draft.now in
     let over = laid d.from (streams_of d) image in
-    subst (λ (k : Command). IsLineAnswered D.tells d.from over (catalogue_of d.made) (command_of k) (decision_of c.decide_rename.result)) (sym c.in-Rename.is) (inr (c.decide_rename.ensures.answers D.tells over))
+    subst (λ (k : Command). IsAnswered D.tells over (catalogue_of d.made) (command_of k) (decision_of c.decide_rename.result)) (sym c.in-Rename.is) (c.decide_rename.ensures.answers D.tells over)
 
 -- ---- Drop
 
@@ -122,7 +121,7 @@ returns-in-Drop-clause-answers g c = λ image shows.
     let D = g.D.SectorDevice in
     let d = c.args.draft.now in
     let over = laid d.from (streams_of d) image in
-    subst (λ (k : Command). IsLineAnswered D.tells d.from over (catalogue_of d.made) (command_of k) (decision_of c.decide_drop.result)) (sym c.in-Drop.is) (inr (c.decide_drop.ensures.answers D.tells over))
+    subst (λ (k : Command). IsAnswered D.tells over (catalogue_of d.made) (command_of k) (decision_of c.decide_drop.result)) (sym c.in-Drop.is) (c.decide_drop.ensures.answers D.tells over)
 
 -- ---- AppendStream
 
@@ -143,7 +142,7 @@ pub returns-in-AppendStream-clause-answers : goal.returns-in-AppendStream-clause
 returns-in-AppendStream-clause-answers g c = λ image shows.
     let D = g.D.SectorDevice in
     let d = c.args.draft.now in
-    subst (λ (k : Command). IsLineAnswered D.tells d.from (laid d.from (streams_of d) image) (catalogue_of d.made) (command_of k) (decision_of c.append_line.result)) (sym c.in-AppendStream.is) (c.append_line.ensures.answers image shows)
+    subst (λ (k : Command). IsAnswered D.tells (laid d.from (streams_of d) image) (catalogue_of d.made) (command_of k) (decision_of c.append_line.result)) (sym c.in-AppendStream.is) (c.append_line.ensures.answers image shows)
 
 -- ---- AppendRows
 
@@ -164,7 +163,7 @@ pub returns-in-AppendRows-clause-answers : goal.returns-in-AppendRows-clause-ans
 returns-in-AppendRows-clause-answers g c = λ image shows.
     let D = g.D.SectorDevice in
     let d = c.args.draft.now in
-    subst (λ (k : Command). IsLineAnswered D.tells d.from (laid d.from (streams_of d) image) (catalogue_of d.made) (command_of k) (decision_of c.append_line-in-AppendRows.result)) (sym c.in-AppendRows.is) (c.append_line-in-AppendRows.ensures.answers image shows)
+    subst (λ (k : Command). IsAnswered D.tells (laid d.from (streams_of d) image) (catalogue_of d.made) (command_of k) (decision_of c.append_line-in-AppendRows.result)) (sym c.in-AppendRows.is) (c.append_line-in-AppendRows.ensures.answers image shows)
 
 -- ---- AppendTable
 
@@ -185,7 +184,7 @@ pub returns-in-AppendTable-clause-answers : goal.returns-in-AppendTable-clause-a
 returns-in-AppendTable-clause-answers g c = λ image shows.
     let D = g.D.SectorDevice in
     let d = c.args.draft.now in
-    subst (λ (k : Command). IsLineAnswered D.tells d.from (laid d.from (streams_of d) image) (catalogue_of d.made) (command_of k) (decision_of c.append_line-in-AppendTable.result)) (sym c.in-AppendTable.is) (c.append_line-in-AppendTable.ensures.answers image shows)
+    subst (λ (k : Command). IsAnswered D.tells (laid d.from (streams_of d) image) (catalogue_of d.made) (command_of k) (decision_of c.append_line-in-AppendTable.result)) (sym c.in-AppendTable.is) (c.append_line-in-AppendTable.ensures.answers image shows)
 
 -- ---- SaveAs
 
@@ -206,4 +205,4 @@ pub returns-in-SaveAs-clause-answers : goal.returns-in-SaveAs-clause-answers
 returns-in-SaveAs-clause-answers g c = λ image shows.
     let D = g.D.SectorDevice in
     let d = c.args.draft.now in
-    subst (λ (k : Command). IsLineAnswered D.tells d.from (laid d.from (streams_of d) image) (catalogue_of d.made) (command_of k) (decision_of c.save_line.result)) (sym c.in-SaveAs.is) (c.save_line.ensures.answers image shows)
+    subst (λ (k : Command). IsAnswered D.tells (laid d.from (streams_of d) image) (catalogue_of d.made) (command_of k) (decision_of c.save_line.result)) (sym c.in-SaveAs.is) (c.save_line.ensures.answers image shows)

@@ -1,8 +1,7 @@
-use Rattle.std.specs.Prelude.{false}
 use Rattle.std.specs.Vec.Iter.{into_iter_items}
 use Rattle.std.proofs.Common.{◌≡◌, ◌++◌, ◌∙◌, ℕ, true, List, [], ◌∷◌, map, inl, refl, sym, ap, subst, append_assoc, arith}
 use Rattle.std.proofs.lemmas.List.{map-append, length_push}
-use Rattle.sector_dev.specs.Disk.{Image, now, shown_image}
+use Rattle.sector_dev.specs.Disk.{now, shown_image}
 use Rattle.catalogue.specs.Entries.{PlainCatalogue, runs_of}
 use Rattle.catalogue.specs.View.{catalogue_of}
 use Rattle.commit.specs.Standing.{is_size, all_on_device}
@@ -53,6 +52,9 @@ loop-command-init g c =
     }
 
 -- ---- what is asked of the next command
+
+pub add_line-requires-clause-begins : goal.add_line-requires-clause-begins
+add_line-requires-clause-begins g c = let was = c.loop-command.invariant in was.from ∙ c.requires.own ∙ sym was.reads.same
 
 pub add_line-requires-clause-size : goal.add_line-requires-clause-size
 add_line-requires-clause-size g c = ap is_size c.loop-command.invariant.reads.same ∙ c.requires.size
@@ -137,7 +139,7 @@ returns-in-Err-add_line-clause-told g c =
     let parts = ap (λ (cs : List Command). so_far ++ cs) (sym c.in-Some.ensures.steps.0) ∙ was.parts in
     let low = subst (λ (n : ℕ). AreBefore n (runs_of listed)) (sym c.requires.own) (on_before (D.size c.args.device.now) (runs_of listed) c.requires.placed) in
     told_list D.tells image listed (map command_of c.args.commands.items) c.loop-command.place r c.list_refusal.result c.list_refusal.ensures
-    (ends_there D.tells image listed c.args.sectors c.loop-command.draft so_far c.in-Some.command (into_iter_items c.next.new.self) c.args.commands.items c.loop-command.place r low was.from was.place parts was.leads
+    (ends_there D.tells image listed c.args.sectors c.loop-command.draft so_far c.in-Some.command (into_iter_items c.next.new.self) c.args.commands.items c.loop-command.place r low was.place parts was.leads
     (c.in-Err-add_line.ensures.ends image (λ told. sym (image_then before mid (was.reads.moments told)))))
 
 pub returns-in-Err-add_line-clause-not_halted : goal.returns-in-Err-add_line-clause-not_halted

@@ -1,5 +1,4 @@
-use Rattle.std.specs.Prelude.{◌≢◌, ◌⊎◌}
-use Rattle.std.proofs.Common.{◌≡◌, Some, None, List, ℕ, Ok, Err, inr, refl, sym, ap, ◌∙◌, subst, string_bytes}
+use Rattle.std.proofs.Common.{rules, ◌≡◌, Some, None, refl, sym, ap, ◌∙◌, map, string_bytes}
 use Rattle.sector_dev.specs.Disk.{now, shown_image}
 use Rattle.catalogue.specs.Edits.{entry_of}
 use Rattle.catalogue.specs.Entries.{is_entry, plain_entry}
@@ -8,49 +7,33 @@ use Rattle.catalogue.specs.laws.Changed.{found_passes}
 use Rattle.query.specs.View.{query_in}
 use Rattle.tables.specs.declared.refusal.Refusal.TheVariants as refusals
 use Rattle.store_runs.specs.Calls.{refused}
-use Rattle.store_runs.specs.Deciding.{selected_entry}
 use Rattle.store_changes.specs.Draft.{laid, streams_of}
+use Rattle.store_changes.specs.Source.{disk_laid}
 use Rattle.store_changes.specs.Tests.{decision_of}
-use Rattle.store_changes.specs.laws.Lines.{old_placed, old_agrees, save_read, save_unwritten}
+use Rattle.store_changes.specs.laws.Lines.{drafted_readable, save_read}
 use Rattle.store_changes.specs.laws.ReadTables.{reads_quiet}
-use Rattle.store_changes.specs.laws.Sources.{on_device_readable}
+use Rattle.store_changes.specs.laws.Sources.{laid_alike}
 use Rattle.store.proofs.AtNames.{save_nowhere}
 use Rattle.store.proofs.drafting.save_line.Goals as goal
 
+-- ---- the table is on the device and in the draft
+
 pub save_from_entry-requires-clause-readable : goal.save_from_entry-requires-clause-readable
 save_from_entry-requires-clause-readable g c =
-    let d = c.args.draft.now in
-    on_device_readable (g.D.SectorDevice.size c.args.device.now) (plain_entry c.in-Some.entry.now).segments
-    (old_placed d.from (catalogue_of d.old) (catalogue_of d.made) d.gone.items (streams_of d) c.requires.draft.drafted _ (plain_entry c.in-Some.entry.now) (sym c.in-Some.ensures.entry) (c.has_new.ensures.none c.if-has_new.false) (g.D.SectorDevice.size c.args.device.now) c.requires.placed)
+    drafted_readable (g.D.SectorDevice.size c.args.device.now) c.args.draft.now c.requires.draft c.requires.begins c.requires.placed _ (plain_entry c.in-Some.entry.now) (sym c.in-Some.ensures.entry)
 
 pub save_from_entry-requires-clause-sound : goal.save_from_entry-requires-clause-sound
 save_from_entry-requires-clause-sound g c = found_passes is_entry (catalogue_of c.args.draft.now.made) _ (plain_entry c.in-Some.entry.now) c.in-Some.ensures.kept.entries (sym c.in-Some.ensures.entry)
 
--- ---- a table with new segments
-
-pub returns-then-has_new-clause-reads : goal.returns-then-has_new-clause-reads
-returns-then-has_new-clause-reads g c =
-    let D = g.D.SectorDevice in reads_quiet D.size D.story D.failed D.tells (refused c.save_from_unwritten.result) c.args.device.now c.save_from_unwritten.ensures.no_device
-
-pub returns-then-has_new-clause-answers : goal.returns-then-has_new-clause-answers
-returns-then-has_new-clause-answers g c = λ image shows.
-    let D = g.D.SectorDevice in
-    let d = c.args.draft.now in
-    let made = catalogue_of d.made in
-    let e = plain_entry c.in-Some.entry.now in
-    let query = query_in c.args.query in
-    let r = c.save_from_unwritten.result in
-    let found : entry_of made (string_bytes c.args.from) ≡ Some e = ap (entry_of made) (sym c.deref.ensures) ∙ sym c.in-Some.ensures.entry in
-    save_unwritten D.tells d.from image (laid d.from (streams_of d) image) made (string_bytes c.args.from) e found (string_bytes c.args.to) query r (c.has_new.ensures.new c.if-has_new.true)
-    (subst (λ (n : List ℕ). (r ≡ refusals.OutOfMemory) ⊎ ((selected_entry made n query e ≡ Ok e) × (r ≡ refusals.RowsUnwritten)) ⊎ (selected_entry made n query e ≡ Err r)) c.deref-then-has_new.ensures c.save_from_unwritten.ensures.answers)
-
-pub returns-then-has_new-clause-not_halted : goal.returns-then-has_new-clause-not_halted
-returns-then-has_new-clause-not_halted g c = c.save_from_unwritten.ensures.not_halted
-
--- ---- one that is on the device
-
+-- the device is the one that the source has read
 pub returns-in-Some-clause-reads : goal.returns-in-Some-clause-reads
-returns-in-Some-clause-reads g c = c.save_from_entry.ensures.reads
+returns-in-Some-clause-reads g c =
+    let below = c.save_from_entry.ensures.goes_on.1 in
+    let named = below.named in
+    let same = below.same in
+    let moments = below.moments in
+    let count = c.save_from_entry.ensures.reads.count in
+    search (rules, named, same, moments, count)
 
 pub returns-in-Some-clause-answers : goal.returns-in-Some-clause-answers
 returns-in-Some-clause-answers g c = λ image shows.
@@ -58,11 +41,12 @@ returns-in-Some-clause-answers g c = λ image shows.
     let d = c.args.draft.now in
     let made = catalogue_of d.made in
     let e = plain_entry c.in-Some.entry.now in
-    let shown = shown_image (now (D.story c.args.device.now)) in
+    let story = D.story c.args.device.now in
+    let shown = shown_image (now (map (disk_laid d.from (streams_of d)) story)) in
     let found : entry_of made (string_bytes c.args.from) ≡ Some e = ap (entry_of made) (sym c.deref.ensures) ∙ sym c.in-Some.ensures.entry in
-    let none = c.has_new.ensures.none c.if-has_new.false in
-    save_read D.tells d.from shown (laid d.from (streams_of d) image) made (string_bytes c.args.from) e found (string_bytes c.args.to) (query_in c.args.query) (decision_of c.save_from_entry.result)
-    (found_passes is_entry made _ e c.in-Some.ensures.kept.entries found) (old_agrees d.from (catalogue_of d.old) made d.gone.items (streams_of d) c.requires.draft.drafted (string_bytes c.args.from) e found none D.tells shown image shows)
+    save_read D.tells shown (laid d.from (streams_of d) image) made (string_bytes c.args.from) e found (string_bytes c.args.to) (query_in c.args.query) (decision_of c.save_from_entry.result)
+    (found_passes is_entry made _ e c.in-Some.ensures.kept.entries found)
+    (λ told n within. laid_alike d.from (streams_of d) story image (g.met.D.SectorDevice.begun c.args.device.now told) (shows told) n)
     c.save_from_entry.ensures.answers
 
 pub returns-in-Some-clause-not_halted : goal.returns-in-Some-clause-not_halted
@@ -80,4 +64,4 @@ returns-clause-answers g c = λ image shows.
     let d = c.args.draft.now in
     let made = catalogue_of d.made in
     let none : entry_of made (string_bytes c.args.from) ≡ None = ap (entry_of made) (sym c.deref.ensures) ∙ sym c.in-None.ensures.entry in
-    inr (save_nowhere D.tells (laid d.from (streams_of d) image) made (string_bytes c.args.from) (string_bytes c.args.to) (query_in c.args.query) none)
+    save_nowhere D.tells (laid d.from (streams_of d) image) made (string_bytes c.args.from) (string_bytes c.args.to) (query_in c.args.query) none
