@@ -2,6 +2,7 @@ mod ArgumentLemmas
 mod CommandLemmas
 mod EndLemmas
 mod LeftOutLemmas
+mod NoteLemmas
 mod CopyLemmas
 mod FileLemmas
 mod ServingLemmas

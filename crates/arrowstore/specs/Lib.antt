@@ -1,4 +1,5 @@
 pub mod Arguments
+pub mod Notes
 pub mod OnDevice
 pub mod OnFiles
 pub mod OpenCommands

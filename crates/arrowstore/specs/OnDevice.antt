@@ -1,5 +1,5 @@
 -- What a command of a store does on a device: it is carried out on the store there, or refused if none can be opened.
-use Rattle.std.specs.Prelude.{◌≡◌, ◌⊎◌, ℕ, true, false, List, Option, Result, IsErrAnd}
+use Rattle.std.specs.Prelude.{◌≡◌, ◌⊎◌, ℕ, true, false, List, Option, Result, IfSome, IsErrAnd}
 use Rattle.sector_dev.specs.declared.device.SectorDevice.{Ghosts}
 use Rattle.commit.specs.Standing.{is_size}
 use Rattle.commit.specs.declared.opening_refusal.OpeningRefusal.{OpeningRefusal}
@@ -7,12 +7,13 @@ use Rattle.tables.specs.Tables.{Tables}
 use Rattle.store.specs.declared.store.Store.{Store}
 use Rattle.store.specs.Answering.{LeavesUnopened}
 use Rattle.store_runs.specs.Calls.{open_call, shut_by, counted}
-use Rattle.store.specs.Fits.{device_of, is_halted, DeviceFits, FindsStore, Opens, Shuts}
+use Rattle.store.specs.Fits.{device_of, is_halted, listed_in, DeviceFits, FindsStore, Opens, Shuts}
 use Rattle.store_runs.specs.Machine.{Machine}
 use Rattle.cli_refusals.specs.declared.refusal.Refusal.{Refusal}
 use Rattle.cli_refusals.specs.declared.refusal.Refusal.TheVariants as refusals
 use Rattle.arrowstore.specs.declared.open_command.OpenCommand.{OpenCommand}
-use Rattle.arrowstore.specs.Serving.{Channels, Serves}
+use Rattle.arrowstore.specs.Notes.{IsNoteOf}
+use Rattle.arrowstore.specs.Serving.{Channels, Serves, unnoted}
 
 -- a store that was opened on this device
 pub record IsOpened {D : Type 0} {g : Ghosts D} (device : D) (store : Store D g) : Type 0 where
@@ -38,13 +39,15 @@ unfoldable pub RefusesOpening : {D : Type 0} → (g : Ghosts D) → (device back
 RefusesOpening g device back (refusals.Opening r) = StaysShut g device r back
 RefusesOpening g device back _ = ⊥
 
--- a command was carried out on the store that was opened on a device, and the device was returned as that store left it
+-- a command was carried out on the store that was opened on a device, and the device was returned as that store left it; a note says what has become of the
+-- rows of its table
 pub record ServesOpened {D : Type 0} (g : Ghosts D) {R W : Type 0} (remaining : R → Option (List ℕ)) (contents : W → Option (List ℕ)) (command : OpenCommand)
     (device back : D) (before after : Channels R W) (result : Result (Unit {0}) Refusal) : Type 0 where
   pub old : Store D g
   pub opened : IsOpened device old
   pub new : Store D g
-  pub serves : Serves remaining contents command old new before after result
+  pub serves : Serves remaining contents command old new (unnoted before) (unnoted after) result
+  pub notes : IfSome after.note (IsNoteOf command (listed_in old) (listed_in new))
   pub gives_back : back ≡ device_of new
 
 -- a command was carried out so, or it was refused since no store was opened there, and nothing was read or written

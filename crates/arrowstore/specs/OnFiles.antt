@@ -43,6 +43,7 @@ use Rattle.cli_refusals.specs.declared.known.Known.{Known}
 use Rattle.cli_refusals.specs.declared.hint.Hinted.TheVariants.{Part, Table}
 use Rattle.cli_texts.specs.Reported.{IsWrong}
 use Rattle.cli_texts.specs.Ending.{GivesSome, HasReported, HasReportedHint, HintsText, IsOutput}
+use Rattle.cli_texts.specs.declared.notes.Note.{Note}
 use Rattle.cli_texts.specs.declared.telling.Audience.{Audience}
 use Rattle.cli_texts.specs.declared.status.Ended.{Ended}
 use Rattle.cli_texts.specs.declared.status.Status.{Status}
@@ -62,7 +63,8 @@ use Rattle.cli_requests.specs.declared.store_words.StoreRequest.TheVariants as r
 use Rattle.arrowstore.specs.declared.open_command.OpenCommand.{OpenCommand}
 use Rattle.arrowstore.specs.OpenCommands.{States, RefusesStating}
 use Rattle.arrowstore.specs.OnDevice.{IsOpened, RefusesOpening, ServesDevice}
-use Rattle.arrowstore.specs.Serving.{Channels, channels, image_of}
+use Rattle.arrowstore.specs.declared.notes.Remarks.{Remarks}
+use Rattle.arrowstore.specs.Serving.{Channels, channels, image_of, remarked}
 
 -- a device that was opened over a file: the whole file, with no write held back
 pub record IsOpenedFile {F : Type 0} {r : ReadGhosts F} {w : WriteGhosts F} {s : SeekGhosts F} {g : FileGhosts (PlainFile F r w s)}
@@ -272,6 +274,10 @@ pub record AppliesScript {D : Type 0} (g : Ghosts D) (is_opened : D → Type 0) 
 
 -- ---- requests
 
+-- nothing is hinted at or noted
+abbrev pub SaysNothing : {R W : Type 0} → (before after : Channels R W) → Type 0
+SaysNothing before after = (after.hint ≡ before.hint) × (after.note ≡ before.note)
+
 -- what a request does and what it leaves out, which is nothing unless it is a salvage; `replays` says what the replay of a script does, and `of_file` which
 -- bytes a file has
 abbrev pub ServesRequest : {D : Type 0} → (g : Ghosts D) → (is_opened : D → Type 0) → {F R W : Type 0} → (of_file : F → Option (List ℕ))
@@ -279,16 +285,16 @@ abbrev pub ServesRequest : {D : Type 0} → (g : Ghosts D) → (is_opened : D �
     → (replays : ReplayWords → W → W → Result (Unit {0}) Refusal → Type 0) → StoreRequest → (before after : Channels R W)
     → (left left' : List (ℕ × ℕ)) → Result (Unit {0}) Refusal → Type 0
 ServesRequest g is_opened of_file remaining contents replays (requests.Format path sectors version) before after left left' result =
-    Formats g contents sectors version before.output after.output result × (after.hint ≡ before.hint) × (left' ≡ left)
+    Formats g contents sectors version before.output after.output result × SaysNothing before after × (left' ≡ left)
 ServesRequest g is_opened of_file remaining contents replays (requests.Copy path new sectors) before after left left' result =
-    CopiesStore g is_opened contents sectors before.output after.output result × (after.hint ≡ before.hint) × (left' ≡ left)
+    CopiesStore g is_opened contents sectors before.output after.output result × SaysNothing before after × (left' ≡ left)
 ServesRequest g is_opened of_file remaining contents replays (requests.Salvage path name) before after left left' result =
-    SalvagesFile g is_opened contents name.now before.output after.output left left' result × (after.hint ≡ before.hint)
+    SalvagesFile g is_opened contents name.now before.output after.output left left' result × SaysNothing before after
 ServesRequest g is_opened of_file remaining contents replays (requests.Apply path script) before after left left' result =
-    AppliesScript g is_opened of_file remaining contents script.now before.input after.input before.output after.output result × (after.hint ≡ before.hint)
+    AppliesScript g is_opened of_file remaining contents script.now before.input after.input before.output after.output result × SaysNothing before after
     × (left' ≡ left)
 ServesRequest g is_opened of_file remaining contents replays (requests.Replay words) before after left left' result =
-    replays words before.output after.output result × (after.hint ≡ before.hint) × (left' ≡ left)
+    replays words before.output after.output result × SaysNothing before after × (left' ≡ left)
 ServesRequest g is_opened of_file remaining contents replays (requests.Command path command) before after left left' result =
     ServesCommand g is_opened remaining contents command before after result × (left' ≡ left)
 
@@ -317,30 +323,30 @@ pub record Ends (R W E : Type 0) : Type 0 where
 abbrev pub ends_of : {R W E : Type 0} → R → W → E → Ends R W E
 ends_of input output errors = record { input = input; output = output; errors = errors }
 
--- how a run of the command of this word ended, and what it left out, was reported to an audience, with what is known
-abbrev pub HasTold : {W E : Type 0} → (reported : E → Option (List ℕ)) → Audience → (word : List ℕ) → (left : List (ℕ × ℕ)) → (output output' : W)
-    → (errors errors' : E)
+-- how a run of the command of this word ended, what it left out and what it noted, was reported to an audience, with what is known
+abbrev pub HasTold : {W E : Type 0} → (reported : E → Option (List ℕ)) → Audience → (word : List ℕ) → (left : List (ℕ × ℕ)) → Option Note
+    → (output output' : W) → (errors errors' : E)
     → Ended → Known → Type 0
-HasTold reported audience word left output output' errors errors' ended known =
-    HasReported reported audience known left (WritesPart word) output output' errors errors' ended
+HasTold reported audience word left note output output' errors errors' ended known =
+    HasReported reported audience known left note (WritesPart word) output output' errors errors' ended
 
--- a request was served, and what was left out or hinted was reported
+-- a request was served, and what was left out, hinted or noted was reported
 pub record ServesTold {D : Type 0} (g : Ghosts D) (is_opened : D → Type 0) {F R W E : Type 0} (of_file : F → Option (List ℕ)) (remaining : R → Option (List ℕ))
     (contents : W → Option (List ℕ)) (replays : ReplayWords → W → W → Result (Unit {0}) Refusal → Type 0) (reported : E → Option (List ℕ))
     (audience : Audience) (request : StoreRequest)
     (before after : Ends R W E) (ended : Ended) : Type 0 where
-  pub hinted : Option Hinted
+  pub remarks : Remarks
   pub left : List (ℕ × ℕ)
   pub result : Result (Unit {0}) Refusal
   pub serves : ServesRequest g is_opened of_file remaining contents replays request (channels before.input before.output None)
-      (channels after.input after.output hinted) [] left result
+      (remarked after.input after.output remarks) [] left result
   pub ends : ended.status ≡ status_of result left
   pub known : Known
   -- a script is told that the command was done, if its output failed, exactly for the commands that make or change a store
   pub changing : known.changes ≡ changes request
   -- the hint names the part of the input or the table that the command hinted at, and none if it hinted at none
-  pub hints : hinted_of known.hint ≡ hinted
-  pub told : HasTold reported audience (request_word request) left before.output after.output before.errors after.errors ended known
+  pub hints : hinted_of known.hint ≡ remarks.hint
+  pub told : HasTold reported audience (request_word request) left remarks.note before.output after.output before.errors after.errors ended known
 
 -- the request that the words state: the command of the first one, where only operands follow the file and the tables that they name, and all that
 -- `clap` finds, options too

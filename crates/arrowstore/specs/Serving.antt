@@ -1,5 +1,5 @@
 -- What each command of an open store reads, writes and leaves, in one definition: for each command the words of its own function.
-use Rattle.std.specs.Prelude.{◌≡◌, ◌≢◌, ℕ, Bool, true, false, List, codes, Option, Some, IsSome, Result, Ok, IfErr, IsErrAnd, OnOk}
+use Rattle.std.specs.Prelude.{◌≡◌, ◌≢◌, ℕ, Bool, true, false, List, codes, Option, Some, None, IsSome, Result, Ok, IfErr, IsErrAnd, OnOk}
 use Rattle.std.specs.Io.KnownBytes.{Appends}
 use Rattle.std.specs.List.{AllByRecursion}
 use Rattle.sector_dev.specs.Disk.{Image, now, shown_image}
@@ -42,17 +42,27 @@ use Rattle.cli_commands.specs.Selecting.{QueryAnswers, RefusesQuery}
 use Rattle.query.specs.Printed.{rows_text}
 use Rattle.cli_commands.specs.TextRows.{HandsRows, RefusesText, IfOfText, IfHinted}
 use Rattle.cli_commands.specs.Typing.{HaveLines, RefusesTyping, lines_of, typed_texts}
+use Rattle.cli_texts.specs.declared.notes.Note.{Note}
+use Rattle.arrowstore.specs.declared.notes.Remarks.{Remarks}
 use Rattle.arrowstore.specs.declared.open_command.OpenCommand.{OpenCommand}
 use Rattle.arrowstore.specs.declared.open_command.OpenCommand.TheVariants as opened
 
--- what a command reads, writes and hints at: an input, an output, and the refused part of the input or the table that can't be read
+-- what a command reads, writes and hints at: an input, an output, and the refused part of the input or the table that can't be read; and what it notes
 pub record Channels (R W : Type 0) : Type 0 where
   pub input : R
   pub output : W
   pub hint : Option Hinted
+  pub note : Option Note
 
 abbrev pub channels : {R W : Type 0} → R → W → Option Hinted → Channels R W
-channels input output hint = record { input = input; output = output; hint = hint }
+channels input output hint = record { input = input; output = output; hint = hint; note = None }
+
+-- with all that is said besides the output
+abbrev pub remarked : {R W : Type 0} → R → W → Remarks → Channels R W
+remarked input output remarks = record { input = input; output = output; hint = remarks.hint; note = remarks.note }
+
+abbrev pub unnoted : {R W : Type 0} → Channels R W → Channels R W
+unnoted c = channels c.input c.output c.hint
 
 -- a change of the tables is carried out as the store carries it out (`apply_command`)
 pub record Carries {D : Type 0} {g : Ghosts D} {R W : Type 0} (contents : W → Option (List ℕ)) (command : PlainCommand)

@@ -1,14 +1,16 @@
 // Reports how a request of a store ended.
-ghost use Rattle.std.specs.Prelude.{◌≡◌, IsTrue, OnOk};
+ghost use Rattle.std.specs.Prelude.{◌≡◌, ◌≢◌, IsTrue, OnOk};
 ghost use Rattle.std.specs.Io.KnownBytes.{Appends};
 ghost use Rattle.cli_texts.specs.Ending.{TellsRefusal};
 ghost use Rattle.cli_texts.specs.LeftOut.{left_out_lines, left_out_text};
+ghost use Rattle.cli_texts.specs.Notes.{note_to, TellsNote};
 ghost use Rattle.cli_texts.specs.Told.{told};
 ghost use Rattle.store.specs.Salvaging.{plain_left};
 ghost use Rattle.arrowstore.specs.OnFiles.{status_of};
 
 use cli_refusals::{Known, Refusal};
-use cli_texts::{Audience, Ended, Status, end, tell_lacking, tell_left_out};
+use cli_texts::{Audience, Ended, Note, Status, end, tell_lacking, tell_left_out, tell_note};
+use std::alloc::Global;
 use std::io::{self, Write};
 use store::LeftOut;
 
@@ -61,5 +63,22 @@ pub(crate) fn end_whole_or_partly<E: Write>(
             }
         }
         Err(_) => end(done, known, audience, errors),
+    }
+}
+
+/// Tells the note of a request that is wholly done.
+pub(crate) fn tell_if_done<E: Write>(
+    alloc: Global,
+    done: &Result<(), Refusal>,
+    left_out: &[LeftOut],
+    note: Option<Note>,
+    audience: Audience,
+    errors: &mut E,
+)
+    ensures done { status_of done.now (plain_left left_out.now) ≡ Status.Done → TellsNote E.contents (note_to audience note) errors.old errors.new }
+    ensures silent { status_of done.now (plain_left left_out.now) ≢ Status.Done → errors.new ≡ errors.old }
+{
+    if done.is_ok() && left_out.is_empty() {
+        tell_note(alloc, note, audience, errors);
     }
 }

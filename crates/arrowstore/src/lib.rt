@@ -25,6 +25,7 @@ mod kept_start;
 mod later_version;
 mod nearest_type;
 mod noted;
+mod notes;
 mod open_command;
 mod other_length;
 mod other_topic;
@@ -48,6 +49,7 @@ pub use cli_texts::{
 };
 pub use kept_start::{Input, KeptStart, MOST_KEPT};
 pub use noted::{Failures, NotedFile};
+pub use notes::{Remarks, RowChange};
 pub use open_command::{OpenCommand, stated};
 pub use running::run;
 pub use serving_device::serve_device;

@@ -6,15 +6,16 @@ ghost use Rattle.store.specs.Salvaging.{plain_left};
 ghost use Rattle.cli_requests.specs.Asked.{command_word, request_word};
 ghost use Rattle.cli_requests.specs.StoreWords.{takes_input_word};
 ghost use Rattle.arrowstore.specs.OnFiles.{IsOpenedFile, FailsToFormat, RefusesFormat, Formats, Replays, ServesCommand, ServesRequest, WritesPart};
-ghost use Rattle.arrowstore.specs.Serving.{channels};
+ghost use Rattle.arrowstore.specs.Serving.{remarked};
 
+use crate::Remarks;
 use crate::applying_scripts::serve_apply;
 use crate::copying_files::serve_copy;
 use crate::open_command::stated;
 use crate::replaying::serve_replay;
 use crate::salvaging_files::serve_salvage;
 use crate::serving_device::serve_device;
-use cli_refusals::{Hinted, Refusal, Side, write_whole};
+use cli_refusals::{Refusal, Side, write_whole};
 use cli_requests::{StoreCommand, StoreRequest};
 use commit::FormatVersion;
 use sector_dev::{FileDevice, FileError, LockFile, ModelDevice, SectorDevice, SystemFile};
@@ -227,10 +228,10 @@ fn serve_command<
     command: &StoreCommand<'_>,
     input: &mut R,
     output: &mut W,
-    hint: &mut Option<Hinted>,
+    remarks: &mut Remarks,
 ) -> Result<(), Refusal>
     ensures serves { ServesCommand ⟦<FileDevice<SystemFile<F>> as SectorDevice>⟧ IsOpenedFile R.remaining W.contents command.now
-        (channels input.old output.old hint.old) (channels input.new output.new hint.new) result }
+        (remarked input.old output.old remarks.old) (remarked input.new output.new remarks.new) result }
     ensures unread { (takes_input_word (command_word command.now) ≡ true) ⊎ (input.new ≡ input.old) }
     ensures silent { IfErr result (λ refusal. refusal ≢ Refusal.Io Side.Output → output.new ≡ output.old) }
 {
@@ -238,12 +239,12 @@ fn serve_command<
     let command = stated(rt.alloc(), command)?;
     let _places = reserve_standard_descriptors(rt)?;
     let device = device_of(rt, path, access)?;
-    let (done, _device) = serve_device(rt.alloc(), device, command, input, output, hint);
+    let (done, _device) = serve_device(rt.alloc(), device, command, input, output, remarks);
     done
 }
 
-/// Serves a request of a store. If a text is refused, `hint` is set to the refused part of it, and if a check is refused, to the first table that
-/// can't be read; `left_out` is set to what a salvage leaves out.
+/// Serves a request of a store. If a text is refused, the hint of `remarks` is set to the refused part of it, and if a check is refused, to the first
+/// table that can't be read; the note is set to what the command has brought, if that is wanted; `left_out` is set to what a salvage leaves out.
 pub(crate) fn serve<
     F: Read + Write + Seek + OpenFile + LockFile + Drop,
     H: Files<File = F> + AllocGlobal,
@@ -254,12 +255,12 @@ pub(crate) fn serve<
     request: &StoreRequest<'_>,
     input: &mut R,
     output: &mut W,
-    hint: &mut Option<Hinted>,
+    remarks: &mut Remarks,
     left_out: &mut Vec<LeftOut>,
 ) -> Result<(), Refusal>
     ensures serves { ServesRequest ⟦<FileDevice<SystemFile<F>> as SectorDevice>⟧ IsOpenedFile F.remaining R.remaining W.contents
         (Replays ⟦<ModelDevice as SectorDevice>⟧ F.remaining ⟦<Empty as Read>⟧.remaining W.contents) request.now
-        (channels input.old output.old hint.old) (channels input.new output.new hint.new)
+        (remarked input.old output.old remarks.old) (remarked input.new output.new remarks.new)
         (plain_left left_out.old.items) (plain_left left_out.new.items) result }
     ensures unread { (takes_input_word (request_word request.now) ≡ true) ⊎ (input.new ≡ input.old) }
     // A refusal writes nothing, unless a write failed or a salvage was interrupted.
@@ -276,7 +277,7 @@ pub(crate) fn serve<
         StoreRequest::Apply { path, script } => serve_apply(rt, path, script, input, output),
         StoreRequest::Replay(words) => serve_replay(rt, words, output),
         StoreRequest::Command { path, command } => {
-            serve_command(rt, path, command, input, output, hint)
+            serve_command(rt, path, command, input, output, remarks)
         }
     }
 }

@@ -13,6 +13,7 @@ ghost use Rattle.cli_texts.specs.Told.{audience_after_output, told};
 ghost use Rattle.cli_requests.specs.Asked.{changes, request_word};
 ghost use Rattle.cli_requests.specs.StoreWords.{first_word, is_of_store, takes_input, takes_input_word};
 ghost use Rattle.cli_texts.specs.Reported.{IfRefused, IsWrong};
+ghost use Rattle.cli_texts.specs.declared.notes.Note.{Note};
 ghost use Rattle.cli_texts.specs.declared.status.Status.TheVariants.{Done, PartlyDone, Refused};
 ghost use Rattle.cli_refusals.specs.declared.refusal.Refusal.TheVariants as refusals;
 ghost use Rattle.cli_refusals.specs.declared.known.Known.{Known};
@@ -21,14 +22,14 @@ ghost use Rattle.store.specs.Salvaging.{plain_left};
 
 use crate::about_words::{about_line, about_word};
 use crate::asking_again::{AskedAgain, Served, ask_again};
-use crate::ending::end_whole_or_partly;
+use crate::ending::{end_whole_or_partly, tell_if_done};
 use crate::failing::cause_of;
 use crate::kept_start::Input;
 use crate::noted::Failure;
 use crate::record_line::line_of_refused;
 use crate::serving::serve;
 use crate::unread_tables::report_of_others;
-use crate::{Failures, run};
+use crate::{Failures, Remarks, run};
 use cli_refusals::{Hint, Hinted, Known, Refusal, Word};
 use cli_requests::{Mistake, StoreRequest, ask_for_help, is_of_store, refused_word, request_of};
 use cli_texts::{
@@ -176,8 +177,8 @@ fn end_of_request<E: Write>(
     end_whole_or_partly(done, left_out, known, audience, errors)
 }
 
-// Serves a request of a store and reports how it ended. The hint is the part of the input or the table that the command itself hinted at, or else
-// what is found by asking again, or a word of the command line.
+// Serves a request of a store, and tells what it has brought, or reports why it was refused. The hint is the part of the input or the table that the
+// command itself hinted at, or else what is found by asking again, or a word of the command line.
 fn serve_and_report<
     F: Read + Write + Seek + OpenFile + LockFile + Drop,
     H: Files<File = F> + AllocGlobal,
@@ -199,16 +200,22 @@ fn serve_and_report<
         (ends_of input.old output.old errors.old) (ends_of input.new output.new errors.new) result }
     ensures unread { (takes_input_word (request_word request.now) ≡ true) ⊎ (input.new ≡ input.old) }
 {
-    let mut hinted = None;
+    let mut remarks = Remarks {
+        hint: None,
+        note: None,
+        is_note_wanted: audience.is_advised(),
+    };
     let mut left_out = Vec::new(rt.alloc());
-    let done = serve(rt, request, input, output, &mut hinted, &mut left_out);
+    let done = serve(rt, request, input, output, &mut remarks, &mut left_out);
+    let left: &[LeftOut] = &left_out;
     let failure = failures.take();
     let audience = audience_after_output(audience, output);
-    let about = about_hinted(rt, request, &hinted, input.start(), &done, audience);
-    match hint_of(&hinted, about.as_str()) {
+    tell_if_done(rt.alloc(), &done, left, remarks.note, audience, errors);
+    let about = about_hinted(rt, request, &remarks.hint, input.start(), &done, audience);
+    match hint_of(&remarks.hint, about.as_str()) {
         Some(hint) => {
             let known = known_of(request, &failure, Some(hint));
-            end_whole_or_partly(done, &left_out, known, audience, errors)
+            end_whole_or_partly(done, left, known, audience, errors)
         }
         None => {
             let served = Served {
@@ -224,7 +231,7 @@ fn serve_and_report<
                 &asked,
                 &failure,
                 done,
-                &left_out,
+                left,
                 audience,
                 errors,
             )
@@ -294,7 +301,7 @@ fn run_on_store<
 }
 
 /// Executes the arguments, the first of which is the program's name, also on the files of stores, and reports on `errors` if that fails. At a
-/// terminal the report names the system call noted in `failures` that failed.
+/// terminal the report names the system call noted in `failures` that failed, and a command that is done may be followed by a note.
 pub fn run_with_files<
     F: Read + Write + Seek + OpenFile + LockFile + Drop,
     H: Files<File = F> + AllocGlobal,
@@ -334,13 +341,15 @@ pub fn run_with_files<
     // If no command is done, help that was asked for is written, and nothing else.
     ensures helps { result.status ≡ Done → AreRecode (map S.text arguments.now) ⊎ (is_own (map S.text arguments.now) ≡ true)
         ⊎ (is_of_store (map S.text arguments.now) ≡ true) ⊎ GivesSome (W.contents output.old) (W.contents output.new) }
-    // `errors` gets the report of a refusal for this audience, the segments that are left out, and nothing on success; nor the failure of an output
-    // whose reader is gone. Only commands of a store leave something out or have hints other than those that `run` may give.
-    ensures reports { (known : Known) × (left : List (ℕ × ℕ))
+    // `errors` gets the report of a refusal for this audience, the segments that are left out, and on success the note of the command, or else nothing;
+    // nor the failure of an output whose reader is gone. Only commands of a store leave something out, have notes, or have hints other than those that
+    // `run` may give.
+    ensures reports { (known : Known) × (left : List (ℕ × ℕ)) × (note : Option Note)
         × ((is_of_store (map S.text arguments.now) ≡ true)
-        ⊎ ((left ≡ []) × (known ≡ unchanging known.hint) × IfRefused result.status (MayHint (map S.text arguments.now) known.hint)))
-        × HasTold E.contents (audience_after_output audience (W.unread output.new)) (first_word (map S.text arguments.now)) left output.old output.new
-        errors.old errors.new result known }
+        ⊎ ((left ≡ []) × (note ≡ None) × (known ≡ unchanging known.hint)
+        × IfRefused result.status (MayHint (map S.text arguments.now) known.hint)))
+        × HasTold E.contents (audience_after_output audience (W.unread output.new)) (first_word (map S.text arguments.now)) left note output.old
+        output.new errors.old errors.new result known }
 {
     if is_of_store(arguments) {
         return run_on_store(rt, arguments, input, output, errors, failures, audience);

@@ -1,12 +1,15 @@
 -- What is reported or written of a run.
-use Rattle.std.proofs.Common.{◌≡◌, ℕ, List, [], true, None, inl, inr, refl, subst, sym, true≢false}
-use Rattle.std.specs.Prelude.{◌≢◌, Option, Result, Ok, Err, OnOk, IfErr, IsOk, IsTrue, is_ok}
+use Rattle.std.proofs.Common.{◌≡◌, ℕ, List, [], true, None, append-nil, inl, inr, refl, subst, sym, true≢false}
+use Rattle.std.specs.Prelude.{◌≢◌, Option, Result, Ok, Err, OnOk, OnErr, IfErr, IsOk, IsTrue, is_ok}
+use Rattle.std.specs.Io.KnownBytes.{Appends}
+use Rattle.std.proofs.KnownBytes.{Appends-nil}
 use Rattle.clap.specs.Words.{Text}
 use Rattle.cli_refusals.specs.declared.hint.Hint.{Hint}
 use Rattle.cli_refusals.specs.declared.refusal.Refusal.{Refusal}
 use Rattle.cli_refusals.specs.declared.refusal.Refusal.TheVariants.{Io}
 use Rattle.cli_refusals.specs.declared.refusal.Side.TheVariants.{Output}
 use Rattle.cli_refusals.specs.Known.{unchanging}
+use Rattle.cli_refusals.specs.Output.{AppendsFront}
 use Rattle.cli_texts.specs.declared.own_texts.TheConstants.{VERSION}
 use Rattle.cli_texts.specs.declared.status.Ended.{Ended}
 use Rattle.cli_texts.specs.declared.status.Status.{Status}
@@ -87,3 +90,12 @@ help_reported contents audience hint output output' errors errors' (Err e) ended
     line = line;
   },
 )
+
+-- a text that was written, or some first bytes of it
+pub front_of_written : (written : Result (Unit {0}) Refusal) (old new : Option (List ℕ)) (text : List ℕ) → OnOk written (Appends old new text)
+    → OnErr written (AppendsFront old new text) → AppendsFront old new text
+front_of_written (Ok unit) old new text whole front = (text, [], sym (append-nil text), whole)
+front_of_written (Err e) old new text whole front = front
+
+pub no_front : (old : Option (List ℕ)) (text : List ℕ) → AppendsFront old old text
+no_front old text = ([], text, refl, Appends-nil old)

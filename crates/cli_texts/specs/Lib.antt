@@ -1,6 +1,7 @@
 pub mod Reported
 pub mod Told
 pub mod LeftOut
+pub mod Notes
 pub mod OwnTexts
 pub mod Ending
 pub mod Escaped

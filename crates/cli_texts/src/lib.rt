@@ -3,7 +3,7 @@
 //! [`end`] and [`report_arguments`] report on any writer how a run ended, and say which bytes are written: for a program the line of a refusal, and
 //! on a terminal also what to do. [`end_output`] does the same for a run with an output, whose reader may be gone ([`Output`], [`WatchedOutput`]), and
 //! [`end_text`] for one that only writes a text: a terminal is told why the output failed. [`ShownOutput`] gives a terminal no control character.
-//! [`tell_left_out`] and [`tell_lacking`] report what a salvage leaves out.
+//! [`tell_left_out`] and [`tell_lacking`] report what a salvage leaves out, and [`tell_note`] what a command that is done has brought ([`Note`]).
 //! [`write_own_text`] writes the version, the meaning of each refusal, or the help that lists all commands, and [`write_entry`] the meaning of one.
 //!
 //! ```
@@ -16,6 +16,7 @@ pub mod abouts;
 mod escaping;
 mod help;
 mod left_out;
+mod notes;
 mod own_texts;
 mod reasons;
 mod reports;
@@ -27,6 +28,7 @@ mod watched;
 pub use escaping::{ShownOutput, escaped_bytes_are_clean};
 pub use help::{HELP, help_page};
 pub use left_out::{tell_lacking, tell_left_out};
+pub use notes::{Note, tell_note};
 pub use own_texts::{VERSION, is_own, is_version_word, write_own_text};
 pub use reasons::{failure_of, system_text};
 pub use reports::{

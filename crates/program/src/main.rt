@@ -3,7 +3,8 @@
 //!
 //! Status 0 means done, 1 refused, with a line `refused CODE NAME ..` on standard error, or done in part, and 2 wrong arguments. The line is left out
 //! if only the output failed of a command that changes nothing, and its reader is gone, as when `head` has its lines. On a terminal a second line says
-//! what to do. With `ARROWSTORE_ADVICE=1` in the environment both lines are written everywhere, and the second one begins with a word for scripts.
+//! what to do, and a line may say how many rows a command has brought. With `ARROWSTORE_ADVICE=1` in the environment these lines are written everywhere,
+//! and the second one of a refusal begins with a word for scripts.
 #![tactic(auto)]
 
 mod progress;

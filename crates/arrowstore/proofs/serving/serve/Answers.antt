@@ -39,13 +39,13 @@ served_as g is_opened of_file remaining contents replays before after left left'
     subst (λ (r : StoreRequest). ServesRequest g is_opened of_file remaining contents replays r before after left left' result) (sym is) serves
 
 pub returns-in-Format-clause-serves : goal.returns-in-Format-clause-serves
-returns-in-Format-clause-serves g c = served_as _ _ _ _ _ _ _ _ _ _ _ _ _ c.in-Format.is (c.serve_format.ensures.formats, refl, refl)
+returns-in-Format-clause-serves g c = served_as _ _ _ _ _ _ _ _ _ _ _ _ _ c.in-Format.is (c.serve_format.ensures.formats, (refl, refl), refl)
 
 pub returns-in-Copy-clause-serves : goal.returns-in-Copy-clause-serves
-returns-in-Copy-clause-serves g c = served_as _ _ _ _ _ _ _ _ _ _ _ _ _ c.in-Copy.is (c.serve_copy.ensures.copies, refl, refl)
+returns-in-Copy-clause-serves g c = served_as _ _ _ _ _ _ _ _ _ _ _ _ _ c.in-Copy.is (c.serve_copy.ensures.copies, (refl, refl), refl)
 
 pub returns-in-Salvage-clause-serves : goal.returns-in-Salvage-clause-serves
-returns-in-Salvage-clause-serves g c = served_as _ _ _ _ _ _ _ _ _ _ _ _ _ c.in-Salvage.is (c.serve_salvage.ensures.salvages, refl)
+returns-in-Salvage-clause-serves g c = served_as _ _ _ _ _ _ _ _ _ _ _ _ _ c.in-Salvage.is (c.serve_salvage.ensures.salvages, (refl, refl))
 
 takes_script : takes_input_word (codes "apply") ≡ true
 unfolding takes_input_word
@@ -55,7 +55,7 @@ pub returns-in-Apply-clause-unread : goal.returns-in-Apply-clause-unread
 returns-in-Apply-clause-unread g c = inl (ap (λ (r : StoreRequest). takes_input_word (request_word r)) c.in-Apply.is ∙ takes_script)
 
 pub returns-in-Apply-clause-serves : goal.returns-in-Apply-clause-serves
-returns-in-Apply-clause-serves g c = served_as _ _ _ _ _ _ _ _ _ _ _ _ _ c.in-Apply.is (c.serve_apply.ensures.applies, refl, refl)
+returns-in-Apply-clause-serves g c = served_as _ _ _ _ _ _ _ _ _ _ _ _ _ c.in-Apply.is (c.serve_apply.ensures.applies, (refl, refl), refl)
 
 pub returns-in-Command-clause-serves : goal.returns-in-Command-clause-serves
 returns-in-Command-clause-serves g c = served_as _ _ _ _ _ _ _ _ _ _ _ _ _ c.in-Command.is (c.serve_command.ensures.serves, refl)
