@@ -132,7 +132,7 @@ has_reported contents audience known left note word output output' errors told_n
   listed = λ partly. absurd (cc (ends, partly));
   nothing_written = λ wrong. absurd (cc (ends, wrong));
   quiet = subst (λ s. IfRefused s (λ refusal. ¬ WritesPart word refusal → output' ≡ output)) (sym ends) quiet;
-  line = subst (λ (from : E). TellsRefusal (told audience known) ended (contents from) (contents errors')) (still (λ done. absurd (cc done))) line;
+  line = subst (λ from. TellsRefusal (told audience known) ended (contents from) (contents errors')) (still (λ done. absurd (cc done))) line;
 }
 
 -- a mistake for want of memory

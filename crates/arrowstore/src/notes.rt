@@ -1,5 +1,5 @@
 // What a command that is done has brought: the rows of a table in the list of its store, before and after it.
-ghost use Rattle.std.specs.Prelude.{◌≡◌, find, option_map, string_bytes, None, IfOk, IfSome};
+ghost use Rattle.std.specs.Prelude.{◌≡◌, find, option_map, string_bytes, IfOk, IfSome};
 ghost use Rattle.std.specs.Str.{bytes_eq};
 ghost use Rattle.store.specs.Fits.{listed_in};
 ghost use Rattle.arrowstore.specs.Notes.{rows_of, IfCounted, IsCounted, IsNote};
@@ -21,19 +21,6 @@ pub struct Remarks {
     pub note: Option<Note>,
     /// Whether anyone is told a note, which costs two looks at the list of tables.
     pub is_note_wanted: bool,
-}
-
-impl Remarks {
-    /// Returns what no command has said yet.
-    pub fn new(is_note_wanted: bool) -> Remarks
-        ensures { (result.hint ≡ None) × (result.note ≡ None) }
-    {
-        Remarks {
-            hint: None,
-            note: None,
-            is_note_wanted,
-        }
-    }
 }
 
 /// How a command changes the rows of a table.

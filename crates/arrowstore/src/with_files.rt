@@ -205,17 +205,22 @@ fn serve_and_report<
         (ends_of input.old output.old errors.old) (ends_of input.new output.new errors.new) result }
     ensures unread { (takes_input_word (request_word request.now) ≡ true) ⊎ (input.new ≡ input.old) }
 {
-    let mut remarks = Remarks::new(audience.is_advised());
+    let mut remarks = Remarks {
+        hint: None,
+        note: None,
+        is_note_wanted: audience.is_advised(),
+    };
     let mut left_out = Vec::new(rt.alloc());
     let done = serve(rt, request, input, output, &mut remarks, &mut left_out);
+    let left: &[LeftOut] = &left_out;
     let failure = failures.take();
     let audience = audience_after_output(audience, output);
-    tell_if_done(rt.alloc(), &done, &left_out, remarks.note, audience, errors);
+    tell_if_done(rt.alloc(), &done, left, remarks.note, audience, errors);
     let about = about_hinted(rt, request, &remarks.hint, input.start(), &done, audience);
     match hint_of(&remarks.hint, about.as_str()) {
         Some(hint) => {
             let known = known_of(request, &failure, Some(hint));
-            end_whole_or_partly(done, &left_out, known, audience, errors)
+            end_whole_or_partly(done, left, known, audience, errors)
         }
         None => {
             let served = Served {
@@ -231,7 +236,7 @@ fn serve_and_report<
                 &asked,
                 &failure,
                 done,
-                &left_out,
+                left,
                 audience,
                 errors,
             )

@@ -45,13 +45,13 @@ pub returns-in-Format-clause-serves : goal.returns-in-Format-clause-serves
 returns-in-Format-clause-serves g c = served_as _ _ _ _ _ _ _ _ _ _ _ _ _ c.in-Format.is (c.serve_format.ensures.formats, (refl, refl), refl)
 
 pub returns-in-FormatDevice-clause-serves : goal.returns-in-FormatDevice-clause-serves
-returns-in-FormatDevice-clause-serves g c = served_as _ _ _ _ _ _ _ _ _ _ _ _ _ c.in-FormatDevice.is (c.serve_format_device.ensures.formats, refl, refl)
+returns-in-FormatDevice-clause-serves g c = served_as _ _ _ _ _ _ _ _ _ _ _ _ _ c.in-FormatDevice.is (c.serve_format_device.ensures.formats, (refl, refl), refl)
 
 pub returns-in-Copy-clause-serves : goal.returns-in-Copy-clause-serves
 returns-in-Copy-clause-serves g c = served_as _ _ _ _ _ _ _ _ _ _ _ _ _ c.in-Copy.is (c.serve_copy.ensures.copies, (refl, refl), refl)
 
 pub returns-in-Salvage-clause-serves : goal.returns-in-Salvage-clause-serves
-returns-in-Salvage-clause-serves g c = served_as _ _ _ _ _ _ _ _ _ _ _ _ _ c.in-Salvage.is (c.serve_salvage.ensures.salvages, refl, refl)
+returns-in-Salvage-clause-serves g c = served_as _ _ _ _ _ _ _ _ _ _ _ _ _ c.in-Salvage.is (c.serve_salvage.ensures.salvages, (refl, refl))
 
 takes_script : takes_input_word (codes "apply") ≡ true
 unfolding takes_input_word

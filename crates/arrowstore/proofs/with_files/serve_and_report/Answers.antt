@@ -9,11 +9,11 @@ returns-in-Some-clause-serves g c = let e = c.end_whole_or_partly.ensures in rec
   left = plain_left c.serve-done.new.left_out.items;
   result = c.serve-done.result;
   serves = rw c.new-left_out.ensures.items at c.serve-done.ensures.serves;
-  ends = rw (← c.deref.ensures.value) e.ends;
+  ends = rw (← c.deref-left.ensures.value) e.ends;
   known = c.known_of-known.result;
   changing = c.known_of-known.ensures.changes;
   hints = rw c.known_of-known.ensures.hint c.in-Some.ensures;
-  told = rw (← c.deref.ensures.value, ← c.audience_after_output-audience.ensures) (has_reported _ _ _ _ c.serve-done.new.remarks.note _ _ _ _ _ _ c.serve-done.result c.end_whole_or_partly.result e.ends c.serve-done.ensures.silent c.tell_if_done.ensures.done c.tell_if_done.ensures.silent e.silent e.lines e.line);
+  told = rw (← c.deref-left.ensures.value, ← c.audience_after_output-audience.ensures) (has_reported _ _ _ _ c.serve-done.new.remarks.note _ _ _ _ _ _ c.serve-done.result c.end_whole_or_partly.result e.ends c.serve-done.ensures.silent c.tell_if_done.ensures.done c.tell_if_done.ensures.silent e.silent e.lines e.line);
 }
 
 pub returns-clause-serves : goal.returns-clause-serves
@@ -22,9 +22,9 @@ returns-clause-serves g c = let e = c.end_of_request.ensures in record {
   left = plain_left c.serve-done.new.left_out.items;
   result = c.serve-done.result;
   serves = rw c.new-left_out.ensures.items at c.serve-done.ensures.serves;
-  ends = rw (← c.deref-in-None.ensures.value) e.ends;
+  ends = rw (← c.deref-left.ensures.value) e.ends;
   known = e.line.0;
   changing = e.line.1;
   hints = e.line.2 ∙ c.in-None.ensures;
-  told = rw (← c.deref-in-None.ensures.value, ← c.audience_after_output-audience.ensures) (has_reported _ _ _ _ c.serve-done.new.remarks.note _ _ _ _ _ _ c.serve-done.result c.end_of_request.result e.ends c.serve-done.ensures.silent c.tell_if_done.ensures.done c.tell_if_done.ensures.silent e.silent e.lines e.line.3);
+  told = rw (← c.deref-left.ensures.value, ← c.audience_after_output-audience.ensures) (has_reported _ _ _ _ c.serve-done.new.remarks.note _ _ _ _ _ _ c.serve-done.result c.end_of_request.result e.ends c.serve-done.ensures.silent c.tell_if_done.ensures.done c.tell_if_done.ensures.silent e.silent e.lines e.line.3);
 }
