@@ -23,7 +23,7 @@ use std::alloc::{AllocError, Global};
 
 /// The pieces of the page of which its first sections are made: what each refusal of a stream, a file, a store or a field text means and what to do
 /// about it, among them the sentences of `remedies`. The file `docs/refusals.md` has the same bytes as the page.
-pub const FILE_REFUSALS: [&str; 93] = [
+pub const FILE_REFUSALS: [&str; 95] = [
     "# What each refusal means
 
 A refusal is one line on standard error: `refused`, a code, a name, and for some of them a detail, as in
@@ -203,6 +203,10 @@ or appended. If no advice follows a fault, the cause is the program that wrote t
   For a file that does not begin as a store does:
   ",
     FILE_OF_A_STORE,
+    "
+  For a block device on which no number of sectors makes a store:
+  ",
+    SIZE_OF_THE_DEVICE,
     "
   For a folder, a named pipe or a device that is not a disk: ",
     NO_FOLDER,

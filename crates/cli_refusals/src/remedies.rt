@@ -87,10 +87,10 @@ pub const LENGTH_OF_THE_STORE: &str =
     "Use an earlier copy of the file. Or give a copy of it the length of its store, as by `truncate -s`, and run `check` on that.";
 
 pub const SIZE_OF_THE_DEVICE: &str =
-    "Give the number of sectors that the device has. If that is more than 4194304, make a partition or a volume of a size that fits.";
+    "Leave the number of sectors out, or give that of the device. If it does not have 16 to 4194304, make a partition or a volume of a size that fits.";
 
 pub const BLANK_DEVICE: &str =
-    "If nothing on the device is needed, write zeros over its first MiB, as `dd if=/dev/zero of=DEVICE bs=1M count=1` does, and try again.";
+    "If nothing on the device is needed, run the command again with `--over`.";
 
 pub const NO_FOLDER: &str = "Give the file of a store, or a disk that holds one.";
 
