@@ -11,14 +11,12 @@ pub returns-in_err-mistake-clause-taken : goal.returns-in_err-mistake-clause-tak
 returns-in_err-mistake-clause-taken g c =
     let p = err_from_is_err_and c.from_residual-in_err-mistake.result c.from_residual-in_err-mistake.ensures.1 in
     let e = c.in_ok-request.ensures in
-    let asks = (e.asked c.requires, e.named c.requires, e.read) in
-    rw (p.1, p.2) (λ _. inr (c.in_ok-request.request, asks, c.lacks_device.ensures c.if-lacks_device.true))
+    rw (p.1, p.2) (λ _. inr (c.in_ok-request.request, (e.asked c.requires, e.named c.requires, e.read), c.lacks_device.ensures c.if-lacks_device.true))
 
 pub returns-then-lacks_device-clause-taken : goal.returns-then-lacks_device-clause-taken
 returns-then-lacks_device-clause-taken g c = λ _.
     let e = c.in_ok-request.ensures in
-    let asks = (e.asked c.requires, e.named c.requires, e.read) in
-    inr (c.in_ok-request.request, asks, c.lacks_device.ensures c.if-lacks_device.true)
+    inr (c.in_ok-request.request, (e.asked c.requires, e.named c.requires, e.read), c.lacks_device.ensures c.if-lacks_device.true)
 
 pub returns-clause-asks : goal.returns-clause-asks
 returns-clause-asks g c = let e = c.in_ok-request.ensures in (e.asked c.requires, e.named c.requires, e.read)
