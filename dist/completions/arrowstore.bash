@@ -29,7 +29,7 @@ _arrowstore() {
     'replay --format-version') return ;;
     esac
     case "${COMP_WORDS[1]}" in
-    format) flags='--wait --format-version -h --help' ;;
+    format) flags='--wait --format-version --over -h --help' ;;
     create) flags='--wait --like -h --help' ;;
     import) flags='--wait --new --complete -h --help' ;;
     append) flags='--wait --as --null --dates --complete -h --help' ;;
@@ -48,7 +48,7 @@ _arrowstore() {
     copy) flags='--wait -h --help' ;;
     replay) flags='--sectors --fail --stop --choice --format-version -h --help' ;;
     recode) flags='-h --help' ;;
-    help) [ $COMP_CWORD -eq 2 ] && COMPREPLY=($(compgen -W 'format create import append query export rename drop apply tables schema check salvage info compact upgrade copy replay recode refusals F1 F2 F3 F4 F5 F6 F7 F8 F9 F10 F11 F12 F13 F14 F15 F16 F17 F18 F19 F20 F21 F22 F23 F24 F25 F26 F27 F28 F29 F30 G1 G2 G3 C1 C3 C4 P1 P2 P3 X1 X2 X3 X4 X5 X6 X7 X8 X9 X10 X11 X12 X13 X14 X15 X16 X17 X18 X19 Q1 Q2 Q3 S1 S2 S3 S4 S5 S6 S7 S8 S9 S10 S12 S13 S15 S16 T1 OutOfMemory' -- "$word")); return ;;
+    help) [ $COMP_CWORD -eq 2 ] && COMPREPLY=($(compgen -W 'format create import append query export rename drop apply tables schema check salvage info compact upgrade copy replay recode refusals F1 F2 F3 F4 F5 F6 F7 F8 F9 F10 F11 F12 F13 F14 F15 F16 F17 F18 F19 F20 F21 F22 F23 F24 F25 F26 F27 F28 F29 F30 G1 G2 G3 C1 C3 C4 P1 P2 P3 X1 X2 X3 X4 X5 X6 X7 X8 X9 X10 X11 X12 X13 X14 X15 X16 X17 X18 X19 Q1 Q2 Q3 S1 S2 S3 S4 S5 S6 S7 S8 S9 S10 S12 S13 S15 T1 OutOfMemory' -- "$word")); return ;;
     esac
     if [ "${word#-}" != "$word" ]; then
         COMPREPLY=($(compgen -W "$flags" -- "$word"))

@@ -25,6 +25,7 @@ complete -c arrowstore -n __fish_use_subcommand -a help -d 'Print this message o
 complete -c arrowstore -n '__fish_seen_subcommand_from format; and test (count (commandline -opc)) -eq 2' -F
 complete -c arrowstore -n '__fish_seen_subcommand_from format' -l wait -d 'Waits for other commands on the store, instead of being refused'
 complete -c arrowstore -n '__fish_seen_subcommand_from format' -l format-version -x -d 'The version of the store: 2, with a digest of each segment, is the default; 1 is without digests'
+complete -c arrowstore -n '__fish_seen_subcommand_from format' -l over -d 'Makes the store over whatever is on a block device, even over a store'
 complete -c arrowstore -n '__fish_seen_subcommand_from format' -s h -l help -d 'Print help'
 complete -c arrowstore -n '__fish_seen_subcommand_from create; and test (count (commandline -opc)) -eq 2' -F
 complete -c arrowstore -n '__fish_seen_subcommand_from create' -l wait -d 'Waits for other commands on the store, instead of being refused'
@@ -96,4 +97,4 @@ complete -c arrowstore -n '__fish_seen_subcommand_from replay' -l choice -x -d '
 complete -c arrowstore -n '__fish_seen_subcommand_from replay' -l format-version -x -d 'The version of the store: 2, with a digest of each segment, is the default; 1 is without digests'
 complete -c arrowstore -n '__fish_seen_subcommand_from replay' -s h -l help -d 'Print help'
 complete -c arrowstore -n '__fish_seen_subcommand_from recode' -s h -l help -d 'Print help'
-complete -c arrowstore -n '__fish_seen_subcommand_from help' -a 'format create import append query export rename drop apply tables schema check salvage info compact upgrade copy replay recode refusals F1 F2 F3 F4 F5 F6 F7 F8 F9 F10 F11 F12 F13 F14 F15 F16 F17 F18 F19 F20 F21 F22 F23 F24 F25 F26 F27 F28 F29 F30 G1 G2 G3 C1 C3 C4 P1 P2 P3 X1 X2 X3 X4 X5 X6 X7 X8 X9 X10 X11 X12 X13 X14 X15 X16 X17 X18 X19 Q1 Q2 Q3 S1 S2 S3 S4 S5 S6 S7 S8 S9 S10 S12 S13 S15 S16 T1 OutOfMemory'
+complete -c arrowstore -n '__fish_seen_subcommand_from help' -a 'format create import append query export rename drop apply tables schema check salvage info compact upgrade copy replay recode refusals F1 F2 F3 F4 F5 F6 F7 F8 F9 F10 F11 F12 F13 F14 F15 F16 F17 F18 F19 F20 F21 F22 F23 F24 F25 F26 F27 F28 F29 F30 G1 G2 G3 C1 C3 C4 P1 P2 P3 X1 X2 X3 X4 X5 X6 X7 X8 X9 X10 X11 X12 X13 X14 X15 X16 X17 X18 X19 Q1 Q2 Q3 S1 S2 S3 S4 S5 S6 S7 S8 S9 S10 S12 S13 S15 T1 OutOfMemory'
