@@ -51,7 +51,7 @@ States (words.SchemaFields name) (opened.SchemaFields n) = n.now ≡ name.now
 States (words.Export name) (opened.Export n) = n.now ≡ name.now
 States words.Check opened.Check = Unit {0}
 States (words.Info as_json) (opened.Info j) = j ≡ as_json
-States words.Compact opened.Compact = Unit {0}
+States (words.Compact steps) (opened.Compact n) = n ≡ steps
 States words.Upgrade opened.Upgrade = Unit {0}
 States _ _ = ⊥
 

@@ -219,6 +219,6 @@ Serves {g = g} remaining contents (opened.Info as_json) old new before after res
     Prints ((s : Summary) × (agree : Bool) × IsSummary (g.size (device_of old)) old s × SaysAgreement (is_halted old) g.tells (image_of old) agree
     × Appends (contents before.output) (contents after.output) (summary_text as_json s agree))
     (RefusesPrinting (RefusesSummary (is_halted old)) (is_halted old ≡ false)) (OnlyRead result old new) before after result
-Serves remaining contents opened.Compact old new before after result =
-    Compacts contents old new before.output after.output result × (after.hint ≡ before.hint)
+Serves remaining contents (opened.Compact steps) old new before after result =
+    Compacts contents steps old new before.output after.output result × (after.hint ≡ before.hint)
 Serves remaining contents opened.Upgrade old new before after result = Upgrades contents old new before after result

@@ -78,8 +78,10 @@ pub enum OpenCommand<'a> {
     Info {
         as_json: bool,
     },
-    /// Compacts the store step by step until there is nothing left to do.
-    Compact,
+    /// Compacts the store step by step until there is nothing left to do, or as many steps are done.
+    Compact {
+        steps: Option<u64>,
+    },
     /// Gives each segment a digest.
     Upgrade,
 }
@@ -168,7 +170,7 @@ pub fn stated<'a>(alloc: Global, command: &StoreCommand<'a>) -> Result<OpenComma
         StoreCommand::Export { name } => Ok(OpenCommand::Export { name }),
         StoreCommand::Check => Ok(OpenCommand::Check),
         StoreCommand::Info { as_json } => Ok(OpenCommand::Info { as_json: *as_json }),
-        StoreCommand::Compact => Ok(OpenCommand::Compact),
+        StoreCommand::Compact { steps } => Ok(OpenCommand::Compact { steps: *steps }),
         StoreCommand::Upgrade => Ok(OpenCommand::Upgrade),
     }
 }

@@ -58,7 +58,7 @@ pub fn serve_open<D: SectorDevice, R: Read, W: Write>(
         OpenCommand::Export { name } => export_table(alloc, store, name, output),
         OpenCommand::Check => check_tables(alloc, store, output, hint),
         OpenCommand::Info { as_json } => print_summary(alloc, store, as_json, output),
-        OpenCommand::Compact => compact_tables(alloc, store, output),
+        OpenCommand::Compact { steps } => compact_tables(alloc, store, steps, output),
         OpenCommand::Upgrade => upgrade_store(alloc, store, output),
     }
 }

@@ -76,7 +76,7 @@ pub(crate) fn unread_table<
         }
         StoreRequest::Command {
             path,
-            command: StoreCommand::Compact,
+            command: StoreCommand::Compact { .. },
         } => {
             let mut store = open_to_read(rt, path).ok()?;
             only_unread(rt.alloc(), &mut store, place)

@@ -1,7 +1,7 @@
 -- Steps of a compaction, one after another.
-use Rattle.std.specs.Prelude.{◌≢◌, ◌↔◌, ◌++◌, ◌*◌, ◌^◌, ◌-◌, Bool, if◌then◌else◌, Option, None, Result, Ok, Err, OnOk}
+use Rattle.std.specs.Prelude.{◌≢◌, ◌↔◌, ◌++◌, ◌*◌, ◌^◌, ◌-◌, Bool, if◌then◌else◌, Option, None, Some, IfSome, unwrap_or, Result, Ok, Err, OnOk}
 use Rattle.std.proofs.Common.{◌≡◌, ◌∙◌, ◌<◌, ◌≤◌, ◌+◌, ℕ, suc, true, false, List, [], ◌∷◌, map, length, inl, inr, refl, ap, sym, subst, true≢false, arith}
-use Rattle.std.proofs.lemmas.Bool.{and_parts, leb-true, false_from_ne_true}
+use Rattle.std.proofs.lemmas.Bool.{and_parts, leb-true, lt-ltb, le-ltb, false_from_ne_true}
 use Rattle.std.proofs.lemmas.Nat.{mul-le}
 use Rattle.std.specs.Io.KnownBytes.{Appends}
 use Rattle.std.proofs.lemmas.List.{map_push, length_push}
@@ -40,7 +40,7 @@ use Rattle.store_runs.specs.laws.Going.{runs_joined, no_run, run_of_one}
 use Rattle.store_changes.specs.laws.Shrinking.{few_in_turn}
 use Rattle.store_changes.specs.laws.Synced.{own_image}
 use Rattle.cli_refusals.specs.declared.refusal.Refusal.{Refusal}
-use Rattle.cli_commands.specs.Compacting.{steps_text, Steps, StepsTo, StopsBy, step_calls, RunsOn, StaysWith, Compacted}
+use Rattle.cli_commands.specs.Compacting.{steps_text, Steps, StepsTo, StopsBy, step_calls, RunsOn, StaysWith, is_called, CompactedSo, Compacted}
 
 -- ---- one step and the machine
 
@@ -337,7 +337,7 @@ module _ {D : Type 0} {g : Ghosts D} where
       → ((Ok done ≡ Err refusals.Halted) ↔ (is_halted mid ≡ true)) → (is_halted mid ≡ false → (is_halted new ≡ true) ↔ (Ok done ≡ Err refusals.Device))
       → g.size (device_of new) ≡ g.size (device_of mid) → g.failed (device_of new) ≡ counted (step_reply (Ok done)) (g.failed (device_of mid)) → book_of new ≡ book_of mid
       → (g.tells ≡ true → IsOnDisk g.size g.story mid → KeepsEachTable g.size g.story mid new) → each_listed (listed_in new) ≡ each_listed (listed_in mid)
-      → (taken : List Compaction) × (length taken ≡ count) × Compacted taken (Ok tt) old new
+      → (taken : List Compaction) × (length taken ≡ count) × CompactedSo true taken (Ok tt) old new
   ends_with_nothing count old mid new Merged is so goes stepped reads halted_if halts size failures book each listed = absurd (cc is)
   ends_with_nothing count old mid new Moved is so goes stepped reads halted_if halts size failures book each listed = absurd (cc is)
   ends_with_nothing count old mid new Nothing is so goes stepped reads halted_if halts size failures book each listed =
@@ -372,9 +372,10 @@ module _ {D : Type 0} {g : Ghosts D} where
       → StopsBy mid r new → ((as_step r ≡ Err refusals.Halted) ↔ (is_halted mid ≡ true)) → (is_halted mid ≡ true → new ≡ mid)
       → (is_halted mid ≡ false → (is_halted new ≡ true) ↔ (as_step r ≡ Err refusals.Device))
       → g.size (device_of new) ≡ g.size (device_of mid) → g.failed (device_of new) ≡ counted (step_reply (as_step r)) (g.failed (device_of mid)) → book_of new ≡ book_of mid → each_listed (listed_in new) ≡ each_listed (listed_in mid)
-      → (taken : List Compaction) × Compacted taken (Err r) old new
+      → (taken : List Compaction) × (length taken ≡ count) × CompactedSo true taken (Err r) old new
   ends_refused count old mid new r so goes stops halted_if same halts size failures book listed = (
     so.taken,
+    so.counted_so,
     record {
       mid = mid;
       steps = so.steps;
@@ -382,7 +383,7 @@ module _ {D : Type 0} {g : Ghosts D} where
       size = size ∙ so.size;
       count = failures ∙ ap (counted (refused r)) so.failures;
       book = book ∙ so.book;
-      still = λ h. let off = so.halted_so ∙ h in (ap to_unit (halted_if.1 off), same off ∙ so.still h);
+      still = λ h. let off = so.halted_so ∙ h in ((λ called. ap to_unit (halted_if.1 off)), same off ∙ so.still h);
       halts = λ on. let parts = halts (so.halted_so ∙ on) in ((λ h. ap to_unit (parts.0 h)), (λ h. parts.1 (ap from_unit h)));
       goes = λ told base m fits.
           let gone = so.goes told base m fits in
@@ -396,6 +397,42 @@ module _ {D : Type 0} {g : Ghosts D} where
       listed = listed ∙ so.listed;
     },
   )
+
+  -- ---- no call more
+
+  pub ends_at_limit : (count : ℕ) (old new : Store D g) → SoFar count old new → (taken : List Compaction) × (length taken ≡ count) × CompactedSo false taken (Ok tt) old new
+  ends_at_limit count old new so = (
+    so.taken,
+    so.counted_so,
+    record {
+      mid = new;
+      steps = so.steps;
+      ends = (refl, refl);
+      size = so.size;
+      count = so.failures;
+      book = so.book;
+      still = λ h. ((λ called. absurd (true≢false (sym called))), so.still h);
+      halts = λ on. ((λ h. absurd (true≢false (sym h ∙ so.halted_so ∙ on))), (λ h. absurd (err_differs tt refusals.Device h)));
+      goes = λ told base m fits. let gone = so.goes told base m fits in record { next = m; settled = refl; run = gone.run; fits = gone.fits };
+      stays = λ told base m fits on. (so.goes told base m fits).stays;
+      each_table = λ told stands. (so.keeps told stands).each;
+      listed = so.listed;
+    },
+  )
+
+  -- ---- with a limit
+
+  pub limited : (limit : Option ℕ) (taken : List Compaction) (answer : Result (Unit {0}) tables.Refusal) (old new : Store D g) → length taken < unwrap_or limit (2 ^ 64 - 1)
+      → CompactedSo true taken answer old new → Compacted limit taken answer old new
+  limited None taken answer old new below so = (tt, so)
+  limited (Some most) taken answer old new below so =
+      (omega (arith, below), subst (λ (called : Bool). CompactedSo called taken answer old new) (sym (lt-ltb (length taken) most below)) so)
+
+  pub stopped : (limit : Option ℕ) (taken : List Compaction) (old new : Store D g) → length taken < 2 ^ 64 - 1 → length taken ≡ unwrap_or limit (2 ^ 64 - 1)
+      → CompactedSo false taken (Ok tt) old new → Compacted limit taken (Ok tt) old new
+  stopped None taken old new few is so = absurd (omega (arith, few, is))
+  stopped (Some most) taken old new few is so =
+      (omega (arith, is), subst (λ (called : Bool). CompactedSo called taken (Ok tt) old new) (sym (le-ltb (length taken) most (omega (arith, is)))) so)
 
 -- how many steps are reported
 pub written_steps : {W : Type 0} (contents : W → Option (List ℕ)) (old new : W) (count : ℕ) (taken : List Compaction) (r : Result (Unit {0}) Refusal) → length taken ≡ count

@@ -1,5 +1,6 @@
 -- What a whole compaction makes of a store, and what is printed of it.
-use Rattle.std.specs.Prelude.{◌≡◌, ◌≢◌, ◌↔◌, ◌++◌, ℕ, true, false, List, [], ◌∷◌, codes, length, map, Option, Result, Ok, Err, OnOk}
+use Rattle.std.specs.Prelude.{◌≡◌, ◌≢◌, ◌≤◌, ◌↔◌, ◌++◌, ℕ, Bool, true, false, nat_lt, List, [], ◌∷◌, codes, length, map, Option, Some, None, Result, Ok, Err, OnOk}
+use Rattle.std.specs.Prelude.{IfSome}
 use Rattle.std.specs.Fmt.{decimal}
 use Rattle.std.specs.Io.KnownBytes.{Appends}
 use Rattle.sector_dev.specs.Disk.{Image}
@@ -59,6 +60,16 @@ abbrev pub EndsSteps : {D : Type 0} {g : Ghosts D} → (old : Store D g) → Res
 EndsSteps {g = g} old (Ok unit) new = HasStepped g.size g.story g.tells old Nothing new × OnlyReadsStore g.size g.story g.failed g.tells nothing old new
 EndsSteps old (Err r) new = StopsBy old r new
 
+-- whether a call was made after these steps: always, but after as many steps as were asked for
+abbrev pub is_called : (limit : Option ℕ) → List Compaction → Bool
+is_called None taken = true
+is_called (Some most) taken = nat_lt (length taken) most
+
+-- how the steps ended: without another call, or with one
+abbrev pub EndsAfter : {D : Type 0} {g : Ghosts D} → (called : Bool) → (old : Store D g) → Result (Unit {0}) tables.Refusal → (new : Store D g) → Type 0
+EndsAfter false old answer new = (answer ≡ Ok tt) × (new ≡ old)
+EndsAfter true old answer new = EndsSteps old answer new
+
 -- ---- as calls of the store
 
 abbrev pub last_reply : Result (Unit {0}) tables.Refusal → PlainReply
@@ -68,6 +79,15 @@ last_reply (Err r) = refused r
 -- a call for each step that did something
 abbrev pub step_calls : List Compaction → List PlainCall
 step_calls taken = map (λ done. compact_call) taken
+
+-- and one more, if it was made
+abbrev pub calls_of : (called : Bool) → List Compaction → List PlainCall
+calls_of false taken = step_calls taken
+calls_of true taken = step_calls taken ++ compact_call ∷ []
+
+abbrev pub replies_of : (called : Bool) → List Compaction → Result (Unit {0}) tables.Refusal → List PlainReply
+replies_of false taken answer = map reply_of taken
+replies_of true taken answer = map reply_of taken ++ last_reply answer ∷ []
 
 -- calls of an open store, one after another: some machine goes on with the commands that were settled, and the store stands for it
 pub record RunsOn {D : Type 0} {g : Ghosts D} (base : Tables) (m : Machine) (calls : List PlainCall) (replies : List PlainReply)
@@ -85,20 +105,20 @@ StaysWith {g = g} t old new =
 
 -- ---- a whole compaction
 
--- these steps did something, and the call after them was answered so
-pub record Compacted {D : Type 0} {g : Ghosts D} (taken : List Compaction) (answer : Result (Unit {0}) tables.Refusal) (old new : Store D g) : Type 0 where
+-- these steps did something, and the call after them, if one was made, was answered so
+pub record CompactedSo {D : Type 0} {g : Ghosts D} (called : Bool) (taken : List Compaction) (answer : Result (Unit {0}) tables.Refusal) (old new : Store D g) : Type 0 where
   pub mid : Store D g
   pub steps : StepsTo old taken mid
-  pub ends : EndsSteps mid answer new
+  pub ends : EndsAfter called mid answer new
   pub size : g.size (device_of new) ≡ g.size (device_of old)
   pub count : g.failed (device_of new) ≡ counted (last_reply answer) (g.failed (device_of old))
   pub book : book_of new ≡ book_of old
   -- a halted store stays as it is, and a store halts if its device fails
-  pub still : is_halted old ≡ true → (answer ≡ Err refusals.Halted) × (new ≡ old)
+  pub still : is_halted old ≡ true → (called ≡ true → answer ≡ Err refusals.Halted) × (new ≡ old)
   pub halts : is_halted old ≡ false → (is_halted new ≡ true) ↔ (answer ≡ Err refusals.Device)
   -- on a store that stands for a machine the steps are calls that change no table
   pub goes : g.tells ≡ true → (base : Tables) (m : Machine) → StoreFits g.size g.story base m old
-      → RunsOn base m (step_calls taken ++ compact_call ∷ []) (map reply_of taken ++ last_reply answer ∷ []) old new
+      → RunsOn base m (calls_of called taken) (replies_of called taken answer) old new
   -- and a stop at any moment leaves the tables of before
   pub stays : g.tells ≡ true → (base : Tables) (m : Machine) → StoreFits g.size g.story base m old → is_halted old ≡ false
       → StaysWith (after base m.settled) old new
@@ -107,11 +127,17 @@ pub record Compacted {D : Type 0} {g : Ghosts D} (taken : List Compaction) (answ
   -- on any device the catalogue lists each table as before
   pub listed : each_listed (listed_in new) ≡ each_listed (listed_in old)
 
--- a compaction that the program answered: once nothing is left to do, the number of steps that did something is written; a refusal is the store's
-pub record Compacts {D : Type 0} {g : Ghosts D} {W : Type 0} (contents : W → Option (List ℕ)) (old new : Store D g) (output output' : W)
+-- as many steps as this limit allows, if there is one
+abbrev pub Compacted : {D : Type 0} {g : Ghosts D} → (limit : Option ℕ) → (taken : List Compaction) → (answer : Result (Unit {0}) tables.Refusal)
+    → (old new : Store D g) → Type 0
+Compacted limit taken answer old new = IfSome limit (λ most. length taken ≤ most) × CompactedSo (is_called limit taken) taken answer old new
+
+-- a compaction that the program answered: once nothing is left to do, or the limit is reached, the number of steps that did something is written; a refusal
+-- is the store's
+pub record Compacts {D : Type 0} {g : Ghosts D} {W : Type 0} (contents : W → Option (List ℕ)) (limit : Option ℕ) (old new : Store D g) (output output' : W)
     (result : Result (Unit {0}) Refusal) : Type 0 where
   pub taken : List Compaction
   pub answer : Result (Unit {0}) tables.Refusal
-  pub compacted : Compacted taken answer old new
+  pub compacted : Compacted limit taken answer old new
   pub follows : Follows answer result
   pub written : OnOk result (Appends (contents output) (contents output') (steps_text (length taken)))

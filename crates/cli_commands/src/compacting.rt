@@ -10,12 +10,18 @@ use std::alloc::Global;
 use std::io::Write;
 use store::{Compaction, Store};
 
-// Takes steps until there is nothing left to do, and returns how many did something. The law `store::compactions_end` bounds their number.
-fn take_steps<D: SectorDevice>(alloc: Global, store: &mut Store<D>) -> Result<u64, tables::Refusal>
-    ensures done { IfOk result (λ count. (taken : List steps.Compaction) × (length taken ≡ count) × Compacted taken (Ok tt) store.old store.new) }
-    ensures refused { IfErr result (λ r. (taken : List steps.Compaction) × Compacted taken (Err r) store.old store.new) }
+// Takes steps until there is nothing left to do, or as many as the limit allows, and returns how many did something. Without a limit the law
+// `store::compactions_end` bounds their number.
+fn take_steps<D: SectorDevice>(
+    alloc: Global,
+    store: &mut Store<D>,
+    limit: Option<u64>,
+) -> Result<u64, tables::Refusal>
+    ensures done { IfOk result (λ count. (taken : List steps.Compaction) × (length taken ≡ count) × Compacted limit taken (Ok tt) store.old store.new) }
+    ensures refused { IfErr result (λ r. (taken : List steps.Compaction) × Compacted limit taken (Err r) store.old store.new) }
 {
-    for count in 0..u64::MAX {
+    let most = limit.unwrap_or(u64::MAX);
+    for count in 0..most {
         match store.compact_step(alloc) {
             Ok(done) => match done {
                 Compaction::Nothing => return Ok(count),
@@ -24,7 +30,7 @@ fn take_steps<D: SectorDevice>(alloc: Global, store: &mut Store<D>) -> Result<u6
             Err(refusal) => return Err(refusal),
         }
     }
-    unreachable!()
+    Ok(most)
 }
 
 // Takes no memory, so that the work is reported even when memory is out.
@@ -36,8 +42,8 @@ fn write_steps<W: Write>(output: &mut W, count: u64) -> Result<(), Refusal>
     output.flush().map_err(|_| Refusal::Io(Side::Output))
 }
 
-/// Joins neighbouring segments that can be one and moves the last ones forward, step by step until there is nothing left to do, and writes `steps`
-/// and the number of steps that did something.
+/// Joins neighbouring segments that can be one and moves the last ones forward, step by step until there is nothing left to do, or as many steps have been
+/// taken as the limit allows, and writes `steps` and the number of steps that did something.
 ///
 /// The tables are the same at every moment.
 ///
@@ -46,12 +52,14 @@ fn write_steps<W: Write>(output: &mut W, count: u64) -> Result<(), Refusal>
 pub fn compact_tables<D: SectorDevice, W: Write>(
     alloc: Global,
     store: &mut Store<D>,
+    limit: Option<u64>,
     output: &mut W,
 ) -> Result<(), Refusal>
-    // Each step did something and shrank the catalogue, up to one with nothing to do or one that the store refused. No table changes.
-    ensures compacts { Compacts W.contents store.old store.new output.old output.new result }
+    // Each step did something and shrank the catalogue, up to one with nothing to do, one that the store refused, or the limit. No
+    // table changes.
+    ensures compacts { Compacts W.contents limit store.old store.new output.old output.new result }
     ensures silent { IfErr result (λ refusal. refusal ≢ Refusal.Io Side.Output → output.new ≡ output.old) }
 {
-    let count = take_steps(alloc, store)?;
+    let count = take_steps(alloc, store, limit)?;
     write_steps(output, count)
 }

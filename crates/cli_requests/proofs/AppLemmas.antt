@@ -19,7 +19,7 @@ use Rattle.clap.specs.declared.error.kind.ErrorKind.{ErrorKind}
 use Rattle.clap.specs.declared.parser.matches.ArgMatches.{ArgMatches}
 use Rattle.clap.proofs.OnLiterals.{clap_on_literals}
 use Rattle.clap.proofs.WalkLemmas.{first_value-rows, one_text-rows, raw_values-rows}
-use Rattle.cli_requests.specs.Apps.{info_app, format_app, copy_app, store_app, apply_app, table_app, schema_app, import_app, rename_app, create_app, append_app, query_app, other_parameters, parameters_of, IsAppWith, IsOwnApp, value_of, values_of}
+use Rattle.cli_requests.specs.Apps.{info_app, compact_app, format_app, copy_app, store_app, apply_app, table_app, schema_app, import_app, rename_app, create_app, append_app, query_app, other_parameters, parameters_of, IsAppWith, IsOwnApp, value_of, values_of}
 use Rattle.civil_days.specs.declared.date_form.DateForm.{DateForm}
 use Rattle.civil_days.specs.declared.date_form.DateForm.TheVariants.{Numbers, Iso}
 use Rattle.cli_requests.specs.Apps.{HasDates, HasFound}
@@ -52,6 +52,13 @@ pub info_plain : (name : Text) (p : ℕ) → ends_options (arg_by_index (built (
 info_plain name p = by_first (1 == p) refl
   where
     by_first : (b : Bool) → (1 == p) ≡ b → ends_options (arg_by_index (built (info_app name)).top.rules p) ≡ false
+    by_first true e = rw e refl
+    by_first false e = rw e refl
+
+pub compact_plain : (name : Text) (p : ℕ) → ends_options (arg_by_index (built (compact_app name)).top.rules p) ≡ false
+compact_plain name p = by_first (1 == p) refl
+  where
+    by_first : (b : Bool) → (1 == p) ≡ b → ends_options (arg_by_index (built (compact_app name)).top.rules p) ≡ false
     by_first true e = rw e refl
     by_first false e = rw e refl
 
@@ -148,6 +155,9 @@ file_top name = (built (file_app name)).top
 abbrev pub info_top : Text → Shape
 info_top name = (built (info_app name)).top
 
+abbrev pub compact_top : Text → Shape
+compact_top name = (built (compact_app name)).top
+
 abbrev pub table_top : Text → Shape
 table_top name = (built (table_app name)).top
 
@@ -201,6 +211,20 @@ unfolding clap_on_literals
 info_alone name [] e = absurd (some_kind _ _ e)
 info_alone name (a ∷ []) e = refl
 info_alone name (a ∷ b ∷ rest) e = absurd (some_kind _ _ e)
+
+compact_named : (name : Text) (ops : List Text) → operands_fault (compact_top name) ops ≡ []
+    → ops ≡ row_value (codes "STORE") (operand_rows (compact_top name) ops) ∷ []
+unfolding clap_on_literals
+compact_named name [] e = absurd (some_kind _ _ e)
+compact_named name (a ∷ []) e = refl
+compact_named name (a ∷ b ∷ rest) e = absurd (some_kind _ _ e)
+
+-- without its option
+compact_alone : (name : Text) (ops : List Text) → operands_fault (compact_top name) ops ≡ [] → first_of (codes "steps") (operand_rows (compact_top name) ops) ≡ None
+unfolding clap_on_literals
+compact_alone name [] e = absurd (some_kind _ _ e)
+compact_alone name (a ∷ []) e = refl
+compact_alone name (a ∷ b ∷ rest) e = absurd (some_kind _ _ e)
 
 table_named : (name : Text) (ops : List Text) → operands_fault (table_top name) ops ≡ []
     → ops ≡ row_value (codes "STORE") (operand_rows (table_top name) ops) ∷ row_value (codes "NAME") (operand_rows (table_top name) ops) ∷ []
@@ -472,6 +496,18 @@ module _ (word : Text) (words : List Text) (m : ArgMatches) (a : App) (name : Te
         sym (found_one m _ (codes "json") rows) ∙ info_alone name ops faultless,
       )
 
+  compact_found : a ≡ compact_app name → (ops : List Text) → operands words ≡ Some ops
+      → (ops ≡ value_of (found_of m) (codes "STORE") ∷ []) × (first_value (found_of m) (codes "steps") ≡ None)
+  unfolding clap_on_literals
+  compact_found is ops e =
+      let reads = reads_operands (compact_app name) word words ops e refl refl (compact_plain name) in
+      let p : Parsed (compact_app name) (word ∷ words) m = subst (λ (x : App). Parsed x (word ∷ words) m) is parsed in
+      let rows = (p.matches refl).0 ∙ reads.rows in
+      let faultless = sym reads.fault ∙ p.faultless refl in (
+        compact_named name ops faultless ∙ ap (λ (v : Text). v ∷ []) (found_value m _ (codes "STORE") rows),
+        sym (found_first m _ (codes "steps") rows) ∙ compact_alone name ops faultless,
+      )
+
   table_found : a ≡ table_app name → (ops : List Text) → operands words ≡ Some ops
       → ops ≡ value_of (found_of m) (codes "STORE") ∷ value_of (found_of m) (codes "NAME") ∷ []
   unfolding clap_on_literals
@@ -668,6 +704,10 @@ module _ (word : Text) (words : List Text) (m : ArgMatches) (a : App) (own : IsO
       → (ops ≡ value_of (found_of m) (codes "STORE") ∷ []) × (one_text (found_of m) (codes "json") ≡ Some (codes "false"))
   names_form is ops e = info_found word words m a word parsed (subst (λ (b : Parameters). IsAppWith word b a) is own) ops e
 
+  pub names_steps : parameters_of word ≡ parameters.FileAndSteps → (ops : List Text) → operands words ≡ Some ops
+      → (ops ≡ value_of (found_of m) (codes "STORE") ∷ []) × (first_value (found_of m) (codes "steps") ≡ None)
+  names_steps is ops e = compact_found word words m a word parsed (subst (λ (b : Parameters). IsAppWith word b a) is own) ops e
+
   names_one_table : parameters_of word ≡ parameters.Table → (ops : List Text) → operands words ≡ Some ops
       → ops ≡ value_of (found_of m) (codes "STORE") ∷ value_of (found_of m) (codes "NAME") ∷ []
   names_one_table is ops e = table_found word words m a word parsed (subst (λ (b : Parameters). IsAppWith word b a) is own) ops e
@@ -786,9 +826,11 @@ module _ (word : Text) (words : List Text) (m : ArgMatches) (a : App) (own : IsO
   names_command (requests.Command file commands.Check) is found =
       named (requests.Command file commands.Check)
       (λ ops e. (names_file_only (of_word (codes "check") parameters.Nothing is refl) ops e ∙ ap (λ (v : Text). v ∷ []) (sym found.0), tt))
-  names_command (requests.Command file commands.Compact) is found =
-      named (requests.Command file commands.Compact)
-      (λ ops e. (names_file_only (of_word (codes "compact") parameters.Nothing is refl) ops e ∙ ap (λ (v : Text). v ∷ []) (sym found.0), tt))
+  names_command (requests.Command file (commands.Compact steps)) is found =
+      named (requests.Command file (commands.Compact steps))
+      (λ ops e.
+      let has = names_steps (of_word (codes "compact") parameters.FileAndSteps is refl) ops e in
+      (has.0 ∙ ap (λ (v : Text). v ∷ []) (sym found.0), found.1.1 ∙ ap (option_map (digits_value 10)) has.1))
   names_command (requests.Command file (commands.Import name)) is found =
       named (requests.Command file (commands.Import name))
       (λ ops e. ((names_import (of_word (codes "import") parameters.TableToImport is refl) ops e).0 ∙ (λ i. sym found.0 i ∷ sym found.1.0 i ∷ []), tt))

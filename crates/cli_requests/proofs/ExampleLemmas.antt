@@ -15,7 +15,7 @@ use Rattle.clap.specs.Lexer.{usize_max}
 use Rattle.clap.specs.declared.builder.value_parser.ValueParser.TheVariants as parsers
 use Rattle.clap.proofs.OnLiterals.{clap_on_literals}
 use Rattle.clap.specs.declared.builder.value_parser.ValueParser.{ValueParser}
-use Rattle.cli_requests.specs.Apps.{AreForms, AreDateForms, is_form, is_date_form, IsOwnApp, info_app, format_app, apply_app, schema_app, import_app, create_app, query_app, replay_app, append_app, other_parameters, parameters_of}
+use Rattle.cli_requests.specs.Apps.{AreForms, AreDateForms, is_form, is_date_form, IsOwnApp, info_app, compact_app, format_app, apply_app, schema_app, import_app, create_app, query_app, replay_app, append_app, other_parameters, parameters_of}
 use Rattle.cli_requests.specs.Examples.{AreExamples, AreFound, AreReadAs, AreValuesRead, IsHow, IsVersion, Valued, called}
 use Rattle.cli_requests.specs.Numbers.{is_number, is_number_if_any}
 use Rattle.cli_requests.specs.Operands.{names_file, names_table}
@@ -37,6 +37,7 @@ module _ (first flag : Text → Option Text) where
     like = λ e. absurd (true≢false (sym e));
     complete = λ e. absurd (true≢false (sym e));
     limit = λ e. absurd (true≢false (sym e));
+    steps = λ e. absurd (true≢false (sym e));
     printed = λ e. absurd (true≢false (sym e));
     size = λ e. absurd (true≢false (sym e));
     fail = λ e. absurd (true≢false (sym e));
@@ -50,14 +51,16 @@ module _ (first flag : Text → Option Text) where
       → (bytes_eq (codes "create") word ≡ true → (first (codes "like") ≡ None) ⊎ (first (codes "FIELD") ≡ None))
       → (bytes_eq (codes "append") word ≡ true
       → (bytes_eq (unwrap_or (first (codes "as")) []) (codes "stream") ≡ true) ⊎ (flag (codes "complete") ≡ Some (codes "false")))
-      → bytes_eq (codes "query") word ≡ false → bytes_eq (codes "replay") word ≡ false → IsTakable word first flag
-  plain_takable word copy format like complete query replay = record {
+      → bytes_eq (codes "query") word ≡ false → (bytes_eq (codes "compact") word ≡ true → is_number_if_any (first (codes "steps")) ≡ true)
+      → bytes_eq (codes "replay") word ≡ false → IsTakable word first flag
+  plain_takable word copy format like complete query steps replay = record {
     sectors = λ e. absurd (true≢false (sym e ∙ copy));
     room = λ e. absurd (true≢false (sym e ∙ format));
     version = λ e. absurd (true≢false (sym e ∙ format));
     like = like;
     complete = complete;
     limit = λ e. absurd (true≢false (sym e ∙ query));
+    steps = steps;
     printed = λ e. absurd (true≢false (sym e ∙ query));
     size = λ e. absurd (true≢false (sym e ∙ replay));
     fail = λ e. absurd (true≢false (sym e ∙ replay));
@@ -67,23 +70,26 @@ module _ (first flag : Text → Option Text) where
   }
 
   info_takable : IsTakable (codes "info") first flag
-  info_takable = plain_takable (codes "info") refl refl (λ e. absurd (true≢false (sym e))) (λ e. absurd (true≢false (sym e))) refl refl
+  info_takable = plain_takable (codes "info") refl refl (λ e. absurd (true≢false (sym e))) (λ e. absurd (true≢false (sym e))) refl (λ e. absurd (true≢false (sym e))) refl
+
+  compact_takable : is_number_if_any (first (codes "steps")) ≡ true → IsTakable (codes "compact") first flag
+  compact_takable steps = plain_takable (codes "compact") refl refl (λ e. absurd (true≢false (sym e))) (λ e. absurd (true≢false (sym e))) refl (λ e. steps) refl
 
   apply_takable : IsTakable (codes "apply") first flag
-  apply_takable = plain_takable (codes "apply") refl refl (λ e. absurd (true≢false (sym e))) (λ e. absurd (true≢false (sym e))) refl refl
+  apply_takable = plain_takable (codes "apply") refl refl (λ e. absurd (true≢false (sym e))) (λ e. absurd (true≢false (sym e))) refl (λ e. absurd (true≢false (sym e))) refl
 
   create_takable : (first (codes "like") ≡ None) ⊎ (first (codes "FIELD") ≡ None) → IsTakable (codes "create") first flag
-  create_takable like = plain_takable (codes "create") refl refl (λ e. like) (λ e. absurd (true≢false (sym e))) refl refl
+  create_takable like = plain_takable (codes "create") refl refl (λ e. like) (λ e. absurd (true≢false (sym e))) refl (λ e. absurd (true≢false (sym e))) refl
 
   schema_takable : IsTakable (codes "schema") first flag
-  schema_takable = plain_takable (codes "schema") refl refl (λ e. absurd (true≢false (sym e))) (λ e. absurd (true≢false (sym e))) refl refl
+  schema_takable = plain_takable (codes "schema") refl refl (λ e. absurd (true≢false (sym e))) (λ e. absurd (true≢false (sym e))) refl (λ e. absurd (true≢false (sym e))) refl
 
   import_takable : IsTakable (codes "import") first flag
-  import_takable = plain_takable (codes "import") refl refl (λ e. absurd (true≢false (sym e))) (λ e. absurd (true≢false (sym e))) refl refl
+  import_takable = plain_takable (codes "import") refl refl (λ e. absurd (true≢false (sym e))) (λ e. absurd (true≢false (sym e))) refl (λ e. absurd (true≢false (sym e))) refl
 
   append_takable : (bytes_eq (unwrap_or (first (codes "as")) []) (codes "stream") ≡ true) ⊎ (flag (codes "complete") ≡ Some (codes "false"))
       → IsTakable (codes "append") first flag
-  append_takable complete = plain_takable (codes "append") refl refl (λ e. absurd (true≢false (sym e))) (λ e. complete) refl refl
+  append_takable complete = plain_takable (codes "append") refl refl (λ e. absurd (true≢false (sym e))) (λ e. complete) refl (λ e. absurd (true≢false (sym e))) refl
 
   query_takable : is_number_if_any (first (codes "limit")) ≡ true → (first (codes "save") ≡ None) ⊎ (flag (codes "objects") ≡ Some (codes "false"))
       → IsTakable (codes "query") first flag
@@ -94,6 +100,7 @@ module _ (first flag : Text → Option Text) where
     like = λ e. absurd (true≢false (sym e));
     complete = λ e. absurd (true≢false (sym e));
     limit = λ e. limit;
+    steps = λ e. absurd (true≢false (sym e));
     printed = λ e. printed;
     size = λ e. absurd (true≢false (sym e));
     fail = λ e. absurd (true≢false (sym e));
@@ -112,6 +119,7 @@ module _ (first flag : Text → Option Text) where
     like = λ e. absurd (true≢false (sym e));
     complete = λ e. absurd (true≢false (sym e));
     limit = λ e. absurd (true≢false (sym e));
+    steps = λ e. absurd (true≢false (sym e));
     printed = λ e. absurd (true≢false (sym e));
     size = λ e. size;
     fail = λ e. fail;
@@ -160,6 +168,11 @@ info_example : AreReadAs (called (codes "info" ∷ codes "--json" ∷ codes "sto
     ((codes "STORE", codes "store" ∷ []) ∷ (codes "json", codes "true" ∷ []) ∷ [])
 unfolding names_file names_table other_parameters parameters_of first_word is_number walked clap_on_literals
 info_example = read_as _ _ (info_app (codes "info")) (λ command own. sym own) refl (info_takable _ _) (refl, (refl, tt))
+
+compact_example : AreReadAs (called (codes "compact" ∷ codes "store" ∷ codes "--steps" ∷ codes "100" ∷ []))
+    ((codes "STORE", codes "store" ∷ []) ∷ (codes "steps", codes "100" ∷ []) ∷ [])
+unfolding names_file names_table other_parameters parameters_of first_word is_number walked clap_on_literals
+compact_example = read_as _ _ (compact_app (codes "compact")) (λ command own. sym own) refl (compact_takable _ _ refl) (refl, (refl, tt))
 
 apply_example : AreReadAs (called (codes "apply" ∷ codes "store" ∷ codes "-" ∷ codes "--wait" ∷ []))
     ((codes "STORE", codes "store" ∷ []) ∷ (codes "SCRIPT", codes "-" ∷ []) ∷ (codes "wait", codes "true" ∷ []) ∷ [])
@@ -302,6 +315,17 @@ info_values : (file : Text) → AreReadAs (called (codes "info" ∷ codes "--jso
     ((codes "STORE", file ∷ []) ∷ (codes "json", codes "true" ∷ []) ∷ [])
 unfolding names_file names_table other_parameters parameters_of first_word is_number walked clap_on_literals
 info_values file = read_as _ _ (info_app (codes "info")) (λ command own. sym own) refl (info_takable _ _) (refl, (refl, tt))
+
+compact_faultless : (steps file : Text) → is_number steps ≡ true
+    → fault_of (compact_app (codes "compact")) (codes "compact" ∷ (codes "--steps=" ++ steps) ∷ codes "--" ∷ file ∷ []) ≡ []
+unfolding walked clap_on_literals
+compact_faultless steps file is = ap (λ (ok : Bool). past (number_kinds ok)) (number_accepted steps is)
+
+compact_values : (steps file : Text) → is_number steps ≡ true → AreReadAs (called (codes "compact" ∷ (codes "--steps=" ++ steps) ∷ codes "--" ∷ file ∷ []))
+    ((codes "STORE", file ∷ []) ∷ (codes "steps", steps ∷ []) ∷ [])
+unfolding names_file names_table other_parameters parameters_of first_word walked clap_on_literals
+compact_values steps file is =
+    read_as _ _ (compact_app (codes "compact")) (λ command own. sym own) (compact_faultless steps file is) (compact_takable _ _ is) (refl, (refl, tt))
 
 apply_values : (file script : Text) → AreReadAs (called (codes "apply" ∷ codes "--wait" ∷ codes "--" ∷ file ∷ script ∷ []))
     ((codes "STORE", file ∷ []) ∷ (codes "SCRIPT", script ∷ []) ∷ (codes "wait", codes "true" ∷ []) ∷ [])
@@ -629,6 +653,7 @@ examples = record {
   format = format_example;
   device = device_example;
   info = info_example;
+  compacted = compact_example;
   like = like_example;
   described = described_example;
   imported = import_example;
@@ -646,6 +671,7 @@ values_read = record {
   over = over_values;
   whole = whole_values;
   info = info_values;
+  compacted = compact_values;
   like = like_values;
   described = described_values;
   imported = import_values;

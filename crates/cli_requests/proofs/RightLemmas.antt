@@ -28,7 +28,7 @@ use Rattle.clap.specs.declared.parser.matches.ArgMatches.{ArgMatches}
 use Rattle.clap.specs.declared.parser.matches.Found.{Found}
 use Rattle.clap.proofs.OnLiterals.{clap_on_literals}
 use Rattle.clap.specs.Walk.{walked}
-use Rattle.cli_requests.specs.Apps.{info_app, format_app, copy_app, apply_app, table_app, schema_app, import_app, rename_app, create_app, append_app, query_app, other_parameters, parameters_of, AreForms, AreDateForms, IsAppWith, IsOwnApp}
+use Rattle.cli_requests.specs.Apps.{info_app, compact_app, format_app, copy_app, apply_app, table_app, schema_app, import_app, rename_app, create_app, append_app, query_app, other_parameters, parameters_of, AreForms, AreDateForms, IsAppWith, IsOwnApp}
 use Rattle.cli_requests.specs.Apps.{HasFound, IsOfMemory, value_of}
 use Rattle.cli_requests.specs.Numbers.{is_number, is_number_if_any}
 use Rattle.cli_requests.specs.Operands.{is_option, operands, names_file, names_table}
@@ -40,9 +40,9 @@ use Rattle.cli_requests.specs.declared.store_command_line.Mistake.{Mistake}
 use Rattle.cli_requests.specs.declared.store_words.StoreRequest.{StoreRequest}
 use Rattle.cli_requests.proofs.NumberLemmas.{signed_is_none}
 use Rattle.cli_requests.proofs.OperandLemmas.{operands_fault, reads_operands, level_with, words_read, words_faultless}
-use Rattle.cli_requests.proofs.AppLemmas.{Parsed, file_app, file_top, info_top, apply_top, table_top, schema_top, import_top, rename_top, format_top, copy_top, append_top, create_top, query_top, file_and_table, field_met, condition_met}
-use Rattle.cli_requests.proofs.AppLemmas.{file_plain, info_plain, apply_plain, table_plain, schema_plain, import_plain, rename_plain, format_plain, copy_plain, append_plain, create_plain, query_plain, found_first, found_one}
-use Rattle.cli_requests.proofs.AppLemmas.{AreFileAndNumber, names_sectors, asks_newest, names_new_store, asks_own_fields, asks_no_end, asks_all}
+use Rattle.cli_requests.proofs.AppLemmas.{Parsed, file_app, file_top, info_top, compact_top, apply_top, table_top, schema_top, import_top, rename_top, format_top, copy_top, append_top, create_top, query_top, file_and_table, field_met, condition_met}
+use Rattle.cli_requests.proofs.AppLemmas.{file_plain, info_plain, compact_plain, apply_plain, table_plain, schema_plain, import_plain, rename_plain, format_plain, copy_plain, append_plain, create_plain, query_plain, found_first, found_one}
+use Rattle.cli_requests.proofs.AppLemmas.{AreFileAndNumber, names_sectors, asks_newest, names_new_store, asks_own_fields, asks_no_end, asks_all, names_steps}
 
 -- ---- numbers
 
@@ -83,6 +83,12 @@ unfolding clap_on_literals
 full_info name [] e = absurd (omega (arith, e))
 full_info name (a ∷ []) e = refl
 full_info name (a ∷ b ∷ rest) e = absurd (omega (arith, e))
+
+full_compact : (name : Text) (ops : List Text) → length ops ≡ 1 → operands_fault (compact_top name) ops ≡ []
+unfolding clap_on_literals
+full_compact name [] e = absurd (omega (arith, e))
+full_compact name (a ∷ []) e = refl
+full_compact name (a ∷ b ∷ rest) e = absurd (omega (arith, e))
 
 full_table : (name : Text) (ops : List Text) → length ops ≡ 2 → operands_fault (table_top name) ops ≡ []
 unfolding clap_on_literals
@@ -203,6 +209,9 @@ module _ (word : Text) (words ops : List Text) (is : operands words ≡ Some ops
   right_faultless parameters.FileAndForm a own right =
       subst (λ (x : App). IsFaultless x (word ∷ words)) (sym own)
       (refl, (reads_operands (info_app word) word words ops is refl refl (info_plain word)).fault ∙ full_info word ops (eqb-true (length ops) 1 right))
+  right_faultless parameters.FileAndSteps a own right =
+      subst (λ (x : App). IsFaultless x (word ∷ words)) (sym own)
+      (refl, (reads_operands (compact_app word) word words ops is refl refl (compact_plain word)).fault ∙ full_compact word ops (eqb-true (length ops) 1 right))
   right_faultless parameters.Table a own right =
       subst (λ (x : App). IsFaultless x (word ∷ words)) (sym own)
       (refl, (reads_operands (table_app word) word words ops is refl refl (table_plain word)).fault ∙ full_table word ops (eqb-true (length ops) 2 right))
@@ -264,6 +273,10 @@ is_append : (word : Text) → bytes_eq (codes "append") word ≡ true → parame
 unfolding names_file names_table other_parameters parameters_of
 is_append word e = named_as parameters.TableAndRows (codes "append") word e refl
 
+is_compact : (word : Text) → bytes_eq (codes "compact") word ≡ true → parameters_of word ≡ parameters.FileAndSteps
+unfolding names_file names_table other_parameters parameters_of
+is_compact word e = named_as parameters.FileAndSteps (codes "compact") word e refl
+
 is_query : (word : Text) → bytes_eq (codes "query") word ≡ true → parameters_of word ≡ parameters.TableAndQuery
 unfolding names_file names_table other_parameters parameters_of
 is_query word e = named_as parameters.TableAndQuery (codes "query") word e refl
@@ -304,6 +317,7 @@ module _ (word : Text) (words : List Text) (m : ArgMatches) (a : App) (own : IsO
     like = λ e. inl (asks_own_fields word words m a own parsed (is_create word e) ops is);
     complete = λ e. inr (asks_no_end word words m a own parsed (is_append word e) ops is);
     limit = λ e. no_number _ (asks_all word words m a own parsed (is_query word e) ops is).limit;
+    steps = λ e. no_number _ (names_steps word words m a own parsed (is_compact word e) ops is).1;
     printed = λ e. inl (asks_all word words m a own parsed (is_query word e) ops is).save;
     size = λ e. absurd (no_replay word ops right e);
     fail = λ e. absurd (no_replay word ops right e);
@@ -388,6 +402,7 @@ own_free : (word : Text) (b : Parameters) (a : App) → IsAppWith word b a → i
 unfolding clap_on_literals
 own_free word parameters.Nothing a own = rw own refl
 own_free word parameters.FileAndForm a own = rw own refl
+own_free word parameters.FileAndSteps a own = rw own refl
 own_free word parameters.Table a own = rw own refl
 own_free word parameters.TableToDescribe a own = rw own refl
 own_free word parameters.TableToImport a own = rw own refl
@@ -416,6 +431,7 @@ found_takable word m rows same is =
           λ e. subst₂ (λ (o p : Option Text). (bytes_eq (unwrap_or o []) (codes "stream") ≡ true) ⊎ (p ≡ Some (codes "false"))) (first (codes "as"))
           (found_one m rows (codes "complete") same) (is.complete e);
       limit = λ e. number (codes "limit") (is.limit e);
+      steps = λ e. number (codes "steps") (is.steps e);
       printed =
           λ e. subst₂ (λ (o p : Option Text). (o ≡ None) ⊎ (p ≡ Some (codes "false"))) (first (codes "save")) (found_one m rows (codes "objects") same) (is.printed e);
       size = λ e. number (codes "sectors") (is.size e);

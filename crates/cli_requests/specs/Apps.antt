@@ -71,6 +71,13 @@ new_file_app name = with_rule (store_app name) (required_rule (codes "NEW"))
 abbrev pub copy_app : Text → App
 copy_app name = with_rule (new_file_app name) sectors_rule
 
+-- a command that may have a limit of its steps
+abbrev pub steps_rule : Rule
+steps_rule = record (option_rule (codes "steps")) { parser = Some (parsers.Unsigned 0 18446744073709551615) }
+
+abbrev pub compact_app : Text → App
+compact_app name = with_rule (store_app name) steps_rule
+
 -- a command that also names a script
 abbrev pub apply_app : Text → App
 apply_app name = with_rule (store_app name) (required_rule (codes "SCRIPT"))
@@ -170,6 +177,7 @@ AreDateForms dates = (word : Text) → accepts false dates word ≡ is_date_form
 abbrev pub IsAppWith : Text → Parameters → App → Type 0
 IsAppWith name parameters.Nothing command = command ≡ store_app name
 IsAppWith name parameters.FileAndForm command = command ≡ info_app name
+IsAppWith name parameters.FileAndSteps command = command ≡ compact_app name
 IsAppWith name parameters.Table command = command ≡ table_app name
 IsAppWith name parameters.TableToDescribe command = command ≡ schema_app name
 IsAppWith name parameters.TableToImport command = command ≡ import_app name
@@ -190,7 +198,8 @@ other_parameters word =
     else (if bytes_eq (codes "copy") word then parameters.NewStore else (if bytes_eq (codes "create") word then parameters.TableAndFields else (if bytes_eq
     (codes "append") word then parameters.TableAndRows else (if bytes_eq (codes "replay") word then parameters.ScriptAndFaults else (if bytes_eq
     (codes "info") word then parameters.FileAndForm else (if bytes_eq (codes "import") word then parameters.TableToImport else (if bytes_eq
-    (codes "schema") word then parameters.TableToDescribe else (if bytes_eq (codes "apply") word then parameters.Script else parameters.TableAndQuery))))))))
+    (codes "schema") word then parameters.TableToDescribe else (if bytes_eq (codes "apply") word then parameters.Script else (if bytes_eq
+    (codes "compact") word then parameters.FileAndSteps else parameters.TableAndQuery)))))))))
 
 unfoldable pub parameters_of : Text → Parameters
 parameters_of word =
@@ -264,6 +273,7 @@ HasNames found (commands.Schema name) = (name.now ≡ value_of found (codes "NAM
 HasNames found (commands.SchemaFields name) = (name.now ≡ value_of found (codes "NAME")) × HasFlag found (codes "fields") true
 HasNames found (commands.Export name) = name.now ≡ value_of found (codes "NAME")
 HasNames found (commands.Info as_json) = HasFlag found (codes "json") as_json
+HasNames found (commands.Compact steps) = IsNumberIfAny (first_value found (codes "steps")) steps
 HasNames found (commands.Rename from to) = (from.now ≡ value_of found (codes "NAME")) × (to.now ≡ value_of found (codes "NEW"))
 HasNames found _ = Unit {0}
 

@@ -28,7 +28,7 @@ command_word (commands.SchemaFields name) = codes "schema"
 command_word (commands.Export name) = codes "export"
 command_word commands.Check = codes "check"
 command_word (commands.Info as_json) = codes "info"
-command_word commands.Compact = codes "compact"
+command_word (commands.Compact steps) = codes "compact"
 command_word commands.Upgrade = codes "upgrade"
 
 abbrev pub request_word : StoreRequest → Text

@@ -33,7 +33,7 @@ words_after_command arguments = drop 2 arguments
 -- the commands that name a store alone, and those that name a table in it, without options
 unfoldable pub names_file : Text → Bool
 names_file word =
-    bytes_eq (codes "tables") word || (bytes_eq (codes "check") word || (bytes_eq (codes "compact") word || bytes_eq (codes "upgrade") word))
+    bytes_eq (codes "tables") word || (bytes_eq (codes "check") word || bytes_eq (codes "upgrade") word)
 
 unfoldable pub names_table : Text → Bool
 names_table word =
@@ -64,11 +64,11 @@ names_in (commands.SchemaFields name) = name.now ∷ []
 names_in (commands.Export name) = name.now ∷ []
 names_in commands.Check = []
 names_in (commands.Info as_json) = []
-names_in commands.Compact = []
+names_in (commands.Compact steps) = []
 names_in commands.Upgrade = []
 
 -- a command without options: the fields of a table are given, an import may replace a table, rows are appended from a stream, all columns of all rows
--- are printed as arrays with dates as numbers, and the summary as lines
+-- are printed as arrays with dates as numbers, the summary as lines, and a compaction has no limit
 abbrev pub IsWithoutOptions : StoreCommand → Type 0
 IsWithoutOptions (commands.CreateLike name like) = ⊥
 IsWithoutOptions (commands.ImportNew name) = ⊥
@@ -79,6 +79,7 @@ IsWithoutOptions (commands.AppendText name form) = ⊥
 IsWithoutOptions (commands.Query name query shape) = (query.columns ≡ None) × (query.limit ≡ None) × (query.dates ≡ Numbers) × (shape ≡ Array)
 IsWithoutOptions (commands.SaveAs from to query) = ⊥
 IsWithoutOptions (commands.Info as_json) = as_json ≡ false
+IsWithoutOptions (commands.Compact steps) = steps ≡ None
 IsWithoutOptions _ = Unit {0}
 
 -- these words name the request's files and tables, its script or its number of sectors; without its option a store is made in the newest version

@@ -26,6 +26,7 @@ are_files_and_number _ = false
 abbrev pub takes : Parameters → List Text → Bool
 takes parameters.Nothing words = length words == 1
 takes parameters.FileAndForm words = length words == 1
+takes parameters.FileAndSteps words = length words == 1
 takes parameters.Table words = length words == 2
 takes parameters.TableToDescribe words = length words == 2
 takes parameters.TableToImport words = length words == 2
@@ -62,6 +63,7 @@ pub record IsTakable (word : Text) (first : Text → Option Text) (flag : Text �
   pub complete : bytes_eq (codes "append") word ≡ true
       → (bytes_eq (unwrap_or (first (codes "as")) []) (codes "stream") ≡ true) ⊎ (flag (codes "complete") ≡ Some (codes "false"))
   pub limit : bytes_eq (codes "query") word ≡ true → is_number_if_any (first (codes "limit")) ≡ true
+  pub steps : bytes_eq (codes "compact") word ≡ true → is_number_if_any (first (codes "steps")) ≡ true
   pub printed : bytes_eq (codes "query") word ≡ true → (first (codes "save") ≡ None) ⊎ (flag (codes "objects") ≡ Some (codes "false"))
   pub size : bytes_eq (codes "replay") word ≡ true → is_number_if_any (first (codes "sectors")) ≡ true
   pub fail : bytes_eq (codes "replay") word ≡ true → is_number_if_any (first (codes "fail")) ≡ true

@@ -138,10 +138,12 @@ last command may be undone.",
     CommandHelp {
         name: "compact",
         about: abouts::COMPACT,
-        example: "Example: arrowstore compact store
+        example: "Example: arrowstore compact store --steps 1000
 
 The tables keep their rows, even if it is interrupted. Each append adds a segment, and a
-store has at most 65,536 of them. Merged segments are also read faster.",
+store has at most 65,536 of them. Merged segments are also read faster. Each step is a
+commit, and of many small segments each takes longer: with --steps it stops after so many,
+and the next compact goes on. If it prints a lower number, nothing is left to do.",
     },
     CommandHelp {
         name: "upgrade",

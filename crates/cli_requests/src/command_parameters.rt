@@ -2,8 +2,8 @@
 ghost use Rattle.std.specs.Prelude.{◌≡◌, false, codes, IfOk};
 ghost use Rattle.clap.specs.Words.{app_of, new_app, rule_of, with_rule};
 ghost use Rattle.clap.specs.declared.builder.value_parser.ValueParser.{ValueParser};
-ghost use Rattle.cli_requests.specs.Apps.{required_rule, flag_rule, sectors_rule, sectors_if_any_rule, version_rule, repeated_rule, option_rule, form_rule, null_rule, dates_rule, query_dates_rule, limit_rule};
-ghost use Rattle.cli_requests.specs.Apps.{store_app, info_app, format_app, new_file_app, copy_app, table_app, apply_app, import_app, rename_app, fields_app, schema_app, create_app, append_app, conditions_app, selection_app, query_app};
+ghost use Rattle.cli_requests.specs.Apps.{required_rule, flag_rule, sectors_rule, sectors_if_any_rule, version_rule, repeated_rule, option_rule, form_rule, null_rule, dates_rule, query_dates_rule, limit_rule, steps_rule};
+ghost use Rattle.cli_requests.specs.Apps.{store_app, info_app, compact_app, format_app, new_file_app, copy_app, table_app, apply_app, import_app, rename_app, fields_app, schema_app, create_app, append_app, conditions_app, selection_app, query_app};
 ghost use Rattle.cli_requests.specs.Apps.{AreForms, AreDateForms, other_parameters, parameters_of, IsOwnApp};
 ghost use Rattle.cli_requests.specs.Operands.{names_file, names_table};
 
@@ -24,6 +24,7 @@ const DATES: [&str; 2] = ["number", "iso"];
 enum Parameters {
     Nothing,
     FileAndForm,
+    FileAndSteps,
     Sectors,
     NewStore,
     Script,
@@ -161,11 +162,23 @@ fn limit<'a>(alloc: Global) -> Arg<'a>
     ))
 }
 
+fn steps<'a>(alloc: Global) -> Arg<'a>
+    ensures { (rule_of result ≡ steps_rule) × (result.global ≡ false) }
+{
+    option(
+        alloc,
+        "steps",
+        "N",
+        "The maximum number of steps; without it there are steps until nothing is left to do",
+    )
+    .value_parser(ValueParser::unsigned(0, u64::MAX))
+}
+
 #[tactic(auto, unfolding(crate::specs::Operands::names_file))]
 fn names_file(word: &str) -> bool
     ensures { result ≡ names_file word.now }
 {
-    matches!(word, "tables" | "check" | "compact" | "upgrade")
+    matches!(word, "tables" | "check" | "upgrade")
 }
 
 #[tactic(auto, unfolding(crate::specs::Operands::names_table))]
@@ -189,6 +202,7 @@ fn other_parameters(word: &str) -> Parameters
         "import" => Parameters::TableToImport,
         "schema" => Parameters::TableToDescribe,
         "apply" => Parameters::Script,
+        "compact" => Parameters::FileAndSteps,
         _ => Parameters::TableAndQuery,
     }
 }
@@ -239,6 +253,13 @@ fn with_form<'a>(alloc: Global, name: &'a str) -> Result<Command<'a>, AllocError
     ensures { IfOk result (λ c. app_of c ≡ info_app name.now) }
 {
     with_file(alloc, name)?.arg(flag(alloc, "json", "Prints one JSON object on one line"))
+}
+
+// Makes a command that takes a maximum number of steps.
+fn with_steps<'a>(alloc: Global, name: &'a str) -> Result<Command<'a>, AllocError>
+    ensures { IfOk result (λ c. app_of c ≡ compact_app name.now) }
+{
+    with_file(alloc, name)?.arg(steps(alloc))
 }
 
 fn with_script<'a>(alloc: Global, name: &'a str) -> Result<Command<'a>, AllocError>
@@ -408,6 +429,7 @@ fn command<'a>(alloc: Global, name: &'a str) -> Result<Command<'a>, AllocError>
     match parameters_of(name) {
         Parameters::Nothing => with_file(alloc, name),
         Parameters::FileAndForm => with_form(alloc, name),
+        Parameters::FileAndSteps => with_steps(alloc, name),
         Parameters::Table => with_table(alloc, name),
         Parameters::TableToDescribe => with_description(alloc, name),
         Parameters::TableToImport => with_import(alloc, name),

@@ -438,7 +438,9 @@ fn command_of<'a>(
         "info" => Ok(StoreCommand::Info {
             as_json: has_flag(words, "json"),
         }),
-        "compact" => Ok(StoreCommand::Compact),
+        "compact" => Ok(StoreCommand::Compact {
+            steps: number_if_any(words, "steps")?,
+        }),
         "upgrade" => Ok(StoreCommand::Upgrade),
         _ => Ok(StoreCommand::Tables),
     }

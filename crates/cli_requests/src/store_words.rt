@@ -141,8 +141,10 @@ pub enum StoreCommand<'a> {
     Info {
         as_json: bool,
     },
-    /// Joins small segments and moves them to the lowest free sectors.
-    Compact,
+    /// Joins small segments and moves them to the lowest free sectors, in as many steps as are left to do, or fewer.
+    Compact {
+        steps: Option<u64>,
+    },
     /// Gives each segment the digest of its bytes.
     Upgrade,
 }

@@ -145,4 +145,4 @@ returns-in-Upgrade-clause-stated c = rw c.in-Upgrade.is tt
 
 pub returns-in-Compact-clause-stated : goal.returns-in-Compact-clause-stated
 unfolding States
-returns-in-Compact-clause-stated c = rw c.in-Compact.is tt
+returns-in-Compact-clause-stated c = rw c.in-Compact.is refl

@@ -130,7 +130,7 @@ pub returns-in-Compact-clause-serves : goal.returns-in-Compact-clause-serves
 unfolding Serves
 returns-in-Compact-clause-serves g c =
     let new = c.compact_tables.new in
-    serves_as g.R.Read.remaining g.W.Write.contents c.args.command opened.Compact c.args.store.now new.store (channels c.args.input.now c.args.output.now c.args.hint.now)
+    serves_as g.R.Read.remaining g.W.Write.contents c.args.command (opened.Compact c.in-Compact.steps) c.args.store.now new.store (channels c.args.input.now c.args.output.now c.args.hint.now)
     (channels c.args.input.now new.output c.args.hint.now) c.compact_tables.result c.in-Compact.is (c.compact_tables.ensures.compacts, refl)
 
 pub returns-in-Upgrade-clause-serves : goal.returns-in-Upgrade-clause-serves

@@ -7,6 +7,9 @@ returns-in-Nothing c = own_of _ _ _ _ c.parameters_of.ensures c.in-Nothing.is c.
 pub returns-in-FileAndForm : goal.returns-in-FileAndForm
 returns-in-FileAndForm c = own_of _ _ _ _ c.parameters_of.ensures c.in-FileAndForm.is c.with_form.ensures
 
+pub returns-in-FileAndSteps : goal.returns-in-FileAndSteps
+returns-in-FileAndSteps c = own_of _ _ _ _ c.parameters_of.ensures c.in-FileAndSteps.is c.with_steps.ensures
+
 pub returns-in-Table : goal.returns-in-Table
 returns-in-Table c = own_of _ _ _ _ c.parameters_of.ensures c.in-Table.is c.with_table.ensures
 
