@@ -5,11 +5,11 @@ use Rattle.cli_scripts.specs.Appending.{PlainOptions, no_options, once, with_opt
 
 -- ---- how many options there are
 
-one : Option (List ℕ) → ℕ
+abbrev one : Option (List ℕ) → ℕ
 one None = 0
 one (Some value) = 1
 
-count : PlainOptions → ℕ
+abbrev count : PlainOptions → ℕ
 count options = one options.form + (one options.null_text + one options.dates)
 
 one_at_most : (value : Option (List ℕ)) → one value ≤ 1
@@ -43,19 +43,25 @@ one_more value others options false false true is =
     let after : one others.form + (one others.null_text + 1) ≡ count options = ap count both.1 in omega arith
 one_more value others options false false false is = absurd cc
 
+-- a word that is none of the three
+pub no_option : (option value : List ℕ) (others : PlainOptions) → bytes_eq option (codes "--as") ≡ false → bytes_eq option (codes "--null") ≡ false
+    → bytes_eq option (codes "--dates") ≡ false → None ≡ with_option option value others
+unfolding with_option
+no_option option value others form null_text dates = rw (form, null_text, dates) refl
+
 -- ---- how many words they are
 
 counted : (words : List (List ℕ)) (options : PlainOptions) → options_of words ≡ Some options → length words ≡ 2 * count options
 unfolding options_of with_option
 counted [] options is = let same : no_options ≡ options = cc in ap (λ (o : PlainOptions). 2 * count o) same
 counted (word ∷ []) options is = absurd cc
-counted (option ∷ value ∷ more) options is = by (options_of more) refl is where
-  by : (found : Option PlainOptions) → options_of more ≡ found → option_and_then (with_option option value) found ≡ Some options
+counted (option ∷ value ∷ more) options is = by (options_of more) (counted more) is where
+  by : (found : Option PlainOptions) → ((others : PlainOptions) → found ≡ Some others → length more ≡ 2 * count others) → option_and_then (with_option option value) found ≡ Some options
       → length (option ∷ value ∷ more) ≡ 2 * count options
-  by None here is = absurd cc
-  by (Some others) here is =
-      let rest = counted more others here in
-      let longer = one_more value others options (bytes_eq (codes "--as") option) (bytes_eq (codes "--null") option) (bytes_eq (codes "--dates") option) is in omega arith
+  by None rest is = absurd cc
+  by (Some others) rest is =
+      let shorter = rest others refl in
+      let longer = one_more value others options (bytes_eq option (codes "--as")) (bytes_eq option (codes "--null")) (bytes_eq option (codes "--dates")) is in omega arith
 
 -- words of another number are no options
 pub no_options_of : (words : List (List ℕ)) → ((n : ℕ) → n ≤ 3 → length words ≢ 2 * n) → None ≡ options_of words

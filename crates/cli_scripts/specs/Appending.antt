@@ -28,9 +28,9 @@ once (Some value) options = None
 -- an option with its value before others, none of which is the same one
 unfoldable pub with_option : (option value : List ℕ) → PlainOptions → Option PlainOptions
 with_option option value others =
-    if bytes_eq (codes "--as") option then once others.form (record others { form = Some value })
-    else if bytes_eq (codes "--null") option then once others.null_text (record others { null_text = Some value })
-    else if bytes_eq (codes "--dates") option then once others.dates (record others { dates = Some value }) else None
+    if bytes_eq option (codes "--as") then once others.form (record others { form = Some value })
+    else if bytes_eq option (codes "--null") then once others.null_text (record others { null_text = Some value })
+    else if bytes_eq option (codes "--dates") then once others.dates (record others { dates = Some value }) else None
 
 -- the options that these words are
 unfoldable pub options_of : List (List ℕ) → Option PlainOptions
