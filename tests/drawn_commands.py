@@ -49,6 +49,22 @@ def draw_text(pick, stores):
     return of_text(stores.path, name, drawn)
 
 
+def draw_text_in_script(pick, stores):
+    """A line of a script that appends a text that is refused, behind lines that are right."""
+    text, before = draw_text(pick, stores), pick.choice(([], ["create fresh a:int8"], ["create fresh a:int8", "drop fresh"]))
+    words = [word for given in text.words[3:] for word in (given.split("=", 1) if given.startswith("--null=") else [given])]
+    path, script = stores.fresh(), stores.fresh()
+    line = " ".join('"' + word.replace('"', '""') + '"' for word in ["append", text.words[2], path, *words])
+    if "\n" in line:
+        return draw_text_in_script(pick, stores)
+    for name, content in ((path, text.given), (script, "".join(f"{line}\n" for line in [*before, line]).encode())):
+        with open(name, "wb") as file:
+            file.write(content)
+    facts = Facts(text.facts.code, line=line.encode(), number=text.facts.number)
+    due = (["line"] if shown(line) is not None else []) + ["record_of_file" if facts.number else "whole_file"]
+    return Draw(["apply", stores.path, script], b"", f"T1 Line {len(before) + 1} {text.line}", facts, due)
+
+
 def draw_large_row(pick, stores):
     """A row that is too heavy, or has more values than the indices of its dictionary name."""
     name = pick.choice(list(stores.large))

@@ -11,7 +11,7 @@ COLUMN = [("a", "int64", True)]
 MISSING, NO_FOLDER = os.strerror(errno.ENOENT), os.strerror(errno.ENOTDIR)
 WRONG_LINES = ("drop  t", "drop t u", "", "dorp t", "compact x", "rename a", "import t", "compact\r", "\ufeffcompact", "\ufeffx\r", " compact",
                "COMPACT", "create", "tables", "append t", "drop\tt", "x" * 100, "x" * 101, "é", "query t a = 1", "`", "reopen ", "# drop",
-               "import a b c")
+               "import a b c", "append t f --as xml", "append t f --as", "append t f --null a --null b", "append t f --as csv")
 RIGHT_LINES = ("create t a:int32", "compact", "reopen", "drop t", "rename t u", "upgrade")
 
 

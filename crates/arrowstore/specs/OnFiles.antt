@@ -8,6 +8,8 @@ use Rattle.std.specs.declared.io.traits.Read.{Ghosts as ReadGhosts}
 use Rattle.std.specs.declared.io.traits.Write.{Ghosts as WriteGhosts}
 use Rattle.std.specs.declared.io.traits.Seek.{Ghosts as SeekGhosts}
 use Rattle.sector_dev.specs.declared.device.SectorDevice.{Ghosts}
+use Rattle.sector_dev.specs.Disk.{now, shown_image}
+use Rattle.sector_dev.specs.Time.{OnlyReads}
 use Rattle.sector_dev.specs.View.{failures_of, IsEmpty, IsOver}
 use Rattle.sector_dev.specs.declared.file.FileDevice.{FileDevice}
 use Rattle.sector_dev.specs.declared.sector_file.SectorFile.{Ghosts as FileGhosts}
@@ -19,8 +21,7 @@ use Rattle.store.specs.declared.store.Store.{Store}
 use Rattle.commit.specs.declared.sector.FormatVersion.{FormatVersion}
 use Rattle.catalogue.specs.Edits.{entry_of}
 use Rattle.tables.specs.Tables.{Tables}
-use Rattle.tables.specs.View.{list_of}
-use Rattle.tables.specs.declared.command.Command.{Command}
+use Rattle.tables.specs.Commands.{all_of, commands_of}
 use Rattle.store.specs.Applying.{GoesOn}
 use Rattle.store_runs.specs.Calls.{apply_call, done}
 use Rattle.store_runs.specs.Machine.{Machine}
@@ -33,7 +34,9 @@ use Rattle.cli_refusals.specs.declared.refusal.Refusal.{Refusal}
 use Rattle.cli_refusals.specs.declared.refusal.Refusal.TheVariants as refusals
 use Rattle.cli_refusals.specs.declared.refusal.Side.TheVariants as sides
 use Rattle.tables.specs.declared.refusal.Refusal as tables
-use Rattle.cli_commands.specs.Applying.{AnsweredList, AnswersList}
+use Rattle.cli_commands.specs.Applying as applying
+use Rattle.cli_commands.specs.Applying.{AnswersList, HandsLines}
+use Rattle.cli_commands.specs.declared.applying.ListedCommand.{ListedCommand}
 use Rattle.cli_commands.specs.Copying.{Copies}
 use Rattle.cli_commands.specs.Given.{IsWholeInput, RefusesInput}
 use Rattle.cli_commands.specs.Reading.{OfStore, refusal_ended}
@@ -257,18 +260,26 @@ RefusesReading old new false (refusals.Io sides.File) = Unit {0}
 RefusesReading old new false refusals.OutOfMemory = Unit {0}
 RefusesReading old new false _ = ⊥
 
--- several commands were given to a store as one, and `ok` was written once they were done (`apply_commands`)
-pub record CarriesList {D : Type 0} {g : Ghosts D} {W : Type 0} (contents : W → Option (List ℕ)) (commands : List Command) (old new : Store D g)
+-- several commands were given to a store as one, each text as the rows that it has for the schema that its table had when its turn came, and `ok` was written
+-- once they were done; or a text was refused and nothing is changed (`apply_listed`)
+pub record CarriesList {D : Type 0} {g : Ghosts D} {W : Type 0} (contents : W → Option (List ℕ)) (commands : List ListedCommand) (old new : Store D g)
     (output output' : W) (result : Result (Unit {0}) Refusal) : Type 0 where
   pub goes : g.tells ≡ true → (base : Tables) (m : Machine) → StoreFits g.size g.story base m old
-      → AnsweredList (λ answer. GoesOn g.size g.story g.failed base m (apply_call (list_of commands)) (ended_list answer) old new) result
-  pub told : AnsweredList (λ answer. AnswersList g.size g.story g.failed g.tells commands answer old new) result
+      → HandsLines g.tells (shown_image (now (g.story (device_of old)))) (listed_in old) commands
+      (OnlyReads (g.story (device_of old)) (g.story (device_of new)))
+      (λ given answer. GoesOn g.size g.story g.failed base m (apply_call (all_of (commands_of given))) (ended_list answer) old new)
+      (λ refusal. StoreFits g.size g.story base m new) result
+  pub told : HandsLines g.tells (shown_image (now (g.story (device_of old)))) (listed_in old) commands
+      (g.tells ≡ true → OnlyReads (g.story (device_of old)) (g.story (device_of new)))
+      (λ given answer. AnswersList g.size g.story g.failed g.tells given answer old new)
+      (λ refusal. applying.RefusesLines g.tells (shown_image (now (g.story (device_of old)))) (listed_in old) commands refusal
+      × OnlyReadsStore g.size g.story g.failed g.tells done old new × (output' ≡ output)) result
   pub written : OnOk result (Appends (contents output) (contents output') (codes "ok\n"))
 
 -- the commands of the lines of a script were given to a store that was opened for it
 pub record AppliesLines {D : Type 0} (g : Ghosts D) (is_opened : D → Type 0) {F W : Type 0} (of_file : F → Option (List ℕ)) (contents : W → Option (List ℕ))
     (script : List ℕ) (output output' : W) (result : Result (Unit {0}) Refusal) : Type 0 where
-  pub commands : List Command
+  pub commands : List ListedCommand
   pub of_script : HasCommands of_file script commands
   pub old : Store D g
   pub opens : OpensStore g is_opened old
@@ -279,7 +290,7 @@ pub record AppliesLines {D : Type 0} (g : Ghosts D) (is_opened : D → Type 0) {
 abbrev pub RefusesLines : {D : Type 0} → (g : Ghosts D) → (is_opened : D → Type 0) → {F : Type 0} → (of_file : F → Option (List ℕ)) → (script : List ℕ)
     → Refusal → Type 0
 RefusesLines g is_opened of_file script refusal =
-    RefusesCommands script refusal ⊎ ((commands : List Command) × HasCommands of_file script commands × FailsToOpen g is_opened refusal)
+    RefusesCommands script refusal ⊎ ((commands : List ListedCommand) × HasCommands of_file script commands × FailsToOpen g is_opened refusal)
 
 -- the script was applied so, or it was refused before a store was opened and nothing was written
 abbrev pub AppliesRead : {D : Type 0} → (g : Ghosts D) → (is_opened : D → Type 0) → {F W : Type 0} → (of_file : F → Option (List ℕ))

@@ -136,6 +136,14 @@ pub(crate) fn about_line(alloc: Global, line: &[u8]) -> Option<String> {
     }
 }
 
+/// Returns which record of the text that a line of a script appends is refused, by its number; 0 if the text as a whole is.
+pub(crate) fn about_file(alloc: Global, number: u64) -> Option<String> {
+    match number {
+        0 => String::from_str(alloc, "The file of the line is refused as a whole. ").ok(),
+        number => format!(in alloc; "Record {number} of the file of the line is refused. ").ok(),
+    }
+}
+
 // Returns that a literal is not a value of the column's type.
 fn about_literal(alloc: Global, table: &Table, condition: &Condition) -> Option<String> {
     let Test::Compared(_, literal) = &condition.test else {

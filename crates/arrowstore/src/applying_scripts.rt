@@ -3,9 +3,10 @@ ghost use Rattle.std.specs.Prelude.{◌≡◌, ◌≢◌, false, IfOk, IfErr};
 ghost use Rattle.arrowstore.specs.OnFiles.{AppliesScript, FailsToOpen, IsOpenedFile, IsScriptNamed, OpensStore, RefusesReading, is_input};
 
 use crate::serving::reserve_standard_descriptors;
-use cli_commands::{apply_commands, read_input};
+use cli_commands::{apply_listed, read_input};
 use cli_refusals::{Refusal, Side};
-use cli_replay::{read_script, script_commands};
+use cli_replay::{read_whole_file, script_commands};
+use cli_scripts::script_words;
 use sector_dev::{FileDevice, FileError, LockFile, SectorDevice, SystemFile};
 use std::fs::OpenFile;
 use std::io::{Read, Seek, Write};
@@ -31,7 +32,7 @@ fn script_named<F: Read + OpenFile + Drop, H: Files<File = F> + AllocGlobal, R: 
     if is_input(script) {
         read_input(rt.alloc(), input)
     } else {
-        read_script(rt, script)
+        read_whole_file(rt, script)
     }
 }
 
@@ -71,8 +72,9 @@ pub(crate) fn serve_apply<
     ensures silent { IfErr result (λ refusal. refusal ≢ Refusal.Io Side.Output → output.new ≡ output.old) }
 {
     let script = script_named(rt, script, input)?;
-    let commands = script_commands(rt, &script)?;
+    let words = script_words(rt.alloc(), &script)?;
+    let commands = script_commands(rt, &script, &words)?;
     let _places = reserve_standard_descriptors(rt)?;
     let mut store = open_to_change(rt, path)?;
-    apply_commands(rt.alloc(), &mut store, commands, output)
+    apply_listed(rt.alloc(), &mut store, commands, output)
 }

@@ -134,7 +134,7 @@ fn found_of<F: Read + Write + Seek + OpenFile + LockFile + Drop, H: Files<File =
             let tables = tables_of(rt, request)?;
             Some(AskedAgain::Listed(about_tables(rt.alloc(), &tables)?))
         }
-        Refusal::BadScript(number) | Refusal::Line(number, _) => {
+        Refusal::BadScript(number) | Refusal::Line(number, _) | Refusal::TextLine(number, _) => {
             let line = line_of_script(rt, request, served.start, *number)?;
             Some(AskedAgain::Line(line))
         }

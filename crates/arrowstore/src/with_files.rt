@@ -22,7 +22,7 @@ ghost use Rattle.cli_refusals.specs.declared.known.Known.{Known};
 ghost use Rattle.cli_refusals.specs.Known.{unchanging};
 ghost use Rattle.store.specs.Salvaging.{plain_left};
 
-use crate::about_words::{about_line, about_word};
+use crate::about_words::{about_file, about_line, about_word};
 use crate::asking_again::{AskedAgain, Served, ask_again};
 use crate::ending::{end_whole_or_partly, tell_if_done};
 use crate::failing::cause_of;
@@ -97,6 +97,10 @@ fn about_found(
         }
         (AskedAgain::Nothing, Err(refusal)) => about_word(alloc, word?, None, refusal),
         (AskedAgain::Listed(text), _) => text.clone().ok(),
+        (AskedAgain::Line(_), Err(Refusal::TextLine(_, refused))) => about_file(
+            alloc,
+            refused.number,
+        ),
         (AskedAgain::Line(text), _) => about_line(alloc, text.as_slice()),
         _ => None,
     }

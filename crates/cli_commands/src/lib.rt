@@ -1,6 +1,6 @@
 //! The commands of an open store on any device, over any reader and writer, and [`recode`].
 //!
-//! [`apply_command`], [`apply_commands`], [`create_like`], [`import_input`], [`import_new`], [`append_input`] and [`append_text`] change the tables, and so do
+//! [`apply_command`], [`apply_listed`], [`create_like`], [`import_input`], [`import_new`], [`append_input`] and [`append_text`] change the tables, and so do
 //! [`import_complete`] and [`append_complete`] with streams that must have their end; [`print_tables`], [`print_schema`], [`print_fields`],
 //! [`print_selection`], [`print_summary`], [`export_table`] and [`check_tables`] read them; [`compact_tables`] joins their segments,
 //! [`upgrade_store`] gives the segments digests, [`copy_tables`] copies all tables into another store, and [`salvage_table`] writes what can be
@@ -30,7 +30,7 @@ mod text_rows;
 mod typing;
 mod upgrading;
 
-pub use applying::apply_commands;
+pub use applying::{ListedCommand, apply_listed};
 pub use changing::{append_input, apply_command, create_like, import_input, import_new};
 pub use compacting::compact_tables;
 pub use complete::{append_complete, import_complete};

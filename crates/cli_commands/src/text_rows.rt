@@ -93,9 +93,9 @@ fn read_table(
     }
 }
 
-// Returns the command that appends the rows of a text to a table, or `None` if they are too heavy for any table. The rows are read into arrays if that is
-// possible.
-fn read_command(
+/// Returns the command that appends the rows of a text to a table, or `None` if they are too heavy for any table. The rows are read into arrays if that is
+/// possible.
+pub(crate) fn read_command(
     alloc: Global,
     form: &TextForm<'_>,
     schema: &Schema,

@@ -17,7 +17,7 @@ use Rattle.tables.specs.Refusals as tables
 use Rattle.commit.specs.Told.{opening_text}
 use Rattle.cli_refusals.specs.declared.refusal.Refusal.{Refusal}
 use Rattle.cli_refusals.specs.declared.refusal.Side.TheVariants as sides
-use Rattle.cli_refusals.specs.declared.refusal.Refusal.TheVariants.{Fault, NoEnd, TooManyBytes, Io, BadSize, BadScript, Fields, NoText, Text, Query, Opening, Store, Line, OutOfMemory}
+use Rattle.cli_refusals.specs.declared.refusal.Refusal.TheVariants.{Fault, NoEnd, TooManyBytes, Io, BadSize, BadScript, Fields, NoText, Text, Query, Opening, Store, Line, TextLine, OutOfMemory}
 
 -- how a failed import is reported
 abbrev pub refusal_of : ImportError → Refusal
@@ -56,4 +56,5 @@ refusal_text (Query refusal) = tables.query_text refusal
 refusal_text (Opening refusal) = opening_text refusal
 refusal_text (Store refusal) = tables.refusal_text refusal
 refusal_text (Line line refusal) = codes "T1 Line " ++ decimal line ++ codes " " ++ tables.refusal_text refusal
+refusal_text (TextLine line refused) = codes "T1 Line " ++ decimal line ++ codes " " ++ refused_text refused
 refusal_text OutOfMemory = codes "OutOfMemory"

@@ -15,7 +15,7 @@ use Rattle.tables.specs.declared.refusal.Refusal.TheVariants as stores
 use Rattle.commit.specs.declared.opening_refusal.OpeningRefusal.{OpeningRefusal}
 use Rattle.commit.specs.declared.opening_refusal.OpeningRefusal.TheVariants as openings
 use Rattle.cli_refusals.specs.declared.refusal.Refusal.{Refusal}
-use Rattle.cli_refusals.specs.declared.refusal.Refusal.TheVariants.{Fault, NoEnd, TooManyBytes, Io, BadSize, BadScript, Fields, NoText, Text, Query, Opening, Store, Line, OutOfMemory}
+use Rattle.cli_refusals.specs.declared.refusal.Refusal.TheVariants.{Fault, NoEnd, TooManyBytes, Io, BadSize, BadScript, Fields, NoText, Text, Query, Opening, Store, Line, TextLine, OutOfMemory}
 use Rattle.cli_refusals.specs.declared.remedies.TheConstants as remedies
 
 -- for a fault of a stream; one without a remedy of its own lies with the program that wrote the stream
@@ -120,4 +120,5 @@ remedy (Query reason) = query_remedy reason
 remedy (Opening refusal) = opening_remedy refusal
 remedy (Store refusal) = store_remedy refusal
 remedy (Line line refusal) = store_remedy refusal
+remedy (TextLine line refused) = text_remedy refused.refusal
 remedy OutOfMemory = remedies.MORE_MEMORY.now

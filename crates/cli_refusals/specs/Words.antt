@@ -16,7 +16,7 @@ use Rattle.cli_refusals.specs.declared.known.FileCause.{FileCause}
 use Rattle.cli_refusals.specs.declared.known.FileCause.TheVariants.{Locked, Missing, Denied, Exists, Other}
 use Rattle.cli_refusals.specs.declared.known.Known.{Known}
 use Rattle.cli_refusals.specs.declared.refusal.Refusal.{Refusal}
-use Rattle.cli_refusals.specs.declared.refusal.Refusal.TheVariants.{Fault, NoEnd, TooManyBytes, Io, BadSize, BadScript, Fields, NoText, Text, Query, Opening, Store, Line, OutOfMemory}
+use Rattle.cli_refusals.specs.declared.refusal.Refusal.TheVariants.{Fault, NoEnd, TooManyBytes, Io, BadSize, BadScript, Fields, NoText, Text, Query, Opening, Store, Line, TextLine, OutOfMemory}
 use Rattle.cli_refusals.specs.declared.refusal.Side.{Side}
 use Rattle.cli_refusals.specs.declared.refusal.Side.TheVariants as sides
 
@@ -140,4 +140,5 @@ word (Query reason) known = query_word reason
 word (Opening refusal) known = opening_word refusal
 word (Store refusal) known = store_word refusal known
 word (Line line refusal) known = store_word refusal known
+word (TextLine line refused) known = text_word refused.refusal
 word OutOfMemory known = codes "out-of-memory"

@@ -215,8 +215,8 @@ or appended. If no advice follows a fault, the cause is the program that wrote t
   separate the words of a line, and a word with spaces stands in quotation marks. Either these words are not
   a command of a script, or the text of a field (P), the form of a condition (Q2) or the number of a `--limit`
   is refused. `apply` takes only commands on tables, and so does `replay` between `begin` and `commit`; each
-  `begin` has its `commit`. The last line of a script of `apply` has its line feed: if not, the script may be
-  cut off.
+  `begin` has its `commit`. `replay` takes no `append` with `--as csv` or `--as jsonl`. The last line of a
+  script of `apply` has its line feed: if not, the script may be cut off.
   ",
     LINES_OF_A_SCRIPT,
     "
@@ -295,7 +295,7 @@ pub const TABLE_REFUSALS: [&str; 87] = [
 
 N is the number of the first refused record. Records are counted from 1, in CSV after the line of names,
 in JSON Lines without blank lines. N is 0 if the text as a whole is refused. No row of the input is
-appended.
+appended. After `T1 Line` the text is in the file of that line of a script.
 
 - X1 Header 0: the first line does not consist of the names of the columns, separated by commas.
   ",
@@ -483,9 +483,11 @@ appended.
 
 ## T: a script that is one commit
 
-- T1 Line N REFUSAL: the store refuses line N of a script of `apply`, counted from 1, for this reason (S), and
-  so all of its lines: no table is changed. The advice is that of the reason. What is refused of the script as
-  a whole, as S8 and S9, is reported without T1.
+- T1 Line N REFUSAL: line N of a script of `apply`, counted from 1, is refused for this reason, and so are all
+  of its lines: no table is changed. Either the store refuses the line (S), or the text that it appends is
+  refused for the schema that its table has at this line (X). The advice is that of the reason; to append the
+  text again means to apply the whole script again. What is refused of the script as a whole, as S8 and S9, is
+  reported without T1.
 
 ## A store that does not open
 
@@ -535,7 +537,7 @@ G1 has eight words, which say whether the command was done:
   removed.
 
 Each other code has one word. After S5 it is the word of the fault (F), after S12 that of the query (Q), and
-after T1 that of the reason (S).
+after T1 that of the reason (S or X).
 
 - F1 `truncated`, F2 `no-stream`, F3 `metadata-size`, F4 `metadata-bounds`, F5 `metadata-budget`,
   F6 `metadata-version`, F7 `header-kind`, F8 `body-length`, F9 `no-schema`, F10 `second-schema`,

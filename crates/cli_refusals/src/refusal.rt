@@ -53,6 +53,8 @@ pub enum Refusal {
     Store(tables::Refusal),
     /// T1: the open store refused this line of a script, counted from 1, and so all lines that are one commit with it.
     Line(u64, tables::Refusal),
+    /// T1: the text of this line of a script, counted from 1, is refused, and so all lines.
+    TextLine(u64, Refused),
     /// Memory was refused.
     OutOfMemory,
 }
@@ -150,6 +152,7 @@ impl fmt::Display for Refusal {
             Refusal::Opening(refusal) => write!(f, "{refusal}"),
             Refusal::Store(refusal) => write!(f, "{refusal}"),
             Refusal::Line(line, refusal) => write!(f, "T1 Line {line} {refusal}"),
+            Refusal::TextLine(line, refused) => write!(f, "T1 Line {line} {refused}"),
             Refusal::OutOfMemory => f.write_str("OutOfMemory"),
         }
     }

@@ -16,7 +16,7 @@ pub const WRITE_AGAIN: &str =
 pub const GIVE_ALL: &str = "Give the whole stream.";
 
 pub const GIVE_A_STREAM: &str =
-    "Give an Arrow IPC stream, not an Arrow file (Feather), a Parquet file, or one before 0.15. For CSV and JSON Lines use `append` with `--as`, not a script.";
+    "Give an Arrow IPC stream, not an Arrow file (Feather), a Parquet file, or one before 0.15. For CSV and JSON Lines use `append` with `--as`.";
 
 pub const WRITE_V5: &str = "Have the stream written with metadata of version V5.";
 
@@ -95,7 +95,7 @@ pub const BLANK_DEVICE: &str =
 pub const NO_FOLDER: &str = "Give the file of a store, or a disk that holds one.";
 
 pub const LINES_OF_A_SCRIPT: &str =
-    "Write `create NAME FIELD ..`, `import` or `append NAME FILE`, `save FROM TO CONDITION ..`, `rename FROM TO` or `drop NAME`. `replay` takes others too.";
+    "Write `create NAME FIELD ..`, `import` or `append NAME FILE`, `save FROM TO CONDITION ..`, `rename FROM TO` or `drop NAME`. See `help apply`, `help replay`.";
 
 pub const FILE_OF_A_STORE: &str =
     "Give the file of a store. If this is the new file of a `format` or `copy` that was interrupted, run the command again, with another path.";
@@ -380,7 +380,7 @@ impl Refusal {
             Refusal::BadScript(_) => LINES_OF_A_SCRIPT,
             Refusal::Fields(error) => fields_remedy(error),
             Refusal::NoText(_) => FIELDS_OF_ANOTHER,
-            Refusal::Text(refused) => text_remedy(refused.refusal),
+            Refusal::Text(refused) | Refusal::TextLine(_, refused) => text_remedy(refused.refusal),
             Refusal::Query(reason) => query_remedy(reason),
             Refusal::Opening(refusal) => opening_remedy(refusal),
             Refusal::Store(refusal) | Refusal::Line(_, refusal) => store_remedy(refusal),

@@ -182,10 +182,10 @@ impl Refusal {
             Refusal::BadScript(_) => "bad-script",
             Refusal::Fields(error) => fields_word(error),
             Refusal::NoText(_) => "no-text",
-            Refusal::Text(refused) => text_word(refused.refusal),
+            // A line of a script has the word of its own refusal.
+            Refusal::Text(refused) | Refusal::TextLine(_, refused) => text_word(refused.refusal),
             Refusal::Query(reason) => query_word(reason),
             Refusal::Opening(refusal) => opening_word(refusal),
-            // A line of a script has the word of its own refusal.
             Refusal::Store(refusal) | Refusal::Line(_, refusal) => store_word(refusal, known),
             Refusal::OutOfMemory => OUT_OF_MEMORY,
         }

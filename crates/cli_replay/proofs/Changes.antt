@@ -1,15 +1,23 @@
 -- Lines that can be parsed, those that change tables, and their commands, one after another.
-use Rattle.std.proofs.Common.{◌≡◌, ◌≢◌, ◌<◌, ◌+◌, ◌++◌, ◌∷◌, [], ℕ, zero, suc, Bool, true, false, List, length, take, map, get_or, Option, Some, None, Ok, Err, inl, inr, ap, sym, refl, subst, arith}
+use Rattle.std.proofs.Common.{◌≡◌, ◌≢◌, ◌<◌, ◌+◌, ◌++◌, ◌∷◌, [], ℕ, zero, suc, Bool, true, false, List, length, take, map, get_or, Option, Some, None, Ok, Err, ◌⊎◌, inl, inr, ap, sym, refl, subst, arith}
 use Rattle.std.specs.List.{list_all, AllByRecursion}
 use Rattle.std.proofs.lemmas.Bool.{and_parts}
 use Rattle.std.proofs.lemmas.List.{take_more, map-append}
+use Rattle.std.specs.Borrow.{Bor}
+use Rattle.text_import.specs.declared.form.TextForm.{TextForm}
+use Rattle.cli_refusals.specs.declared.refusal.Refusal.{Refusal}
+use Rattle.cli_refusals.specs.declared.refusal.Refusal.TheVariants as refusals
+use Rattle.cli_refusals.specs.declared.refusal.Side.TheVariants.{File}
+use Rattle.cli_commands.specs.declared.applying.ListedCommand.{ListedCommand}
+use Rattle.cli_commands.specs.declared.applying.ListedCommand.TheVariants.{Known}
 use Rattle.cli_scripts.specs.declared.line.ScriptLine.{ScriptLine}
+use Rattle.cli_scripts.specs.declared.line.ScriptLine.TheVariants.{Create, Import, Append, AppendText, Save, Rename, Drop, Compact, Upgrade, Reopen, Begin, Commit}
 use Rattle.cli_scripts.specs.Plain.{plain_line, plain_lines}
-use Rattle.cli_scripts.specs.Script.{PlainLine, HaveLines, changes_tables}
+use Rattle.cli_scripts.specs.Script.{PlainLine, create, import_file, append_file, append_text, save, rename, drop, compact, upgrade, reopen, begin_list, commit_list, HaveLines, IsScriptOfChanges, changes_tables}
 use Rattle.tables.specs.View.{command_of}
 use Rattle.tables.specs.declared.command.Command.{Command}
-use Rattle.cli_replay.specs.Listed.{IsTested, IsChange}
-use Rattle.cli_replay.specs.Replay.{AreCommandsOfLines, IsCommandOfLine}
+use Rattle.cli_replay.specs.Listed.{IsTested, IsChange, IsKnownChange, IsListedOfLine, AreListedOfLines, IsOfFiles, RefusesCommands}
+use Rattle.cli_replay.specs.Replay.{AreCommandsOfLines, IsCommandOfLine, IsOfReading}
 
 -- ---- what is known of each line
 
@@ -20,11 +28,12 @@ tested_lines (t ∷ ts) [] have = absurd have
 tested_lines (None ∷ ts) (l ∷ ls) have = absurd have.0
 tested_lines (Some words ∷ ts) (l ∷ ls) have = (have.0.1, tested_lines ts ls have.1)
 
-pub change_lines : (lines : List PlainLine) → AllByRecursion IsTested lines → list_all changes_tables lines ≡ true → AllByRecursion IsChange lines
-change_lines [] tested all = tt
-change_lines (l ∷ ls) tested all =
-    let parts = and_parts (changes_tables l) (list_all changes_tables ls) all in
-    ((tested.0, parts.0), change_lines ls tested.1 parts.1)
+-- tested lines of a kind
+pub lines_of_kind : (is : PlainLine → Bool) (lines : List PlainLine) → AllByRecursion IsTested lines → list_all is lines ≡ true → AllByRecursion (λ line. IsTested line × (is line ≡ true)) lines
+lines_of_kind is [] tested all = tt
+lines_of_kind is (l ∷ ls) tested all =
+    let parts = and_parts (is l) (list_all is ls) all in
+    ((tested.0, parts.0), lines_of_kind is ls tested.1 parts.1)
 
 -- one of them
 pub line_at : {A B : Type 0} (plain : A → B) (P : B → Type 0) (lines : List A) (i : ℕ) (line : A) → i < length lines → line ≡ get_or lines i line → AllByRecursion P (map plain lines)
@@ -46,12 +55,77 @@ commands_more remaining (l ∷ ls) (c ∷ cs) line command are is = (are.0, comm
 commands_more remaining [] (c ∷ cs) line command are is = absurd are
 commands_more remaining (l ∷ ls) [] line command are is = absurd are
 
--- one more line of the code
+-- one more line of the code, or one more item
+pub one_kept : {A B C : Type 0} (plain : A → B) (P : B → C → Type 0) (Are : List B → List C → Type 0)
+    (more : (ls : List B) (cs : List C) (l : B) (c : C) → Are ls cs → P l c → Are (ls ++ l ∷ []) (cs ++ c ∷ [])) (lines : List A) (i : ℕ) (line : A) (commands : List C) (command : C) → i < length lines
+    → line ≡ get_or lines i line → Are (map plain (take i lines)) commands → P (plain line) command → Are (map plain (take (i + 1) lines)) (commands ++ command ∷ [])
+one_kept {A} {B} {C} plain P Are more lines i line commands command lt is before here =
+    subst (λ (ls : List A). Are (map plain ls) (commands ++ command ∷ [])) (sym (take_more lines i line lt))
+    (subst (λ (ps : List B). Are ps (commands ++ command ∷ [])) (sym (map-append plain (take i lines) (get_or lines i line ∷ [])))
+    (more (map plain (take i lines)) commands (plain (get_or lines i line)) command before (subst (λ (l : A). P (plain l) command) is here)))
+
 pub commands_kept : {F : Type 0} (remaining : F → Option (List ℕ)) (lines : List ScriptLine) (i : ℕ) (line : ScriptLine) (commands : List Command) (command : Command) → i < length lines
     → line ≡ get_or lines i line → AreCommandsOfLines remaining (plain_lines (take i lines)) commands → IsCommandOfLine remaining (plain_line line) (command_of command)
     → AreCommandsOfLines remaining (plain_lines (take (i + 1) lines)) (commands ++ command ∷ [])
 commands_kept remaining lines i line commands command lt is before here =
-    subst (λ (ls : List ScriptLine). AreCommandsOfLines remaining (plain_lines ls) (commands ++ command ∷ [])) (sym (take_more lines i line lt))
-    (subst (λ (ps : List PlainLine). AreCommandsOfLines remaining ps (commands ++ command ∷ [])) (sym (map-append plain_line (take i lines) (get_or lines i line ∷ [])))
-    (commands_more remaining (plain_lines (take i lines)) commands (plain_line (get_or lines i line)) command before
-    (subst (λ (l : ScriptLine). IsCommandOfLine remaining (plain_line l) (command_of command)) is here)))
+    one_kept plain_line (λ (l : PlainLine) (c : Command). IsCommandOfLine remaining l (command_of c)) (AreCommandsOfLines remaining) (commands_more remaining) lines i line commands command lt is before here
+
+-- ---- their commands, as far as they are known before the tables are
+
+pub known_change : (line : ScriptLine) → ((name file : Bor (List ℕ)) (form : TextForm) → line ≢ AppendText name file form) → IsChange (plain_line line) → IsKnownChange (plain_line line)
+known_change (Create name fields) other is = is
+known_change (Import name file) other is = is
+known_change (Append name file) other is = is
+known_change (AppendText name file form) other is = absurd (other name file form refl)
+known_change (Save from to rows) other is = is
+known_change (Rename from to) other is = is
+known_change (Drop name) other is = is
+known_change Compact other is = is
+known_change Upgrade other is = is
+known_change Reopen other is = is
+known_change Begin other is = is
+known_change Commit other is = is
+
+pub listed_known : {F : Type 0} (remaining : F → Option (List ℕ)) (line : PlainLine) (command : Command) → IsCommandOfLine remaining line (command_of command) → IsListedOfLine remaining line (Known command)
+listed_known remaining (create name texts) command is = is
+listed_known remaining (import_file name file) command is = is
+listed_known remaining (append_file name file) command is = is
+listed_known remaining (append_text name file form) command is = absurd is
+listed_known remaining (save from to rows) command is = is
+listed_known remaining (rename from to) command is = is
+listed_known remaining (drop name) command is = is
+listed_known remaining compact command is = is
+listed_known remaining upgrade command is = is
+listed_known remaining reopen command is = is
+listed_known remaining begin_list command is = is
+listed_known remaining commit_list command is = is
+
+listed_more : {F : Type 0} (remaining : F → Option (List ℕ)) (lines : List PlainLine) (commands : List ListedCommand) (line : PlainLine) (command : ListedCommand)
+    → AreListedOfLines remaining lines commands → IsListedOfLine remaining line command → AreListedOfLines remaining (lines ++ line ∷ []) (commands ++ command ∷ [])
+listed_more remaining [] [] line command are is = (is, tt)
+listed_more remaining (l ∷ ls) (c ∷ cs) line command are is = (are.0, listed_more remaining ls cs line command are.1 is)
+listed_more remaining [] (c ∷ cs) line command are is = absurd are
+listed_more remaining (l ∷ ls) [] line command are is = absurd are
+
+pub listed_kept : {F : Type 0} (remaining : F → Option (List ℕ)) (lines : List ScriptLine) (i : ℕ) (line : ScriptLine) (commands : List ListedCommand) (command : ListedCommand) → i < length lines
+    → line ≡ get_or lines i line → AreListedOfLines remaining (plain_lines (take i lines)) commands → IsListedOfLine remaining (plain_line line) command
+    → AreListedOfLines remaining (plain_lines (take (i + 1) lines)) (commands ++ command ∷ [])
+listed_kept remaining lines i line commands command lt is before here =
+    one_kept plain_line (IsListedOfLine remaining) (AreListedOfLines remaining) (listed_more remaining) lines i line commands command lt is before here
+
+-- ---- why their files are not read
+
+pub of_files : (r : Refusal) → IsOfReading r → IsOfFiles r
+of_files (refusals.Io File) is = tt
+of_files refusals.OutOfMemory is = tt
+of_files _ is = absurd is
+
+pub of_text : (r : Refusal) → (r ≡ refusals.TooManyBytes) ⊎ IsOfReading r → IsOfFiles r
+of_text r (inl is) = subst IsOfFiles (sym is) tt
+of_text r (inr is) = of_files r is
+
+pub commands_refused : (script : List ℕ) (lines : List PlainLine) (r : Refusal) → IsScriptOfChanges script (Ok lines) → IsOfFiles r → RefusesCommands script r
+commands_refused script lines refusals.TooManyBytes parsed is = (lines, parsed)
+commands_refused script lines (refusals.Io File) parsed is = (lines, parsed)
+commands_refused script lines refusals.OutOfMemory parsed is = tt
+commands_refused script lines _ parsed is = absurd is

@@ -1,15 +1,14 @@
 -- The calls of items and the numbers of their first lines, one after another.
 use Rattle.std.proofs.Common.{◌≡◌, ◌<◌, ◌+◌, ◌++◌, ◌∷◌, ◌∙◌, [], ℕ, List, length, take, drop, map, get_or, append_assoc, Option, ap, sym, subst}
 use Rattle.std.specs.List.{AllByRecursion}
-use Rattle.std.proofs.lemmas.List.{take_more, map-append}
 use Rattle.store.specs.declared.call.Call.{Call}
 use Rattle.cli_scripts.specs.declared.items.ScriptItem.{ScriptItem}
-use Rattle.cli_scripts.specs.Items.{PlainItem, one, listed, AreItems, lines_in, number_of}
+use Rattle.cli_scripts.specs.Items.{PlainItem, one, listed, AreItems, is_known_change, lines_in, number_of}
 use Rattle.cli_scripts.specs.Plain.{plain_item, plain_items}
 use Rattle.cli_scripts.specs.Script.{PlainLine, commit_list, HaveLines}
 use Rattle.cli_replay.specs.Listed.{IsPlayable, IsTested}
 use Rattle.cli_replay.specs.Replay.{IsCallOfItem, AreCallsOfItems}
-use Rattle.cli_replay.proofs.Changes.{change_lines, tested_lines}
+use Rattle.cli_replay.proofs.Changes.{lines_of_kind, one_kept, tested_lines}
 
 -- ---- items that can be played
 
@@ -25,7 +24,7 @@ playable_items number lines (one n line ∷ items) are tested =
 playable_items number lines (listed list ∷ items) are tested =
     let both = split IsTested (lines_in (listed list)) are.0 (subst (AllByRecursion IsTested) are.1 tested) in
     let within = split IsTested list.lines (commit_list ∷ []) both.0.1 in
-    (change_lines list.lines within.0 are.2, playable_items (number + length (lines_in (listed list))) are.0 items are.4 both.1)
+    (lines_of_kind is_known_change list.lines within.0 are.2, playable_items (number + length (lines_in (listed list))) are.0 items are.4 both.1)
 
 -- those of a script
 pub playable_script : (texts : List (Option (List (List ℕ)))) (items : List PlainItem) → (lines : List PlainLine) × HaveLines texts lines × AreItems 1 lines items → AllByRecursion IsPlayable items
@@ -46,10 +45,7 @@ pub calls_kept : {F R : Type 0} (remaining : F → Option (List ℕ)) (items : L
     → item ≡ get_or items i item → AreCallsOfItems remaining (plain_items (take i items)) calls → IsCallOfItem remaining (plain_item item) call
     → AreCallsOfItems remaining (plain_items (take (i + 1) items)) (calls ++ call ∷ [])
 calls_kept remaining items i item calls call lt is before here =
-    subst (λ (is : List ScriptItem). AreCallsOfItems remaining (plain_items is) (calls ++ call ∷ [])) (sym (take_more items i item lt))
-    (subst (λ (ps : List PlainItem). AreCallsOfItems remaining ps (calls ++ call ∷ [])) (sym (map-append plain_item (take i items) (get_or items i item ∷ [])))
-    (calls_more remaining (plain_items (take i items)) calls (plain_item (get_or items i item)) call before
-    (subst (λ (x : ScriptItem). IsCallOfItem remaining (plain_item x) call) is here)))
+    one_kept plain_item (IsCallOfItem remaining) (AreCallsOfItems remaining) (calls_more remaining) items i item calls call lt is before here
 
 -- ---- the numbers of their first lines
 

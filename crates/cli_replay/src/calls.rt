@@ -6,8 +6,7 @@ ghost use Rattle.cli_scripts.specs.Plain.{plain_item, plain_items, plain_line};
 ghost use Rattle.cli_replay.specs.Listed.{IsPlayable, IsTested};
 ghost use Rattle.cli_replay.specs.Replay.{IsCallOfItem, IsCallOfLine, AreCallsOfItems, IsOfReading};
 
-use crate::commands::command_of;
-use crate::listed::commands_of;
+use crate::commands::{command_of, commands_of};
 use cli_refusals::Refusal;
 use cli_scripts::{ScriptItem, ScriptLine};
 use std::alloc::{AllocError, Global};
@@ -35,7 +34,7 @@ fn call_of_line<F: Read + OpenFile + Drop, H: Files<File = F> + AllocGlobal>(
         | ScriptLine::Save { .. }
         | ScriptLine::Rename { .. }
         | ScriptLine::Drop { .. } => Ok(Call::Apply(command_of(rt, line)?)),
-        ScriptLine::Begin | ScriptLine::Commit => unreachable!(),
+        ScriptLine::AppendText { .. } | ScriptLine::Begin | ScriptLine::Commit => unreachable!(),
     }
 }
 

@@ -1,13 +1,14 @@
 // The lines of a script as commands on tables, with the contents of their files.
 ghost use Rattle.std.specs.Prelude.{◌≡◌, true, IfOk, IfErr};
+ghost use Rattle.std.specs.List.{AllByRecursion};
 ghost use Rattle.facts.specs.Texts.{text_list};
 ghost use Rattle.cli_commands.specs.Changing.{StateSchema};
 ghost use Rattle.tables.specs.Commands as commands;
 ghost use Rattle.tables.specs.View.{command_of};
-ghost use Rattle.cli_scripts.specs.Plain.{plain_line, plain_rows};
+ghost use Rattle.cli_scripts.specs.Plain.{plain_line, plain_lines, plain_rows};
 ghost use Rattle.cli_scripts.specs.Script.{StateFields, are_conditions};
-ghost use Rattle.cli_replay.specs.Listed.{IsChange};
-ghost use Rattle.cli_replay.specs.Replay.{IsCommandOfLine, IsOfReading, SavesRows};
+ghost use Rattle.cli_replay.specs.Listed.{IsKnownChange};
+ghost use Rattle.cli_replay.specs.Replay.{AreCommandsOfLines, IsCommandOfLine, IsOfReading, SavesRows};
 
 use crate::files::named_input;
 use civil_days::DateForm;
@@ -60,12 +61,12 @@ fn save(alloc: Global, from: &str, to: &str, rows: &SavedRows<'_>) -> Result<Com
     })
 }
 
-/// Returns the command of a line that changes tables. Reads the file that it names.
+/// Returns the command of a line that changes tables, if it is known before they are. Reads the file that it names.
 pub(crate) fn command_of<F: Read + OpenFile + Drop, H: Files<File = F> + AllocGlobal>(
     rt: &H,
     line: &ScriptLine<'_>,
 ) -> Result<Command, Refusal>
-    requires { IsChange (plain_line line.now) }
+    requires { IsKnownChange (plain_line line.now) }
     ensures command { IfOk result (λ c. IsCommandOfLine F.remaining (plain_line line.now) (command_of c)) }
     ensures told { IfErr result IsOfReading }
 {
@@ -82,11 +83,31 @@ pub(crate) fn command_of<F: Read + OpenFile + Drop, H: Files<File = F> + AllocGl
         ScriptLine::Save { from, to, rows } => save(rt.alloc(), from, to, rows)?,
         ScriptLine::Rename { from, to } => rename_table(rt.alloc(), from, to)?,
         ScriptLine::Drop { name } => drop_table(rt.alloc(), name)?,
-        ScriptLine::Compact
+        ScriptLine::AppendText { .. }
+        | ScriptLine::Compact
         | ScriptLine::Upgrade
         | ScriptLine::Reopen
         | ScriptLine::Begin
         | ScriptLine::Commit => unreachable!(),
     };
     Ok(command)
+}
+
+/// Returns a command for each line. Reads all files that the lines name.
+pub(crate) fn commands_of<F: Read + OpenFile + Drop, H: Files<File = F> + AllocGlobal>(
+    rt: &H,
+    lines: &[ScriptLine<'_>],
+) -> Result<Vec<Command>, Refusal>
+    requires { AllByRecursion IsKnownChange (plain_lines lines.now) }
+    ensures commands { IfOk result (λ commands. AreCommandsOfLines F.remaining (plain_lines lines.now) commands.items) }
+    ensures told { IfErr result IsOfReading }
+{
+    let mut commands = Vec::with_capacity(rt.alloc(), lines.len())?;
+    for line in lines {
+        let command = command_of(rt, line)?;
+        if let Err(_) = commands.push(command) {
+            return Err(Refusal::OutOfMemory);
+        }
+    }
+    Ok(commands)
 }

@@ -36,11 +36,11 @@ fn front_of_file<F: Read + OpenFile + Drop, H: Files<File = F> + AllocGlobal>(
     }
 }
 
-/// Reads a whole script.
+/// Reads a whole file: a script, or the text that a line of one appends.
 ///
 /// # Errors
 /// `TooManyBytes` if it is longer than a stream may be; `Io` of a file if it can't be read; `OutOfMemory`.
-pub fn read_script<F: Read + OpenFile + Drop, H: Files<File = F> + AllocGlobal>(
+pub fn read_whole_file<F: Read + OpenFile + Drop, H: Files<File = F> + AllocGlobal>(
     rt: &H,
     path: &str,
 ) -> Result<Vec<u8>, Refusal>

@@ -15,7 +15,7 @@ mod listed;
 mod playing;
 mod replaying;
 
-pub use files::read_script;
+pub use files::read_whole_file;
 pub use laws::played_lines_are_a_run;
 pub use listed::script_commands;
 pub use replaying::{Faults, replay};

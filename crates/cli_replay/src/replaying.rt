@@ -12,7 +12,7 @@ ghost use Rattle.sector_dev.specs.View.{faults_of};
 
 use crate::calls::{calls_of, numbers_of};
 use crate::device::{empty_store, found_on, left_by_crash, open, with_faults};
-use crate::files::read_script;
+use crate::files::read_whole_file;
 use crate::playing::{lines_of_replies, play};
 use cli_refusals::{Refusal, Side, write_whole};
 use cli_scripts::{ScriptError, ScriptItem, parse_script, script_words};
@@ -117,7 +117,7 @@ pub fn replay<F: Read + OpenFile + Drop, H: Files<File = F> + AllocGlobal, W: Wr
 {
     let alloc = rt.alloc();
     let device = empty_store(alloc, sectors, version)?;
-    let script = read_script(rt, script)?;
+    let script = read_whole_file(rt, script)?;
     let words = script_words(alloc, &script)?;
     let items = items_of(alloc, &words)?;
     let calls = calls_of(rt, &items)?;

@@ -85,7 +85,8 @@ since 1970-01-01; with --dates iso they are as in 2026-11-30 or
         about: abouts::APPLY,
         example: "Example: arrowstore apply store script
 where each line of script is one of these, with single spaces between the words:
-create NAME FIELD .., import NAME FILE, append NAME FILE, rename NAME NEW, drop NAME or
+create NAME FIELD .., import NAME FILE, rename NAME NEW, drop NAME,
+append NAME FILE [--as stream|csv|jsonl] [--null TEXT] [--dates number|iso] or
 save NAME NEW [--columns A,B] [--limit N] [--] CONDITION ..
 A word with spaces stands in quotation marks, and a mark in it is written twice.
 
@@ -94,8 +95,10 @@ save readings kept \"value >= 7\"
 drop readings
 rename kept readings
 
-All files are read before the store is opened. If a line is refused, so is the whole
-script, with the number of the line, as in T1 Line 3 S2 NameTaken. It prints ok once.",
+All files are read before the store is opened. A text is read for the fields that its
+table has at its line. If a line is refused, so is the whole script, with the number of
+the line, as in T1 Line 3 S2 NameTaken, or T1 Line 3 X4 NotANumber 5 for the record 5 of
+the file of line 3. It prints ok once.",
     },
     CommandHelp {
         name: "tables",
@@ -171,7 +174,8 @@ save NAME NEW [--columns A,B] [--limit N] [--] CONDITION .., compact (one step),
 reopen, begin or commit. A word with spaces stands in quotation marks, and a mark in it
 is written twice. The lines between begin and commit are one commit, as a script of
 apply is. It prints ok or a refusal for each other line, and for each commit. Writes and
-syncs of the device are counted from 1, after the formatting. No line may be empty.",
+syncs of the device are counted from 1, after the formatting. No line may be empty, and
+none may append CSV or JSON Lines (G3 BadScript), as a line of apply may.",
     },
 ];
 

@@ -1,13 +1,15 @@
 -- One more line of a script, in its items.
 use Rattle.std.proofs.Common.{◌≡◌, ◌≢◌, ◌<◌, ◌+◌, ◌++◌, ◌∙◌, [], ◌∷◌, ℕ, true, List, length, take, map, get_or, append_assoc, append-nil, length-append, Option, Some, None, String, refl, sym, ap, subst, arith}
+use Rattle.std.specs.Borrow.{Bor}
 use Rattle.std.specs.Global.{Global, Vec}
 use Rattle.std.proofs.lemmas.List.{take_more, length-take, get_or-map, length-map, map-append}
+use Rattle.text_import.specs.declared.form.TextForm.{TextForm}
 use Rattle.cli_scripts.specs.Items.{PlainList, PlainItem, one, listed, is_alone, number_of, lines_in, IsItem, AreItems, PlainGrouping, AreGrouped, HasNoneThere, IsBadLine}
 use Rattle.cli_scripts.specs.Plain.{plain_item, plain_items, plain_line, plain_list, plain_words}
 use Rattle.cli_scripts.specs.declared.items.ScriptItem.TheVariants as kinds
 use Rattle.cli_scripts.specs.declared.items.ScriptList.{ScriptList}
 use Rattle.cli_scripts.specs.declared.line.ScriptLine.{ScriptLine}
-use Rattle.cli_scripts.specs.declared.line.ScriptLine.TheVariants.{Create, Import, Append, Save, Rename, Drop, Compact, Upgrade, Reopen, Begin, Commit}
+use Rattle.cli_scripts.specs.declared.line.ScriptLine.TheVariants.{Create, Import, Append, AppendText, Save, Rename, Drop, Compact, Upgrade, Reopen, Begin, Commit}
 use Rattle.cli_scripts.specs.declared.items.ScriptItem.{ScriptItem}
 use Rattle.cli_scripts.specs.Script.{PlainLine, begin_list, commit_list, HasLine, HaveLines}
 use Rattle.cli_scripts.specs.inner.Grouping.{AddsWords}
@@ -59,24 +61,29 @@ ended items list lines grouped =
 
 -- ---- a line of the code
 
-not_bound : (line : ScriptLine) → line ≢ Begin → line ≢ Commit → is_alone (plain_line line) ≡ true
-not_bound (Create name fields) begins ends = refl
-not_bound (Import name file) begins ends = refl
-not_bound (Append name file) begins ends = refl
-not_bound (Save from to rows) begins ends = refl
-not_bound (Rename from to) begins ends = refl
-not_bound (Drop name) begins ends = refl
-not_bound Compact begins ends = refl
-not_bound Upgrade begins ends = refl
-not_bound Reopen begins ends = refl
-not_bound Begin begins ends = absurd (begins refl)
-not_bound Commit begins ends = absurd (ends refl)
+-- the line is none that must not stand by itself
+abbrev pub StandsAlone : ScriptLine → Type 0
+StandsAlone line = (line ≢ Begin) × (line ≢ Commit) × ((name file : Bor (List ℕ)) (form : TextForm) → line ≢ AppendText name file form)
 
-pub line_added : (items pushed : List ScriptItem) (number : ℕ) (line : ScriptLine) (lines : List PlainLine) → pushed ≡ items ++ kinds.Line number line ∷ [] → line ≢ Begin → line ≢ Commit
+not_bound : (line : ScriptLine) → StandsAlone line → is_alone (plain_line line) ≡ true
+not_bound (Create name fields) other = refl
+not_bound (Import name file) other = refl
+not_bound (Append name file) other = refl
+not_bound (Save from to rows) other = refl
+not_bound (Rename from to) other = refl
+not_bound (Drop name) other = refl
+not_bound Compact other = refl
+not_bound Upgrade other = refl
+not_bound Reopen other = refl
+not_bound Begin other = absurd (other.0 refl)
+not_bound Commit other = absurd (other.1 refl)
+not_bound (AppendText name file form) other = absurd (other.2 name file form refl)
+
+pub line_added : (items pushed : List ScriptItem) (number : ℕ) (line : ScriptLine) (lines : List PlainLine) → pushed ≡ items ++ kinds.Line number line ∷ [] → StandsAlone line
     → AreGrouped lines (grouping (plain_items items) None) → number ≡ length lines + 1 → AreGrouped (lines ++ plain_line line ∷ []) (grouping (plain_items pushed) None)
-line_added items pushed number line lines more begins ends grouped at =
+line_added items pushed number line lines more other grouped at =
     subst (λ (is : List PlainItem). AreGrouped (lines ++ plain_line line ∷ []) (grouping is None)) (sym (ap plain_items more ∙ map-append plain_item items (kinds.Line number line ∷ [])))
-    (alone_more (plain_items items) number (plain_line line) lines (not_bound line begins ends) grouped at)
+    (alone_more (plain_items items) number (plain_line line) lines (not_bound line other) grouped at)
 
 pub list_ended : (items pushed : List ScriptItem) (list : ScriptList) (line : ScriptLine) (lines : List PlainLine) → line ≡ Commit → pushed ≡ items ++ kinds.List list ∷ []
     → AreGrouped lines (grouping (plain_items items) (Some (plain_list list))) → AreGrouped (lines ++ plain_line line ∷ []) (grouping (plain_items pushed) None)

@@ -3,6 +3,7 @@ pub mod Shorter
 pub mod Quoting
 pub mod Reading
 pub mod Written
+pub mod Options
 pub mod Tests
 pub mod Lines
 pub mod Grouped

@@ -3,7 +3,7 @@ use Rattle.std.specs.Prelude.{◌≡◌, ◌⊎◌, ◌<◌, ◌+◌, ℕ, Bool,
 use Rattle.std.specs.List.{list_all}
 use Rattle.cli_scripts.specs.declared.script.ScriptError.{ScriptError}
 use Rattle.cli_scripts.specs.declared.script.ScriptError.TheVariants.{BadLine, OutOfMemory}
-use Rattle.cli_scripts.specs.Script.{PlainLine, begin_list, commit_list, changes_tables, HasLine, HasNone, HaveLines}
+use Rattle.cli_scripts.specs.Script.{PlainLine, append_text, begin_list, commit_list, changes_tables, HasLine, HasNone, HaveLines}
 use Rattle.cli_scripts.specs.Words.{lines_of, HaveWords}
 
 -- the lines between `begin` and `commit`; the number is that of `begin`, counted from 1
@@ -21,11 +21,17 @@ abbrev pub number_of : PlainItem → ℕ
 number_of (one number line) = number
 number_of (listed list) = list.number
 
--- a line that neither begins nor ends a list
+-- a line that neither begins nor ends a list, and whose call is known before the tables are: a text is read for the schema of its table
 abbrev pub is_alone : PlainLine → Bool
 is_alone begin_list = false
 is_alone commit_list = false
+is_alone (append_text name file form) = false
 is_alone _ = true
+
+-- a line of a list: it changes tables, and its command is known before the tables are
+abbrev pub is_known_change : PlainLine → Bool
+is_known_change (append_text name file form) = false
+is_known_change line = changes_tables line
 
 -- ---- the items of lines
 
@@ -34,10 +40,10 @@ abbrev pub lines_in : PlainItem → List PlainLine
 lines_in (one number line) = line ∷ []
 lines_in (listed list) = begin_list ∷ list.lines ++ commit_list ∷ []
 
--- a list has lines that change tables, and no others
+-- a list has lines that change tables and whose commands are known, and no others
 abbrev pub IsItem : PlainItem → Type 0
 IsItem (one number line) = is_alone line ≡ true
-IsItem (listed list) = list_all changes_tables list.lines ≡ true
+IsItem (listed list) = list_all is_known_change list.lines ≡ true
 
 -- lines, of which the first has this number, are these items one after another
 abbrev pub AreItems : ℕ → List PlainLine → List PlainItem → Type 0
@@ -55,7 +61,7 @@ pub record PlainGrouping : Type 0 where
 -- `begin` and the lines after it
 abbrev pub GoesOn : (front : List PlainLine) → Option PlainList → List PlainLine → Type 0
 GoesOn front None lines = lines ≡ front
-GoesOn front (Some list) lines = (lines ≡ front ++ begin_list ∷ list.lines) × (list.number ≡ length front + 1) × (list_all changes_tables list.lines ≡ true)
+GoesOn front (Some list) lines = (lines ≡ front ++ begin_list ∷ list.lines) × (list.number ≡ length front + 1) × (list_all is_known_change list.lines ≡ true)
 
 -- these first lines of a script are items, behind which a list may be open
 pub record AreGrouped (lines : List PlainLine) (grouping : PlainGrouping) : Type 0 where
@@ -63,12 +69,12 @@ pub record AreGrouped (lines : List PlainLine) (grouping : PlainGrouping) : Type
   pub items : AreItems 1 front grouping.items
   pub rest : GoesOn front grouping.list lines
 
--- a line may follow: where a list is open, `commit` or a line that changes tables; where none is, any line but `commit`
+-- a line may follow: where a list is open, `commit` or a line of a list; where none is, `begin` or a line by itself
 abbrev pub may_follow : Option PlainList → PlainLine → Bool
-may_follow None commit_list = false
-may_follow None _ = true
+may_follow None begin_list = true
+may_follow None line = is_alone line
 may_follow (Some list) commit_list = true
-may_follow (Some list) line = changes_tables line
+may_follow (Some list) line = is_known_change line
 
 -- these words have no line that may follow
 abbrev pub HasNoneThere : Option PlainList → Option (List (List ℕ)) → Type 0

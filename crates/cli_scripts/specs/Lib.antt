@@ -1,4 +1,5 @@
 pub mod Words
+pub mod Appending
 pub mod Script
 pub mod Items
 pub mod Plain

@@ -1,6 +1,7 @@
 -- Scripts: one command on each line (`docs/using.md`).
 use Rattle.std.specs.Prelude.{◌≡◌, ◌≢◌, ◌⊎◌, ◌<◌, ◌+◌, ℕ, Bool, true, false, if◌then◌else◌, List, [], ◌∷◌, length, take, get_or, codes, Option, Some, None, is_some, option_map, Result, Ok, Err}
 use Rattle.std.specs.List.{list_all}
+use Rattle.std.specs.Option.{option_and_then}
 use Rattle.std.specs.Str.{bytes_eq}
 use Rattle.std.specs.Str.Parse.{digits_value}
 use Rattle.arrow_schema.specs.Column.{Column}
@@ -11,6 +12,7 @@ use Rattle.query.specs.ConditionText.{condition_of}
 use Rattle.cli_requests.specs.Numbers.{is_number}
 use Rattle.cli_scripts.specs.declared.script.ScriptError.{ScriptError}
 use Rattle.cli_scripts.specs.declared.script.ScriptError.TheVariants.{BadLine, OutOfMemory}
+use Rattle.cli_scripts.specs.Appending.{PlainForm, options_of, form_of}
 use Rattle.cli_scripts.specs.Words.{lines_of, HaveWords}
 
 -- what selects the rows that a command saves: the names of the columns, with commas between them, the maximum number of rows, and the texts of conditions
@@ -24,6 +26,8 @@ pub data PlainLine : Type 0 where
   create : (name : List ℕ) → (texts : List (List ℕ)) → PlainLine
   import_file : (name file : List ℕ) → PlainLine
   append_file : (name file : List ℕ) → PlainLine
+  -- the file has a text of rows in this form
+  append_text : (name file : List ℕ) → (form : PlainForm) → PlainLine
   save : (from to : List ℕ) → (rows : PlainRows) → PlainLine
   rename : (from to : List ℕ) → PlainLine
   drop : (name : List ℕ) → PlainLine
@@ -52,7 +56,6 @@ with_name word name = if bytes_eq (codes "drop") word then Some (drop name) else
 unfoldable pub with_two : List ℕ → List ℕ → List ℕ → Option PlainLine
 with_two word first second =
     if bytes_eq (codes "import") word then Some (import_file first second)
-    else if bytes_eq (codes "append") word then Some (append_file first second)
     else if bytes_eq (codes "rename") word then Some (rename first second) else None
 
 unfoldable pub other_of : List ℕ → List (List ℕ) → Option PlainLine
@@ -60,6 +63,19 @@ other_of word [] = alone word
 other_of word (name ∷ []) = with_name word name
 other_of word (first ∷ second ∷ []) = with_two word first second
 other_of word (first ∷ second ∷ third ∷ more) = None
+
+-- rows are appended from a stream, or from a text in this form
+abbrev pub append_as : (name file : List ℕ) → Option PlainForm → PlainLine
+append_as name file None = append_file name file
+append_as name file (Some form) = append_text name file form
+
+unfoldable pub append_of : List (List ℕ) → Option PlainLine
+append_of (name ∷ file ∷ words) = option_map (append_as name file) (option_and_then form_of (options_of words))
+append_of (word ∷ []) = None
+append_of [] = None
+
+unfoldable pub append_or_other : List ℕ → List (List ℕ) → Option PlainLine
+append_or_other word arguments = if bytes_eq (codes "append") word then append_of arguments else other_of word arguments
 
 unfoldable pub create_of : List (List ℕ) → Option PlainLine
 create_of [] = None
@@ -101,7 +117,7 @@ save_of (word ∷ []) = None
 save_of [] = None
 
 unfoldable pub save_or_other : List ℕ → List (List ℕ) → Option PlainLine
-save_or_other word arguments = if bytes_eq (codes "save") word then save_of arguments else other_of word arguments
+save_or_other word arguments = if bytes_eq (codes "save") word then save_of arguments else append_or_other word arguments
 
 unfoldable pub line_of : List (List ℕ) → Option PlainLine
 line_of [] = None

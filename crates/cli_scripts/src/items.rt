@@ -2,6 +2,7 @@
 ghost use Rattle.std.specs.Prelude.{◌≡◌, IfOk, None, Some, option_map};
 ghost use Rattle.cli_scripts.specs.Plain.{plain_grouping, plain_items, plain_line, plain_list};
 ghost use Rattle.cli_scripts.specs.Script.{changes_tables};
+ghost use Rattle.cli_scripts.specs.Items.{is_known_change};
 ghost use Rattle.cli_scripts.specs.inner.Grouping.{AddsLine};
 
 use crate::ScriptLine;
@@ -43,6 +44,16 @@ pub(crate) fn changes_tables(line: &ScriptLine<'_>) -> bool
     }
 }
 
+// A text is read for the schema that its table has, so its command is not known before.
+fn is_known_change(line: &ScriptLine<'_>) -> bool
+    ensures { result ≡ is_known_change (plain_line line.now) }
+{
+    match line {
+        ScriptLine::AppendText { .. } => false,
+        line => changes_tables(line),
+    }
+}
+
 // Adds a line where no list is open.
 fn add_alone<'a>(
     alloc: Global,
@@ -59,7 +70,7 @@ fn add_alone<'a>(
             let list = Some(ScriptList { number, lines });
             Ok(Some(Grouping { items, list }))
         }
-        ScriptLine::Commit => Ok(None),
+        ScriptLine::AppendText { .. } | ScriptLine::Commit => Ok(None),
         line => {
             items.push(ScriptItem::Line { number, line })?;
             Ok(Some(Grouping { items, list: None }))
@@ -81,7 +92,7 @@ fn add_to_list<'a>(
         items.push(ScriptItem::List(list))?;
         return Ok(Some(Grouping { items, list: None }));
     }
-    if !changes_tables(&line) {
+    if !is_known_change(&line) {
         return Ok(None);
     }
     let mut list = list;

@@ -6,6 +6,7 @@
 //! ```
 #![tactic(auto)]
 
+mod append_options;
 mod items;
 mod laws;
 mod line;

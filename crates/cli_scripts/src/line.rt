@@ -2,11 +2,13 @@
 ghost use Rattle.std.specs.Prelude.{◌≡◌, IfOk, option_map};
 ghost use Rattle.std.specs.Option.{option_copied};
 ghost use Rattle.facts.specs.Texts.{text_list};
-ghost use Rattle.cli_scripts.specs.Plain.{plain_line, plain_rows};
-ghost use Rattle.cli_scripts.specs.Script.{list_bound, alone, with_name, with_two, other_of, create_of, option_at, option_or_at, limit_of, after_dashes, rows_of, save_of, save_or_other, line_of};
+ghost use Rattle.cli_scripts.specs.Plain.{plain_form, plain_line, plain_rows};
+ghost use Rattle.cli_scripts.specs.Script.{list_bound, alone, with_name, with_two, other_of, append_as, append_of, append_or_other, create_of, option_at, option_or_at, limit_of, after_dashes, rows_of, save_of, save_or_other, line_of};
 
+use crate::append_options::{form_of, options_of};
 use cli_requests::number_of;
 use std::alloc::{AllocError, Global};
+use text_import::TextForm;
 
 /// Which rows are saved.
 #[derive(Drop)]
@@ -36,6 +38,12 @@ pub enum ScriptLine<'a> {
     Append {
         name: &'a str,
         file: &'a str,
+    },
+    /// Appends the rows of the text in a file to the table.
+    AppendText {
+        name: &'a str,
+        file: &'a str,
+        form: TextForm<'a>,
     },
     /// Saves selected rows of a table as another table.
     Save {
@@ -106,8 +114,6 @@ fn with_two<'a>(word: &str, name: &'a str, other: &'a str) -> Option<ScriptLine<
 {
     if word == "import" {
         Some(ScriptLine::Import { name, file: other })
-    } else if word == "append" {
-        Some(ScriptLine::Append { name, file: other })
     } else if word == "rename" {
         Some(ScriptLine::Rename {
             from: name,
@@ -130,6 +136,40 @@ fn other_of<'a>(word: &str, arguments: &[&'a str]) -> Option<ScriptLine<'a>>
     }
 }
 
+fn append_as<'a>(name: &'a str, file: &'a str, form: Option<TextForm<'a>>) -> ScriptLine<'a>
+    ensures { plain_line result ≡ append_as name.now file.now (option_map plain_form form.entry) }
+{
+    match form {
+        Some(form) => ScriptLine::AppendText { name, file, form },
+        None => ScriptLine::Append { name, file },
+    }
+}
+
+#[tactic(auto, unfolding(crate::specs::Script::append_of))]
+fn append_of<'a>(arguments: &[&'a str]) -> Option<ScriptLine<'a>>
+    ensures { option_map plain_line result ≡ append_of (text_list arguments.now) }
+{
+    match arguments {
+        [name, file, words @ ..] => {
+            let form = form_of(options_of(words)?)?;
+            Some(append_as(name, file, form))
+        }
+        [_] => None,
+        [] => None,
+    }
+}
+
+#[tactic(auto, unfolding(crate::specs::Script::append_or_other))]
+fn append_or_other<'a>(word: &str, arguments: &[&'a str]) -> Option<ScriptLine<'a>>
+    ensures { option_map plain_line result ≡ append_or_other word.now (text_list arguments.now) }
+{
+    if word == "append" {
+        append_of(arguments)
+    } else {
+        other_of(word, arguments)
+    }
+}
+
 #[tactic(auto, unfolding(crate::specs::Script::create_of))]
 fn create_of<'a>(alloc: Global, arguments: &[&'a str]) -> Result<Option<ScriptLine<'a>>, AllocError>
     ensures { IfOk result (λ line. option_map plain_line line ≡ create_of (text_list arguments.now)) }
@@ -143,7 +183,6 @@ fn create_of<'a>(alloc: Global, arguments: &[&'a str]) -> Result<Option<ScriptLi
     }
 }
 
-// Returns the columns that the first words name, and the words after these; or `None` and the words as they are.
 // Returns the word behind an option at the beginning, and the words after that one.
 #[tactic(auto, unfolding(crate::specs::Script::option_at))]
 fn option_at<'r, 'a>(option: &str, words: &'r [&'a str]) -> (Option<&'a str>, &'r [&'a str])
@@ -243,7 +282,7 @@ fn save_or_other<'a>(
     if word == "save" {
         save_of(alloc, arguments)
     } else {
-        Ok(other_of(word, arguments))
+        Ok(append_or_other(word, arguments))
     }
 }
 

@@ -16,5 +16,6 @@ pub mod Salvaging
 pub mod Selecting
 pub mod Places
 pub mod Answering
+pub mod Transactions
 pub mod laws
 pub mod inner

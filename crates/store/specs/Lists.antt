@@ -14,6 +14,12 @@ abbrev pub refusal_of : ListRefusal → Refusal
 refusal_of (At place r) = r
 refusal_of (Whole r) = r
 
+-- the refusal of a list that ends at this place: where memory was refused or the device failed, no command is to blame
+abbrev pub refusal_at : (place : ℕ) → Refusal → ListRefusal
+refusal_at place Device = Whole Device
+refusal_at place OutOfMemory = Whole OutOfMemory
+refusal_at place r = At place r
+
 -- without the place of the refused command
 abbrev pub as_one : {T : Type 0} → Result T ListRefusal → Result T Refusal
 as_one (Ok x) = Ok x

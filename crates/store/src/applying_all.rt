@@ -1,20 +1,15 @@
 // Applies several commands as one.
-ghost use Rattle.std.specs.Prelude.{◌≡◌, ◌≢◌, ◌||◌, true, false, map, Ok, Err, IfOk, IfErr};
+ghost use Rattle.std.specs.Prelude.{◌≡◌, true, map, IfErr};
 ghost use Rattle.sector_dev.specs.Disk.{now, shown_image};
 ghost use Rattle.tables.specs.Tables.{Tables};
 ghost use Rattle.tables.specs.View.{command_of, list_of};
-ghost use Rattle.store_runs.specs.Calls.{is_device_reply};
-ghost use Rattle.store_runs.specs.Changes.{CanChange};
-ghost use Rattle.store_runs.specs.Deciding.{IsDecided, reads_device};
 ghost use Rattle.store_runs.specs.Reading.{ended};
-ghost use Rattle.store_changes.specs.Change.{change_of};
-ghost use Rattle.store.specs.Lists.{refusal_of, as_one, ended_by, ended_list, RefusesList, NamesLine};
+ghost use Rattle.store.specs.Lists.{refusal_of, as_one, ended_list, refusal_at, NamesLine};
 
 use crate::Store;
-use crate::drafting::draft_commands;
 use sector_dev::SectorDevice;
 use std::alloc::Global;
-use store_changes::{Change, decisions_are_verdicts};
+use store_changes::decisions_are_verdicts;
 use tables::{Command, Refusal, lists_bring_tables};
 
 /// Why several commands as one are refused.
@@ -26,11 +21,14 @@ pub enum ListRefusal {
     Whole(Refusal),
 }
 
-// Returns whether the refusal of several commands halts the store, since its device failed.
-fn halts_list(refusal: ListRefusal) -> bool
-    ensures { result ≡ is_device_reply (ended_by refusal) }
+// Returns the refusal of a list that ends at this place. Where memory was refused or the device failed, no command is to blame.
+fn list_refusal(place: usize, refusal: Refusal) -> ListRefusal
+    ensures { result ≡ refusal_at place refusal }
 {
-    matches!(refusal, ListRefusal::Whole(Refusal::Device))
+    match refusal {
+        Refusal::Device | Refusal::OutOfMemory => ListRefusal::Whole(refusal),
+        refusal => ListRefusal::At { place, refusal },
+    }
 }
 
 // Returns how all commands together end.
@@ -50,34 +48,7 @@ impl<D: SectorDevice> Store<D> {
     ghost use Rattle.store_runs.specs.Machine.{Machine};
     ghost use Rattle.store.specs.Answering.{Applies};
     ghost use Rattle.store.specs.Applying.{GoesOn};
-    ghost use Rattle.store.specs.Fits.{StoreFits, device_of, listed_in, is_halted};
-    ghost use Rattle.store.specs.Reading.{OnlyReadsStore};
-
-    // Returns the change that all commands make together. Only appends and saved queries read the device.
-    fn decide_all(&mut self, alloc: Global, commands: Vec<Command>) -> Result<Change, ListRefusal>
-        requires on { is_halted self.old ≡ false }
-        ensures reads { OnlyReadsStore D.size D.story D.failed D.tells (ended_list result) self.old self.new }
-        ensures still { reads_device (list_of commands.items) ≡ false → D.story (device_of self.new) ≡ D.story (device_of self.old) }
-        ensures ok { IfOk result (λ change. CanChange (listed_in self.old) (change_of change)) }
-        ensures decided { IfOk result (λ change. IsDecided D.tells (shown_image (now (D.story (device_of self.old)))) (listed_in self.old)
-            (list_of commands.items) (Ok (change_of change))) }
-        ensures told { IfErr result (RefusesList D.tells (shown_image (now (D.story (device_of self.old)))) (listed_in self.old)
-            (map command_of commands.items)) }
-        ensures not_halted { IfErr result (λ e. refusal_of e ≢ Refusal.Halted) }
-    {
-        let sectors = self.opened.commit.device_sectors;
-        let list = &self.opened.catalogue.list;
-        match draft_commands(alloc, &mut self.device, list, sectors, commands) {
-            Ok(draft) => match draft.finish(alloc) {
-                Ok(change) => Ok(change),
-                Err(_) => Err(ListRefusal::Whole(Refusal::OutOfMemory)),
-            },
-            Err(refusal) => {
-                self.halted = halts_list(refusal);
-                Err(refusal)
-            }
-        }
-    }
+    ghost use Rattle.store.specs.Fits.{StoreFits, device_of, listed_in};
 
     /// Applies several commands as one, or refuses them: all of them are done by one commit, or none. Each sees what those before it did. After `Ok` the
     /// changes are safe: no later stop undoes any of them.
@@ -103,19 +74,20 @@ impl<D: SectorDevice> Store<D> {
         ensures size { D.size (device_of self.new) ≡ D.size (device_of self.old) }
         ensures count { D.failed (device_of self.new) ≡ counted (ended_list result) (D.failed (device_of self.old)) }
     {
-        if self.halted {
-            drop(commands);
-            return Err(ListRefusal::Whole(Refusal::Halted));
-        }
         lists_bring_tables(&commands);
         decisions_are_verdicts();
-        match self.decide_all(alloc, commands) {
-            Ok(change) => {
-                let all = self.carry_out(alloc, &change);
-                drop(change);
-                as_whole(all)
+        let mut transaction = match self.begin(alloc) {
+            Ok(transaction) => transaction,
+            Err(refusal) => return Err(ListRefusal::Whole(refusal)),
+        };
+        let mut place = 0;
+        for command in commands {
+            match self.add(alloc, transaction, command) {
+                Ok(next) => transaction = next,
+                Err(refusal) => return Err(list_refusal(place, refusal)),
             }
-            Err(refusal) => Err(refusal),
+            place += 1;
         }
+        as_whole(self.commit(alloc, transaction))
     }
 }

@@ -37,6 +37,7 @@ mod selecting;
 mod store;
 mod summary;
 mod taking;
+mod transacting;
 mod upgrading;
 
 pub use applying_all::ListRefusal;
@@ -59,4 +60,5 @@ pub use store_runs::{
     undisturbed_runs_tell_no_failure, undisturbed_runs_tell_no_halt,
 };
 pub use summary::Summary;
+pub use transacting::Transaction;
 pub use upgrading::Upgraded;

@@ -1,4 +1,11 @@
 // Queries of the catalogue in memory, without a call of the device.
+ghost use Rattle.std.specs.Prelude.{◌≡◌, false, option_map, Some, IfOk, MatchResult};
+ghost use Rattle.arrow_schema.specs.Limits.{IsWithinLimits};
+ghost use Rattle.arrow_schema.specs.View.{schema_of};
+ghost use Rattle.catalogue.specs.Edits.{entry_of};
+ghost use Rattle.catalogue.specs.View.{catalogue_of};
+ghost use Rattle.store.specs.Listing.{RefusesSchema};
+
 use crate::Store;
 use arrow_schema::Schema;
 use catalogue::Catalogue;
@@ -6,17 +13,28 @@ use sector_dev::SectorDevice;
 use std::alloc::Global;
 use tables::Refusal;
 
+/// Returns the schema of the table with this name in a catalogue.
+pub(crate) fn schema_named(alloc: Global, list: &Catalogue, name: &str) -> Result<Schema, Refusal>
+    ensures found { MatchResult result
+        (λ found. option_map (λ e. e.schema) (entry_of (catalogue_of list.now) name.now) ≡ Some (schema_of found))
+        (RefusesSchema false (entry_of (catalogue_of list.now) name.now)) }
+    ensures within { IfOk result (λ found. IsWithinLimits (schema_of found)) }
+{
+    match list.get(name) {
+        Some(entry) => Ok(entry.schema().copy(alloc)?),
+        None => Err(Refusal::NoTable),
+    }
+}
+
 impl<D: SectorDevice> Store<D> {
-    ghost use Rattle.std.specs.Prelude.{◌≡◌, true, false, map, option_map, string_bytes, Some, IfOk, IfErr, MatchResult};
-    ghost use Rattle.arrow_schema.specs.Limits.{IsWithinLimits};
-    ghost use Rattle.arrow_schema.specs.View.{schema_of};
-    ghost use Rattle.catalogue.specs.Edits.{entry_of, tables_of};
+    ghost use Rattle.std.specs.Prelude.{true, map, string_bytes, IfErr};
+    ghost use Rattle.catalogue.specs.Edits.{tables_of};
     ghost use Rattle.tables.specs.Tables.{Tables};
     ghost use Rattle.store_runs.specs.Calls.{tables_call, schema_call, counts, schema_is, refused};
     ghost use Rattle.store_runs.specs.Machine.{Machine};
     ghost use Rattle.store.specs.Fits.{StoreFits, listed_in, is_halted};
     ghost use Rattle.store.specs.Applying.{GoesOn};
-    ghost use Rattle.store.specs.Listing.{RefusesTables, RefusesSchema};
+    ghost use Rattle.store.specs.Listing.{RefusesTables};
 
     // Returns the catalogue, unless the store is halted.
     fn listed(&self) -> Result<&Catalogue, Refusal>
@@ -72,9 +90,6 @@ impl<D: SectorDevice> Store<D> {
         ensures within { IfOk result (λ found. IsWithinLimits (schema_of found)) }
     {
         let list = self.listed()?;
-        match list.get(name) {
-            Some(entry) => Ok(entry.schema().copy(alloc)?),
-            None => Err(Refusal::NoTable),
-        }
+        schema_named(alloc, list, name)
     }
 }

@@ -1,16 +1,12 @@
 -- One command of a list.
-use Rattle.std.specs.Prelude.{◌≡◌, ◌≢◌, ◌⊎◌, ℕ, Bool, true, Ok}
+use Rattle.std.specs.Prelude.{◌≡◌, Bool, true, Ok}
 use Rattle.sector_dev.specs.Disk.{Image, Story, now, shown_image}
 use Rattle.catalogue.specs.View.{catalogue_of}
-use Rattle.tables.specs.declared.refusal.Refusal.{Refusal}
-use Rattle.tables.specs.declared.refusal.Refusal.TheVariants.{Device, OutOfMemory}
 use Rattle.tables.specs.Commands.{PlainCommand}
 use Rattle.store_runs.specs.Changes.{PlainChange}
 use Rattle.store_runs.specs.Deciding.{IsDecided, Leaves}
 use Rattle.store_changes.specs.declared.drafting.Draft.{Draft}
 use Rattle.store_changes.specs.Draft.{laid, streams_of}
-use Rattle.store.specs.declared.applying_all.ListRefusal.{ListRefusal}
-use Rattle.store.specs.declared.applying_all.ListRefusal.TheVariants.{At, Whole}
 
 -- reads of the device show this image, if it tells its story
 abbrev pub Shows : (tells : Bool) → Story → Image → Type 0
@@ -21,8 +17,3 @@ abbrev pub StepsTo : (tells : Bool) → Image → (old : Draft) → PlainCommand
 StepsTo tells image old command next =
     (change : PlainChange) × IsDecided tells (laid old.from (streams_of old) image) (catalogue_of old.made) command (Ok change)
     × Leaves old.next (laid old.from (streams_of old) image) (catalogue_of old.made) change next.next (laid next.from (streams_of next) image) (catalogue_of next.made)
-
--- the refusal of a list that ends at this place with this one: it names the place, unless memory was refused or the device failed
-abbrev pub IsToldAt : (place : ℕ) → Refusal → ListRefusal → Type 0
-IsToldAt place r (At p q) = (p ≡ place) × (q ≡ r) × (r ≢ Device) × (r ≢ OutOfMemory)
-IsToldAt place r (Whole q) = (q ≡ r) × ((r ≡ Device) ⊎ (r ≡ OutOfMemory))

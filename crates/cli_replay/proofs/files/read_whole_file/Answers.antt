@@ -1,6 +1,6 @@
 use Rattle.std.proofs.Common.{arith}
 use Rattle.cli_replay.proofs.Inputs.{whole_front}
-use Rattle.cli_replay.proofs.files.read_script.Goals as goal
+use Rattle.cli_replay.proofs.files.read_whole_file.Goals as goal
 
 pub returns-clause-all : goal.returns-clause-all
 returns-clause-all g c =

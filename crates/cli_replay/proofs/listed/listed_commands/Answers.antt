@@ -1,0 +1,17 @@
+use Rattle.std.proofs.Common.{List, take, ◌+◌, sym, subst}
+use Rattle.cli_commands.specs.declared.applying.ListedCommand.{ListedCommand}
+use Rattle.cli_scripts.specs.Plain.{plain_line, plain_lines}
+use Rattle.cli_replay.specs.Listed.{AreListedOfLines, IsChange}
+use Rattle.cli_replay.proofs.Changes.{listed_kept, line_at}
+use Rattle.cli_replay.proofs.listed.listed_commands.Goals as goal
+
+pub listed_of-requires : goal.listed_of-requires
+listed_of-requires g c = line_at plain_line IsChange c.args.lines.now c.loop-line.line-index c.line-item.result c.loop-line-test.true c.line-item.is c.requires
+
+pub loop-line-preserved : goal.loop-line-preserved
+loop-line-preserved g c =
+    let lines = c.args.lines.now in
+    let i = c.loop-line.line-index in
+    subst (λ (commands : List ListedCommand). AreListedOfLines g.F.Read.remaining (plain_lines (take (i + 1) lines)) commands) (sym c.in_default.ensures.items)
+    (listed_kept g.F.Read.remaining lines i c.line-item.result c.loop-line.commands.items c.in_ok-command.command c.loop-line-test.true c.line-item.is c.loop-line.invariant
+    c.in_ok-command.ensures.listed)
