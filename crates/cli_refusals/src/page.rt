@@ -215,8 +215,8 @@ or appended. If no advice follows a fault, the cause is the program that wrote t
   separate the words of a line, and a word with spaces stands in quotation marks. Either these words are not
   a command of a script, or the text of a field (P), the form of a condition (Q2) or the number of a `--limit`
   is refused. `apply` takes only commands on tables, and so does `replay` between `begin` and `commit`; each
-  `begin` has its `commit`. `replay` takes no `append` with `--as csv` or `--as jsonl`. The last line of a
-  script of `apply` has its line feed: if not, the script may be cut off.
+  `begin` has its `commit`. `replay` takes no `append` with `--as csv` or `--as jsonl`. A script of `apply`
+  has a line, and its last one a line feed: if not, it may be cut off, or what should write it failed.
   ",
     LINES_OF_A_SCRIPT,
     "
@@ -236,7 +236,7 @@ or appended. If no advice follows a fault, the cause is the program that wrote t
   some of its bytes were changed, or it was copied while a command changed it. The causes are:
   DeviceSize: the file is shorter or longer than its store says. A terminal shows both lengths. `replay`,
   which makes a device of its own, reports this if no store can have the number of sectors of `--sectors`.
-  A file with one byte more is refused as G2 BadSize: it is never cut off, since it may lack tables.
+  A file with one byte more is refused as G2 BadSize, since a copy that was interrupted lacks tables.
   CatalogueRange: the place of the list of tables is past the end of the file or in its first two sectors,
   or its length is impossible.
   CatalogueUnreadable: a sector of the list of tables can't be read.
@@ -496,9 +496,10 @@ another length. Use an earlier copy of the file. If there is none, try this on a
 named `copy`, and run `check` on that after it:
 
 - DeviceSize: give the copy its length again, 512 bytes for each sector that `format` was given, with
-  `truncate -s`. A terminal shows this length, also after G2 if the file begins as a store does. But if the
-  file is one byte longer than that, it is the new file of a `copy` that was interrupted, and lacks tables:
-  never cut it off, but copy again, to another path.
+  `truncate -s`. A terminal shows this length, also after G2 if the file begins as a store does. A file with
+  one byte more may be the new file of a `copy` that was interrupted, which lacks tables: if so, copy again,
+  to another path. If it was a store at this path before, something has appended a byte to it (`echo >> store`
+  does): cut the byte off in the copy, and look whether all tables are there.
 - Another cause: write zeros over the commit with the greater epoch. The store may then open as it was
   before its last command. `od -An -tu8 -j8 -N8 copy` prints the epoch in sector 0, and `-j520` in place of
   `-j8` the one in sector 1. `dd if=/dev/zero of=copy bs=512 count=1 conv=notrunc` writes zeros over sector

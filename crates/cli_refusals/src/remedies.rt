@@ -81,7 +81,7 @@ pub const WHOLE_FILE: &str =
     "Give the whole file of a store. If it is the new file of a `copy` that was interrupted, copy again, to another path.";
 
 pub const UNFINISHED_COPY: &str =
-    "If this is the new file of a `copy` that was interrupted, it lacks tables: do not cut it off, but copy the old store again, to another path.";
+    "If this is the new file of a `copy` that was interrupted, it lacks tables: copy the old store again, to another path. If it was a store before, a byte was appended to it.";
 
 pub const LENGTH_OF_THE_STORE: &str =
     "Use an earlier copy of the file. Or give a copy of it the length of its store, as by `truncate -s`, and run `check` on that.";
@@ -147,7 +147,7 @@ pub const GIVE_A_VALUE: &str =
     "Give a value where the field allows no null, and only a null where its type is null. Then append the whole text again.";
 
 pub const ROW_ON_A_LINE: &str =
-    "Fix the line. If rows are over several lines, `jq -c .` makes a line of each, and `jq -c '.[]'` does so of one array. Then append the whole text again.";
+    "Fix the line. If rows are over several lines, `jq -c .` makes a line of each, and `jq -c '.[]'` of one array; jq 1.6 rounds integers from 2^53 on. Then append the whole text again.";
 
 pub const ESCAPE_CONTROLS: &str =
     "Fix the line, which has a control character: within a string write a tab as `\\t`, and others as in `\\u001b`. Then append the whole text again.";
@@ -228,7 +228,7 @@ pub const LOOK_AGAIN: &str =
     "Check the disk, then run `check` as a user that may write the file: what it reads stays. `tables`, or `info` after a `compact`, then shows what is done.";
 
 pub const IMPORT_AGAIN: &str =
-    "Save the readable rows of the table with `salvage`, and drop it or import it again. Then run `check` once more: other tables may be damaged too.";
+    "Save the readable rows of the table with `salvage`, and replace it with `import --complete`. Then run `check` once more: other tables may be damaged too.";
 
 pub const MORE_MEMORY: &str =
     "Give the program more memory: a stream or a table that is read needs a small multiple of its size.";

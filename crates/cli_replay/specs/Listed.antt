@@ -1,5 +1,5 @@
 -- The commands of a script that is applied as one commit.
-use Rattle.std.specs.Prelude.{◌≡◌, ◌⊎◌, ℕ, true, false, List, length, Option, Ok, Err}
+use Rattle.std.specs.Prelude.{◌≡◌, ◌⊎◌, ℕ, max, true, false, List, length, Option, Ok, Err}
 use Rattle.std.specs.List.{AllByRecursion}
 use Rattle.tables.specs.View.{command_of}
 use Rattle.cli_commands.specs.declared.applying.ListedCommand.{ListedCommand}
@@ -60,11 +60,11 @@ IsOfFiles TooManyBytes = Unit {0}
 IsOfFiles refusal = IsOfReading refusal
 
 -- why a script has none: the line of this number is the first that is no command or changes no tables; or all lines are right, and the last one lacks its line
--- feed, or a file that one of them names can't be read, or has a text that is too long; or memory is refused
+-- feed, or there is no first line, or a file that one of them names can't be read, or has a text that is too long; or memory is refused
 abbrev pub RefusesCommands : (script : List ℕ) → Refusal → Type 0
 RefusesCommands script (BadScript number) =
     IsScriptOfChanges script (Err (BadLine number))
-    ⊎ ((lines : List PlainLine) × IsScriptOfChanges script (Ok lines) × (is_ended script ≡ false) × (number ≡ length lines))
+    ⊎ ((lines : List PlainLine) × IsScriptOfChanges script (Ok lines) × (is_ended script ≡ false) × (number ≡ max (length lines) 1))
 RefusesCommands script (Io File) = (lines : List PlainLine) × IsScriptOfChanges script (Ok lines)
 RefusesCommands script TooManyBytes = (lines : List PlainLine) × IsScriptOfChanges script (Ok lines)
 RefusesCommands script OutOfMemory = Unit {0}

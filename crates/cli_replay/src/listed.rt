@@ -77,8 +77,8 @@ fn listed_commands<'a, F: Read + OpenFile + Drop, H: Files<File = F> + AllocGlob
 /// schema of its table only when its turn comes.
 ///
 /// # Errors
-/// `BadScript` with the number of the first line that is no command or changes no tables, counted from 1, or of the last one if it lacks its line feed, since
-/// the script may be cut off; `Io` of a file if one can't be read; `TooManyBytes` if a text is longer than a stream may be; `OutOfMemory`.
+/// `BadScript` with the number of the first line that is no command or changes no tables, counted from 1, or of the last one if it lacks its line feed, or 1
+/// if there is no line, since the script may be cut off; `Io` of a file if one can't be read; `TooManyBytes` if a text is longer than a stream may be; `OutOfMemory`.
 pub fn script_commands<'a, F: Read + OpenFile + Drop, H: Files<File = F> + AllocGlobal>(
     rt: &H,
     script: &[u8],
@@ -90,7 +90,7 @@ pub fn script_commands<'a, F: Read + OpenFile + Drop, H: Files<File = F> + Alloc
 {
     let lines = changes_of(rt.alloc(), words)?;
     if !is_ended(script) {
-        return Err(Refusal::BadScript(lines.len() as u64));
+        return Err(Refusal::BadScript(lines.len().max(1) as u64));
     }
     listed_commands(rt, &lines)
 }

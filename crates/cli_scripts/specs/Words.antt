@@ -86,9 +86,9 @@ ends_empty parts = unwrap_or (option_map (λ (part : List ℕ). length part == 0
 unfoldable pub lines_of : List ℕ → List (List ℕ)
 lines_of script = let parts = slice_split (λ b. b == 10) script in if ends_empty parts then take (length parts - 1) parts else parts
 
--- the last line has its line feed, or there is no line: the script is not cut off within one
+-- there is a last line, and it has its line feed: the script is not cut off within a line or before the first one
 abbrev pub is_ended : (script : List ℕ) → Bool
-is_ended script = unwrap_or (option_map (λ (b : ℕ). b == 10) (slice_get script (length script - 1))) true
+is_ended script = unwrap_or (option_map (λ (b : ℕ). b == 10) (slice_get script (length script - 1))) false
 
 -- each line has its words, or none
 abbrev pub HaveWords : List (List ℕ) → List (Option (List (List ℕ))) → Type 0

@@ -147,13 +147,13 @@ fn lines_of(alloc: Global, script: &[u8]) -> Result<Vec<&[u8]>, AllocError>
     Ok(lines)
 }
 
-/// Returns whether the last line of a script has its line feed. If it has not, the script may be cut off. A script without lines lacks none.
+/// Returns whether a script has a last line, and this its line feed. If not, the script may be cut off, or what should have written it failed.
 pub fn is_ended(script: &[u8]) -> bool
     ensures { result ≡ is_ended script.now }
 {
     match script.last() {
         Some(last) => *last == b'\n',
-        None => true,
+        None => false,
     }
 }
 
