@@ -319,7 +319,7 @@ info_values file = read_as _ _ (info_app (codes "info")) (λ command own. sym ow
 compact_faultless : (steps file : Text) → is_number steps ≡ true
     → fault_of (compact_app (codes "compact")) (codes "compact" ∷ (codes "--steps=" ++ steps) ∷ codes "--" ∷ file ∷ []) ≡ []
 unfolding walked clap_on_literals
-compact_faultless steps file is = ap (λ (ok : Bool). past (number_kinds ok)) (number_accepted steps is)
+compact_faultless steps file is = ap (λ (ok : Bool). past (past (past (past (number_kinds ok))))) (number_accepted steps is)
 
 compact_values : (steps file : Text) → is_number steps ≡ true → AreReadAs (called (codes "compact" ∷ (codes "--steps=" ++ steps) ∷ codes "--" ∷ file ∷ []))
     ((codes "STORE", file ∷ []) ∷ (codes "steps", steps ∷ []) ∷ [])

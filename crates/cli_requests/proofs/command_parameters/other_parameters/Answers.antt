@@ -17,4 +17,5 @@ returns-in_default c =
     let import = other_word (codes "import") word other.not-import in
     let schema = other_word (codes "schema") word other.not-schema in
     let apply = other_word (codes "apply") word other.not-apply in
-    rw (format, copy, create, append, replay, info, import, schema, apply) refl
+    let compact = other_word (codes "compact") word other.not-compact in
+    rw (format, copy, create, append, replay, info, import, schema, apply, compact) refl
