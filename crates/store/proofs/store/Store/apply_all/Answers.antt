@@ -168,6 +168,10 @@ returns-in-Err-add-clause-count g c =
 
 -- ---- all are accepted
 
+none_left : {A : Type 0} (xs : List A) → length xs ≡ 0 → xs ≡ []
+none_left [] is = refl
+none_left (x ∷ xs) is = absurd (omega (arith, is))
+
 all_yielded : (front rest all : List Command) → front ++ rest ≡ all → rest ≡ [] → front ≡ all
 all_yielded front rest all parts none = sym (append-nil front) ∙ ap (λ (cs : List Command). front ++ cs) (sym none) ∙ parts
 
@@ -177,7 +181,7 @@ returns-clause-goes g c = λ told base m fits.
     let first = c.args.self.now in
     let was = c.loop-command.invariant in
     subst (λ (r : PlainReply). GoesOn D.size D.story D.failed base m (apply_call (list_of c.args.commands.items)) r first c.commit.new.self) (sym c.as_whole.ensures.reply)
-    (subst (λ (cs : List Command). GoesOn D.size D.story D.failed base m (apply_call (list_of cs)) (ended c.commit.result) first c.commit.new.self) (all_yielded c.loop-command.yielded (into_iter_items c.loop-command.command-iterator) c.args.commands.items was.parts c.in-None.ensures.steps)
+    (subst (λ (cs : List Command). GoesOn D.size D.story D.failed base m (apply_call (list_of cs)) (ended c.commit.result) first c.commit.new.self) (all_yielded c.loop-command.yielded (into_iter_items c.loop-command.command-iterator) c.args.commands.items was.parts (none_left _ (sym c.loop-command.command-iterator.rest.ok.0 ∙ c.in-None.ensures.steps.0)))
     (c.commit.ensures.goes first (map command_of c.loop-command.yielded) was.drafts told base m fits))
 
 pub returns-clause-applies : goal.returns-clause-applies
@@ -186,7 +190,7 @@ returns-clause-applies g c =
     let first = c.args.self.now in
     let was = c.loop-command.invariant in
     subst (λ (r : Result (Unit {0}) Refusal). Applies D.size D.story D.tells first (list_of c.args.commands.items) r c.commit.new.self) (sym c.as_whole.ensures.one)
-    (subst (λ (cs : List Command). Applies D.size D.story D.tells first (list_of cs) c.commit.result c.commit.new.self) (all_yielded c.loop-command.yielded (into_iter_items c.loop-command.command-iterator) c.args.commands.items was.parts c.in-None.ensures.steps)
+    (subst (λ (cs : List Command). Applies D.size D.story D.tells first (list_of cs) c.commit.result c.commit.new.self) (all_yielded c.loop-command.yielded (into_iter_items c.loop-command.command-iterator) c.args.commands.items was.parts (none_left _ (sym c.loop-command.command-iterator.rest.ok.0 ∙ c.in-None.ensures.steps.0)))
     (c.commit.ensures.applies first (map command_of c.loop-command.yielded) was.drafts))
 
 pub returns-clause-line : goal.returns-clause-line
