@@ -1,12 +1,15 @@
 -- Lines whose commands are added one by one: what they are so far, and how they are refused.
-use Rattle.std.specs.Prelude.{◌≡◌, ◌≢◌, ◌⊎◌, ◌++◌, ◌∷◌, ◌+◌, ◌<◌, ◌≤◌, ℕ, zero, suc, Bool, true, List, [], take, length, slice_get, Some, Result, Ok, Err, IfErr}
+use Rattle.std.specs.Prelude.{◌≡◌, ◌≢◌, ◌⊎◌, ◌++◌, ◌∷◌, ◌+◌, ◌<◌, ◌≤◌, ℕ, zero, suc, Bool, true, List, [], take, length, slice_get, Option, Some, None, option_map, unwrap_or, Result, Ok, Err, IfErr}
 use Rattle.std.proofs.Common.{◌∙◌, inl, inr, refl, sym, ap, subst, arith, append_assoc}
 use Rattle.std.proofs.lemmas.Bool.{cases_lt}
 use Rattle.std.proofs.lemmas.List.{length-append, take_at, take_all, take-append-le}
 use Rattle.sector_dev.specs.Disk.{Story, Image, now, shown_image}
 use Rattle.sector_dev.specs.Time.{OnlyReads}
 use Rattle.sector_dev.specs.declared.device.SectorDevice.{Ghosts}
-use Rattle.catalogue.specs.Entries.{PlainCatalogue, runs_of}
+use Rattle.arrow_schema.specs.Column.{PlainSchema}
+use Rattle.cells.specs.Cell.{Cell}
+use Rattle.facts.specs.Outcomes.{Reports}
+use Rattle.catalogue.specs.Entries.{PlainEntry, PlainCatalogue, runs_of}
 use Rattle.tables.specs.Commands.{PlainCommand, all_of, commands_of}
 use Rattle.tables.specs.Tables.{Tables}
 use Rattle.tables.specs.declared.refusal.Refusal as tables
@@ -27,13 +30,19 @@ use Rattle.store_runs.specs.Deciding.{AreBefore}
 use Rattle.store_runs.specs.Machine.{Machine}
 use Rattle.store_changes.specs.Draft.{laid, streams_of}
 use Rattle.store_changes.specs.Verdicts.{LeadsThrough}
+use Rattle.text_import.specs.declared.form.TextForm.{TextForm}
 use Rattle.text_import.specs.declared.refusal.Refused.{Refused}
+use Rattle.text_import.specs.declared.refusal.TextError.{TextError}
+use Rattle.text_import.specs.declared.refusal.TextError.TheVariants as texts
+use Rattle.text_import.specs.Form.{rows_of_text}
+use Rattle.text_import.specs.Refusals.{refused_by}
+use Rattle.cli_refusals.specs.Refusals.{text_refusal}
 use Rattle.cli_refusals.specs.declared.refusal.Refusal.{Refusal}
 use Rattle.cli_refusals.specs.declared.refusal.Refusal.TheVariants.{Io, Store, Text, OutOfMemory}
 use Rattle.cli_refusals.specs.declared.refusal.Side.TheVariants.{Output}
 use Rattle.cli_commands.specs.declared.applying.ListedCommand.{ListedCommand}
-use Rattle.cli_commands.specs.Applying.{FollowsList, IsOfLine, IsListedAt, AreListed, GivesLines, TextIsRefused, RefusesTextAt, RefusesLines, AnswersLines, HandsLines, AnswersList}
-use Rattle.cli_commands.specs.inner.Applying.{at_line, AddsLine, RefusesLine, EndsLine}
+use Rattle.cli_commands.specs.Applying.{FollowsList, IsOfLine, IsListedAt, AreListed, GivesLines, TextHasRows, TextIsRefused, RefusesTextAt, RefusesLines, AnswersLines, HandsLines, AnswersList}
+use Rattle.cli_commands.specs.inner.Applying.{at_line, HasOnlyRead, AddsLine, RefusesLine, EndsLine}
 
 pub follows_done : (done : Unit {0}) (result : Result (Unit {0}) Refusal) → IfErr result (λ e. e ≡ Io Output) → FollowsList (Ok done) result
 follows_done done (Ok unit) io = tt
@@ -258,3 +267,26 @@ none_answered tells image c lines P still halted r why answers = record {
     by_refusal reasons.Halted is = refl
     by_refusal reasons.OutOfMemory is = omega arith
     by_refusal _ is = absurd is
+
+-- ---- a text, for the schema that its table has by now
+
+pub text_has_rows : (form : TextForm) (found : Option PlainEntry) (s : PlainSchema) (text : List ℕ) (rows : List (List Cell)) → option_map (λ e. e.schema) found ≡ Some s → rows_of_text form s text ≡ Ok rows → TextHasRows form found text rows
+text_has_rows form None s text rows there is = tt
+text_has_rows form (Some e) s text rows there is = ap (λ t. rows_of_text form t text) (ap (λ o. unwrap_or o s) there) ∙ is
+
+-- where there is no table the text may have any rows
+pub text_unread : (form : TextForm) (found : Option PlainEntry) (text : List ℕ) (rows : List (List Cell)) → found ≡ None → TextHasRows form found text rows
+text_unread form None text rows none = tt
+text_unread form (Some e) text rows none = absurd (cc none)
+
+pub text_is_refused : (form : TextForm) (found : Option PlainEntry) (s : PlainSchema) (text : List ℕ) (refused : Refused) → option_map (λ e. e.schema) found ≡ Some s → rows_of_text form s text ≡ Err refused
+    → (entry : PlainEntry) × (found ≡ Some entry) × (rows_of_text form entry.schema text ≡ Err refused)
+text_is_refused form None s text refused there is = absurd (cc there)
+text_is_refused form (Some e) s text refused there is = (e, refl, ap (λ t. rows_of_text form t text) (ap (λ o. unwrap_or o s) there) ∙ is)
+
+-- why a text gave no rows
+pub text_ends : {D : Type 0} {g : Ghosts D} (size : D → ℕ) (story : D → Story) (failed : D → ℕ) (tells : Bool) (c : PlainCatalogue) (line : ListedCommand) (first : stores.Store D g) (given : List PlainCommand) (new : stores.Store D g)
+    (gives : Result (List (List Cell)) Refused) (e : TextError) → Reports (refused_by e) gives → ((refused : Refused) → gives ≡ Err refused → TextIsRefused c line refused) → HasOnlyRead size story failed tells first new
+    → EndsLine size story failed tells c line first given (text_refusal e) new
+text_ends size story failed tells c line first given new gives (texts.Refused refused) why is only = (is refused why, only)
+text_ends size story failed tells c line first given new gives texts.OutOfMemory why is only = only
