@@ -5,7 +5,7 @@ ghost use Rattle.catalogue.specs.Edits.{entry_of};
 ghost use Rattle.tables.specs.Commands.{PlainCommand, all_of, append_rows, commands_of};
 ghost use Rattle.tables.specs.Tables.{Tables};
 ghost use Rattle.tables.specs.View.{command_of};
-ghost use Rattle.store_runs.specs.Calls.{refused};
+ghost use Rattle.store_runs.specs.Calls.{refused, is_device_reply};
 ghost use Rattle.store_runs.specs.Machine.{Machine};
 ghost use Rattle.store_runs.specs.Reading.{ended};
 
@@ -13,7 +13,6 @@ use crate::Store;
 use crate::applying_all::ListRefusal;
 use crate::drafting::{add_line, heavy_line};
 use crate::listing::schema_named;
-use crate::reading::halts;
 use arrow_schema::Schema;
 use sector_dev::SectorDevice;
 use std::alloc::Global;
@@ -25,6 +24,13 @@ use tables::{Command, Refusal, commands_bring_tables};
 #[derive(Drop)]
 pub struct Transaction {
     pub(crate) draft: Draft,
+}
+
+// Returns whether a refusal halts the store, since its device failed.
+fn fails(refusal: Refusal) -> bool
+    ensures { result ≡ is_device_reply (refused refusal) }
+{
+    matches!(refusal, Refusal::Device)
 }
 
 impl<D: SectorDevice> Store<D> {
@@ -96,11 +102,12 @@ impl<D: SectorDevice> Store<D> {
         commands_bring_tables(&command);
         decisions_are_verdicts();
         let Transaction { draft } = transaction;
-        let next = add_line(alloc, &mut self.device, draft, command);
-        self.halted = halts(&next);
-        match next {
+        match add_line(alloc, &mut self.device, draft, command) {
             Ok(draft) => Ok(Transaction { draft }),
-            Err(refusal) => Err(refusal),
+            Err(refusal) => {
+                self.halted = fails(refusal);
+                Err(refusal)
+            }
         }
     }
 
@@ -152,7 +159,7 @@ impl<D: SectorDevice> Store<D> {
     {
         decisions_are_verdicts();
         let refusal = heavy_line(alloc, &mut self.device, &transaction.draft, name);
-        self.halted = matches!(refusal, Refusal::Device);
+        self.halted = fails(refusal);
         refusal
     }
 
