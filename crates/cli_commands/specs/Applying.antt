@@ -40,11 +40,13 @@ IsOfLine c (Text name form text) command =
     (rows : List (List Cell)) × TextHasRows form (entry_of c name.now) text.items rows × (command ≡ append_rows name.now rows)
 
 -- the command at this place is that of the line there, on the catalogue to which the commands before it lead
-pub record IsListedAt (tells : Bool) (from : ℕ) (image : Image) (c : PlainCatalogue) (lines : List ListedCommand) (commands : List PlainCommand) (place : ℕ) : Type 0 where
+pub record IsListedAt (tells : Bool) (image : Image) (c : PlainCatalogue) (lines : List ListedCommand) (commands : List PlainCommand) (place : ℕ) : Type 0 where
   pub line : ListedCommand
   pub at : slice_get lines place ≡ Some line
   pub command : PlainCommand
   pub has : slice_get commands place ≡ Some command
+  pub from : ℕ
+  pub before : AreBefore from (runs_of c)
   pub next : ℕ
   pub over : Image
   pub made : PlainCatalogue
@@ -53,10 +55,8 @@ pub record IsListedAt (tells : Bool) (from : ℕ) (image : Image) (c : PlainCata
 
 -- these are the commands of these lines, one after another from this catalogue on, if reads of the device show this image
 pub record AreListed (tells : Bool) (image : Image) (c : PlainCatalogue) (lines : List ListedCommand) (commands : List PlainCommand) : Type 0 where
-  pub from : ℕ
-  pub before : AreBefore from (runs_of c)
   pub count : length commands ≡ length lines
-  pub each : (place : ℕ) → place < length lines → IsListedAt tells from image c lines commands place
+  pub each : (place : ℕ) → place < length lines → IsListedAt tells image c lines commands place
 
 -- ---- the answer
 

@@ -88,13 +88,17 @@ fn add_text<D: SectorDevice>(
     ensures ends { IfErr result (λ e. WhereBegun D.size D.story D.failed D.tells store.old transaction (λ first given.
         EndsLine D.size D.story D.failed D.tells (drafted transaction) (ListedCommand.Text name form.now text) first given e store.new)) }
 {
-    let schema = store.schema_in(alloc, &transaction, name)?;
-    match take_rows(alloc, form, &schema, text, name)? {
-        Some(command) => Ok(store.add(alloc, transaction, command)?),
-        None => {
-            let refusal = store.refuse_heavy_rows_in(alloc, transaction, name);
-            Err(Refusal::Store(refusal))
-        }
+    match store.schema_in(alloc, &transaction, name) {
+        Ok(schema) => match take_rows(alloc, form, &schema, text, name)? {
+            Some(command) => Ok(store.add(alloc, transaction, command)?),
+            None => {
+                let refusal = store.refuse_heavy_rows_in(alloc, transaction, name);
+                Err(Refusal::Store(refusal))
+            }
+        },
+        Err(tables::Refusal::NoTable) => Err(Refusal::Store(tables::Refusal::NoTable)),
+        // A store with a transaction is not halted.
+        Err(_) => Err(Refusal::OutOfMemory),
     }
 }
 

@@ -56,7 +56,7 @@ same_reply (Whole r) quiet = refl
 
 module _ {D : Type 0} {g : Ghosts D} (size : D → ℕ) (story : D → Story) (failed : D → ℕ) (tells : Bool) (old new : Store D g) where
   -- reads with one reply are reads with another one that also fails, or also does not
-  reads_alike : (a b : PlainReply) → is_device_reply a ≡ is_device_reply b → OnlyReadsStore size story failed tells a old new → OnlyReadsStore size story failed tells b old new
+  pub reads_alike : (a b : PlainReply) → is_device_reply a ≡ is_device_reply b → OnlyReadsStore size story failed tells a old new → OnlyReadsStore size story failed tells b old new
   reads_alike a b same reads = record {
     device = record { same = reads.device.same; moments = reads.device.moments; count = subst (λ (t : Bool). failed new.device ≡ (if t then min (failed old.device + 1) (2 ^ 64 - 1) else failed old.device)) same reads.device.count };
     kept = reads.kept;
@@ -70,11 +70,11 @@ module _ {D : Type 0} {g : Ghosts D} (size : D → ℕ) (story : D → Story) (f
   -- ---- what is refused before anything is written
 
   pub applies_first : (c : PlainCommand) (r : Refusal) → old.halted ≡ false → OnlyReadsStore size story failed tells (refused r) old new → r ≢ refusals.Halted
-      → IsAnswered tells (shown_image (now (story old.device))) (listed_in old) c (Err r) → (reads_device c ≡ false → story new.device ≡ story old.device) → Applies size story tells old c (Err r) new
+      → IsAnswered tells (shown_image (now (story old.device))) (listed_in old) c (Err r) → (r ≢ refusals.Device → reads_device c ≡ false → story new.device ≡ story old.device) → Applies size story tells old c (Err r) new
   applies_first c r on reads other answered quiet = record {
     applied = λ off. record { decision = Err r; decides = answered; ends = refl };
     refused = read_kept size story failed tells old new (refused r) reads;
-    quiet = λ device plain. quiet plain;
+    quiet = quiet;
     reads = λ device told. reads.device.moments told;
     halted = (λ is. absurd (other (cc is)), λ off. absurd (true≢false (sym off ∙ on)));
     still = λ off. absurd (true≢false (sym off ∙ on));

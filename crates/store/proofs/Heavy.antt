@@ -16,19 +16,21 @@ use Rattle.cells.specs.Weight.{row_weight, table_weight}
 use Rattle.cells.specs.declared.limits.TheConstants.{MAX_TABLE_WEIGHT}
 use Rattle.values.specs.Table.{first_unfit}
 use Rattle.catalogue.specs.Edits.{entry_of}
-use Rattle.catalogue.specs.Entries.{PlainEntry, PlainCatalogue}
+use Rattle.catalogue.specs.Entries.{PlainEntry, PlainCatalogue, is_entry}
 use Rattle.tables.specs.declared.refusal.Limit.TheVariants as limits
 use Rattle.tables.specs.declared.refusal.Refusal.{Refusal}
 use Rattle.tables.specs.declared.refusal.Refusal.TheVariants as refusals
 use Rattle.tables.specs.Commands.{append_rows}
 use Rattle.store_runs.specs.Changes.{extend, rows_under}
 use Rattle.store_runs.specs.Deciding.{Addition, entry_added, of_entry, given_rows, decided_extension, pieces_put, IsAdded, IsAnswered}
-use Rattle.store_runs.specs.Reading.{ReadsTable, RefusesRead}
+use Rattle.store_runs.specs.Reading.{IsRead, Unreads, ReadsTable, RefusesRead}
 use Rattle.store_runs.specs.Calls.{refused}
+use Rattle.store_changes.specs.laws.SameReads.{Agree, read_alike, not_read_alike}
 use Rattle.store.specs.declared.store.Store.{Store}
 use Rattle.store.specs.Applying.{AreTooHeavy}
 use Rattle.store.specs.Reading.{OnlyReadsStore}
 use Rattle.store.proofs.Applied.{refused_by, read_halts}
+use Rattle.store.proofs.AtNames.{read_at, unread_at}
 
 none_found : (s : PlainSchema) (i : ℕ) (rows : List (List Cell)) → list_all (is_row s) rows ≡ true → position_from (λ row. not (is_row s row)) i rows ≡ None
 none_found s i [] all = refl
@@ -81,6 +83,25 @@ module _ (tells : Bool) (image : Image) (c : PlainCatalogue) (name : List ℕ) (
         told = refl;
         unread = unread;
       }))
+
+  -- the same in a list, where the table is read in the streams of a draft too: `seen` is what those reads show
+  module _ (seen : Image) (e : PlainEntry) (there : entry_of c name ≡ Some e) (sound : is_entry e ≡ true) (same : tells ≡ true → Agree seen image e.segments) where
+    pub heavy_drafted : (table : PlainTable) → IsRead tells seen e table → AreTooHeavy (entry_of c name) rows → IsAnswered tells image c (append_rows name rows) (Err (refusals.TooMany limits.Weight))
+    heavy_drafted table read heavy = heavy_told false table (read_at false tells image (entry_of c name) e table refl there (read_alike seen image tells e table sound same read)) heavy
+
+    unread_drafted : (r : Refusal) → Unreads tells seen e r → Unreads tells image e r
+    unread_drafted r unread =
+        let not = not_read_alike seen image tells (Some e) e (Err r) (λ x is. let own : e ≡ x = cc is in sym own) sound same (record { entry = e; tested = refl; refusal = r; told = refl; unread = unread }) in
+        let own : not.entry ≡ e = let tested = not.tested in cc tested in
+        let told : not.refusal ≡ r = let is = not.told in cc is in
+        subst (λ (q : Refusal). Unreads tells image e q) told (subst (λ (x : PlainEntry). Unreads tells image x not.refusal) own not.unread)
+
+    pub unread_in_draft : (r : Refusal) → Unreads tells seen e r → AreTooHeavy (entry_of c name) rows → IsAnswered tells image c (append_rows name rows) (Err r)
+    unread_in_draft r unread heavy = unread_told false r refl (unread_at false tells image (entry_of c name) e r refl there (unread_drafted r unread)) heavy
+
+  -- where there is no table
+  pub missing_told : entry_of c name ≡ None → IsAnswered tells image c (append_rows name rows) (Err refusals.NoTable)
+  missing_told none = inr (inr (subst (λ (o : Option PlainEntry). IsAdded tells image name (of_entry o (given_rows rows)) (Err refusals.NoTable)) (sym none) refl))
 
 -- a store that is not halted does not report that it is
 pub unread_on : (halted tells : Bool) (image : Image) (found : Option PlainEntry) (r : Refusal) → halted ≡ false → RefusesRead halted tells image found r → r ≢ refusals.Halted

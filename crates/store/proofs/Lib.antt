@@ -14,6 +14,7 @@ mod Roomed
 mod Applied
 mod AllApplied
 mod Listed
+mod Begun
 mod Replied
 mod Selected
 mod Spares

@@ -1,29 +1,19 @@
 -- The commands of a list, one after another, before anything is written.
-use Rattle.std.specs.Prelude.{◌≢◌, ◌⊎◌, ◌||◌, ◌+◌, ◌-◌, ◌^◌, min, slice_get, if◌then◌else◌}
-use Rattle.std.proofs.Common.{◌≡◌, ◌++◌, ◌∙◌, ◌≤◌, ℕ, zero, suc, Bool, true, false, List, [], ◌∷◌, Some, map, take, length, Ok, Err, inl, inr, refl, sym, ap, subst, arith}
+use Rattle.std.specs.Prelude.{◌≢◌, ◌⊎◌, ◌||◌, ◌+◌, slice_get}
+use Rattle.std.proofs.Common.{◌≡◌, ◌++◌, ◌∙◌, ◌≤◌, ℕ, zero, suc, Bool, true, false, List, [], ◌∷◌, Some, take, length, Ok, Err, inl, inr, refl, sym, ap, subst, arith}
 use Rattle.std.proofs.lemmas.Bool.{true≢false}
-use Rattle.std.proofs.lemmas.List.{map-append, length-map, length-append, take_at}
-use Rattle.sector_dev.specs.Disk.{Story, Image}
+use Rattle.std.proofs.lemmas.List.{length-append, take_at}
+use Rattle.sector_dev.specs.Disk.{Image}
 use Rattle.catalogue.specs.Entries.{PlainCatalogue, runs_of}
-use Rattle.catalogue.specs.View.{catalogue_of}
-use Rattle.tables.specs.declared.command.Command.{Command}
 use Rattle.tables.specs.declared.refusal.Refusal.{Refusal}
 use Rattle.tables.specs.declared.refusal.Refusal.TheVariants as refusals
 use Rattle.tables.specs.declared.refusal.Limit.TheVariants as limits
 use Rattle.tables.specs.Commands.{PlainCommand, commands_of}
-use Rattle.tables.specs.View.{command_of}
-use Rattle.store_runs.specs.Calls.{refused, is_failure}
+use Rattle.store_runs.specs.Calls.{refused, is_failure, is_device_reply}
 use Rattle.store_runs.specs.Changes.{PlainChange}
 use Rattle.store_runs.specs.Deciding.{AreBefore, reads_device, any_reads_device, ExceedsSegments, IsDecided}
-use Rattle.store_runs.specs.Reading.{OnlyReadsDevice}
-use Rattle.store_changes.specs.declared.drafting.Draft.{Draft}
-use Rattle.store_changes.specs.Draft.{laid, streams_of}
 use Rattle.store_changes.specs.Verdicts.{LeadsThrough, EndsAtLine, IsRefusedAt}
-use Rattle.store.specs.declared.applying_all.ListRefusal.{ListRefusal}
-use Rattle.store.specs.declared.applying_all.ListRefusal.TheVariants.{At, Whole}
-use Rattle.store.specs.Lists.{refusal_of, ended_by, RefusesList}
-use Rattle.store.specs.inner.Drafting.{IsToldAt}
-use Rattle.store.proofs.Applied.{is_device}
+use Rattle.store.specs.Lists.{refusal_of, refusal_at, ended_by, RefusesList}
 
 -- ---- the device is read for some of them alone
 
@@ -41,18 +31,20 @@ first_none false false c is = (refl, refl)
 first_none false true c is = absurd (true≢false is)
 first_none true b c is = absurd (true≢false is)
 
--- none of those so far, and the next one neither
-pub none_read : (front : List Command) (command : Command) (rest all : List Command) → front ++ command ∷ rest ≡ all → any_reads_device (commands_of (map command_of all)) ≡ false
-    → (any_reads_device (commands_of (map command_of front)) ≡ false) × (reads_device (command_of command) ≡ false)
-none_read front command rest all parts none =
-    let whole : map command_of all ≡ map command_of front ++ command_of command ∷ map command_of rest = ap (map command_of) (sym parts) ∙ map-append command_of front (command ∷ rest) in
-    first_none (any_reads_device (commands_of (map command_of front))) (reads_device (command_of command)) (any_reads_device (commands_of (map command_of rest)))
-    (sym (any_both (map command_of front) (command_of command ∷ map command_of rest)) ∙ ap (λ (cs : List PlainCommand). any_reads_device (commands_of cs)) (sym whole) ∙ none)
+-- none of those so far, and one more neither
+pub none_more : (xs : List PlainCommand) (x : PlainCommand) → any_reads_device (commands_of (xs ++ x ∷ [])) ≡ false → (any_reads_device (commands_of xs) ≡ false) × (reads_device x ≡ false)
+none_more xs x none = first_none (any_reads_device (commands_of xs)) (reads_device x) false (sym (any_both xs (x ∷ [])) ∙ none)
+
+-- where none of them does, none of the first ones does
+pub none_in_front : (xs : List PlainCommand) (x : PlainCommand) (ys : List PlainCommand) → any_reads_device (commands_of (xs ++ x ∷ ys)) ≡ false → any_reads_device (commands_of (xs ++ x ∷ [])) ≡ false
+none_in_front xs x ys none =
+    let both = first_none (any_reads_device (commands_of xs)) (reads_device x) (any_reads_device (commands_of ys)) (sym (any_both xs (x ∷ ys)) ∙ none) in
+    any_both xs (x ∷ []) ∙ ap (λ (b : Bool). b || (reads_device x || false)) both.0 ∙ ap (λ (b : Bool). b || false) both.1
 
 -- ---- where they end
 
-pub within : (front : List Command) (command : Command) (rest all : List Command) → front ++ command ∷ rest ≡ all → length front + 1 ≤ length all
-within front command rest all parts = let sum = length-append front (command ∷ rest) in let same = ap (λ (cs : List Command). length cs) parts in omega (arith, sum, same)
+pub within : {A : Type 0} (front : List A) (x : A) (rest all : List A) → front ++ x ∷ rest ≡ all → length front + 1 ≤ length all
+within {A} front x rest all parts = let sum = length-append front (x ∷ rest) in let same = ap (λ (xs : List A). length xs) parts in omega (arith, sum, same)
 
 get_behind : {A : Type 0} (xs : List A) (x : A) (ys : List A) (n : ℕ) → length xs ≡ n → slice_get (xs ++ x ∷ ys) n ≡ Some x
 get_behind [] x ys zero is = refl
@@ -60,60 +52,57 @@ get_behind [] x ys (suc n) is = absurd (omega (arith, is))
 get_behind (y ∷ xs) x ys zero is = absurd (omega (arith, is))
 get_behind (y ∷ xs) x ys (suc n) is = get_behind xs x ys n (omega (arith, is))
 
-pub ends_there : (tells : Bool) (image : Image) (c : PlainCatalogue) (from : ℕ) (d : Draft) (front : List Command) (command : Command) (rest all : List Command) (place : ℕ) (r : Refusal) → AreBefore from (runs_of c)
-    → place ≡ length front → front ++ command ∷ rest ≡ all → LeadsThrough tells from image c (map command_of front) d.next (laid d.from (streams_of d) image) (catalogue_of d.made)
-    → EndsAtLine tells d.next (laid d.from (streams_of d) image) (catalogue_of d.made) (command_of command) r → IsRefusedAt tells image c (map command_of all) place r
-ends_there tells image c from d front command rest all place r before size parts leads ends =
-    let fronts = map command_of front in
-    let x = command_of command in
-    let others = map command_of rest in
-    let over = laid d.from (streams_of d) image in
-    let made = catalogue_of d.made in
-    let whole : map command_of all ≡ fronts ++ x ∷ others = ap (map command_of) (sym parts) ∙ map-append command_of front (command ∷ rest) in
-    let count : length fronts ≡ place = length-map front command_of ∙ sym size in
-    let first : take place (map command_of all) ≡ fronts = ap (take place) whole ∙ take_at fronts (x ∷ others) place count in
-    record {
-      from = from;
-      before = before;
-      next = d.next;
-      over = over;
-      made = made;
-      leads = subst (λ (cs : List PlainCommand). LeadsThrough tells from image c cs d.next over made) (sym first) leads;
-      command = x;
-      at = ap (λ (cs : List PlainCommand). slice_get cs place) whole ∙ get_behind fronts x others place count;
-      ends = ends;
-    }
+module _ (tells : Bool) (image : Image) (c : PlainCatalogue) where
+  pub ends_there : (from : ℕ) (front : List PlainCommand) (next : ℕ) (over : Image) (made : PlainCatalogue) (x : PlainCommand) (r : Refusal) → AreBefore from (runs_of c)
+      → LeadsThrough tells from image c front next over made → EndsAtLine tells next over made x r → IsRefusedAt tells image c (front ++ x ∷ []) (length front) r
+  ends_there from front next over made x r before leads ends =
+      let first : take (length front) (front ++ x ∷ []) ≡ front = take_at front (x ∷ []) (length front) refl in
+      record {
+        from = from;
+        before = before;
+        next = next;
+        over = over;
+        made = made;
+        leads = subst (λ (cs : List PlainCommand). LeadsThrough tells from image c cs next over made) (sym first) leads;
+        command = x;
+        at = get_behind front x [] (length front) refl;
+        ends = ends;
+      }
+
+  -- others behind it change nothing
+  pub ends_in_front : (front : List PlainCommand) (x : PlainCommand) (others : List PlainCommand) (r : Refusal) → IsRefusedAt tells image c (front ++ x ∷ []) (length front) r → IsRefusedAt tells image c (front ++ x ∷ others) (length front) r
+  ends_in_front front x others r is =
+      let short : take (length front) (front ++ x ∷ []) ≡ front = take_at front (x ∷ []) (length front) refl in
+      let long : take (length front) (front ++ x ∷ others) ≡ front = take_at front (x ∷ others) (length front) refl in
+      let own : Some is.command ≡ Some x = sym is.at ∙ get_behind front x [] (length front) refl in
+      record {
+        from = is.from;
+        before = is.before;
+        next = is.next;
+        over = is.over;
+        made = is.made;
+        leads = subst (λ (cs : List PlainCommand). LeadsThrough tells is.from image c cs is.next is.over is.made) (short ∙ sym long) is.leads;
+        command = is.command;
+        at = get_behind front x others (length front) refl ∙ sym own;
+        ends = is.ends;
+      }
 
 -- ---- how they are refused
 
-pub told_refusal : (place : ℕ) (r : Refusal) (e : ListRefusal) → IsToldAt place r e → refusal_of e ≡ r
-told_refusal place r (At p q) told = told.1
-told_refusal place r (Whole q) told = told.0
+pub refusal_of_at : (place : ℕ) (r : Refusal) → refusal_of (refusal_at place r) ≡ r
+refusal_of_at place refusals.Device = refl
+refusal_of_at place refusals.OutOfMemory = refl
+refusal_of_at place _ = refl
 
-pub told_list : (tells : Bool) (image : Image) (c : PlainCatalogue) (commands : List PlainCommand) (place : ℕ) (r : Refusal) (e : ListRefusal) → IsToldAt place r e → IsRefusedAt tells image c commands place r → RefusesList tells image c commands e
-told_list tells image c commands place r (At p q) (here, same, device, memory) is = (
-  (λ x. device (sym same ∙ x)),
-  (λ x. memory (sym same ∙ x)),
-  subst (λ (n : ℕ). IsRefusedAt tells image c commands n q) (sym here) (subst (λ (x : Refusal). IsRefusedAt tells image c commands place x) (sym same) is),
-)
-told_list tells image c commands place r (Whole q) (same, inl device) is = inr (same ∙ device, (place, subst (λ (x : Refusal). IsRefusedAt tells image c commands place x) (sym same) is))
-told_list tells image c commands place r (Whole q) (same, inr memory) is = inl (same ∙ memory)
+pub reply_at : (place : ℕ) (r : Refusal) → is_device_reply (ended_by (refusal_at place r)) ≡ is_device_reply (refused r)
+reply_at place refusals.Device = refl
+reply_at place refusals.OutOfMemory = refl
+reply_at place _ = refl
 
-no_device : (r : Refusal) → r ≢ refusals.Device → is_failure r ≡ false
-no_device r other = by_test (is_failure r) refl
-  where
-    by_test : (b : Bool) → is_failure r ≡ b → b ≡ false
-    by_test false is = refl
-    by_test true is = absurd (other (is_device r is))
-
-pub reads_told : {D : Type 0} (size : D → ℕ) (story : D → Story) (failed : D → ℕ) (tells : Bool) (place : ℕ) (r : Refusal) (e : ListRefusal) (a b : D) → IsToldAt place r e → OnlyReadsDevice size story failed tells (refused r) a b
-    → OnlyReadsDevice size story failed tells (ended_by e) a b
-reads_told size story failed tells place r (At p q) a b (here, same, device, memory) reads = record {
-  same = reads.same;
-  moments = reads.moments;
-  count = reads.count ∙ ap (λ (f : Bool). if f then min (failed a + 1) (2 ^ 64 - 1) else failed a) (no_device r device);
-}
-reads_told size story failed tells place r (Whole q) a b (same, why) reads = subst (λ (x : Refusal). OnlyReadsDevice size story failed tells (refused x) a b) (sym same) reads
+pub refuses_at : (tells : Bool) (image : Image) (c : PlainCatalogue) (commands : List PlainCommand) (place : ℕ) (r : Refusal) → IsRefusedAt tells image c commands place r → RefusesList tells image c commands (refusal_at place r)
+refuses_at tells image c commands place refusals.Device is = inr (refl, (place, is))
+refuses_at tells image c commands place refusals.OutOfMemory is = inl refl
+refuses_at tells image c commands place _ is = ((λ e. cc e), (λ e. cc e), is)
 
 -- ---- one command more
 

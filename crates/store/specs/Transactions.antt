@@ -4,13 +4,13 @@ use Rattle.std.specs.List.{AllByRecursion}
 use Rattle.sector_dev.specs.Disk.{Story, now, shown_image}
 use Rattle.sector_dev.specs.Time.{OnlyReads}
 use Rattle.sector_dev.specs.declared.device.SectorDevice.{Ghosts}
-use Rattle.catalogue.specs.Entries.{PlainCatalogue}
+use Rattle.catalogue.specs.Entries.{PlainCatalogue, runs_of}
 use Rattle.catalogue.specs.View.{catalogue_of}
 use Rattle.tables.specs.declared.refusal.Refusal.{Refusal}
 use Rattle.tables.specs.Tables.{Tables}
 use Rattle.tables.specs.Commands.{PlainCommand, all_of, commands_of, BringsTables}
 use Rattle.store_runs.specs.Calls.{apply_call, done, counted}
-use Rattle.store_runs.specs.Deciding.{any_reads_device}
+use Rattle.store_runs.specs.Deciding.{AreBefore, any_reads_device}
 use Rattle.store_runs.specs.Machine.{Machine}
 use Rattle.store_runs.specs.Steps.{IsNoList}
 use Rattle.store_changes.specs.Draft.{laid, streams_of, IsDraft}
@@ -33,6 +33,7 @@ drafted transaction = catalogue_of transaction.draft.made
 pub record Drafts {D : Type 0} {g : Ghosts D} (size : D → ℕ) (story : D → Story) (failed : D → ℕ) (tells : Bool) (first store : Store D g) (transaction : Transaction)
     (commands : List PlainCommand) : Type 0 where
   pub on : is_halted first ≡ false
+  pub before : AreBefore (size (device_of first)) (runs_of (listed_in first))
   pub reads : OnlyReadsStore size story failed tells done first store
   pub still : any_reads_device (commands_of commands) ≡ false → story (device_of store) ≡ story (device_of first)
   pub single : AllByRecursion IsNoList commands

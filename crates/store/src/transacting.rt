@@ -5,7 +5,7 @@ ghost use Rattle.catalogue.specs.Edits.{entry_of};
 ghost use Rattle.tables.specs.Commands.{PlainCommand, all_of, append_rows, commands_of};
 ghost use Rattle.tables.specs.Tables.{Tables};
 ghost use Rattle.tables.specs.View.{command_of};
-ghost use Rattle.store_runs.specs.Calls.{refused};
+ghost use Rattle.store_runs.specs.Calls.{refused, is_device_reply};
 ghost use Rattle.store_runs.specs.Machine.{Machine};
 ghost use Rattle.store_runs.specs.Reading.{ended};
 
@@ -25,6 +25,13 @@ use tables::{Command, Refusal, commands_bring_tables};
 #[derive(Drop)]
 pub struct Transaction {
     pub(crate) draft: Draft,
+}
+
+// Returns whether a refusal halts the store, since its device failed.
+fn fails(refusal: Refusal) -> bool
+    ensures { result ≡ is_device_reply (refused refusal) }
+{
+    matches!(refusal, Refusal::Device)
 }
 
 impl<D: SectorDevice> Store<D> {
@@ -152,7 +159,7 @@ impl<D: SectorDevice> Store<D> {
     {
         decisions_are_verdicts();
         let refusal = heavy_line(alloc, &mut self.device, &transaction.draft, name);
-        self.halted = matches!(refusal, Refusal::Device);
+        self.halted = fails(refusal);
         refusal
     }
 

@@ -60,6 +60,8 @@ mod stops;
 #[cfg(test)]
 mod summaries;
 #[cfg(test)]
+mod transactions;
+#[cfg(test)]
 mod versions;
 #[cfg(test)]
 mod weights;

@@ -4,6 +4,7 @@ use crate::made::{NotMade, assert_no_row};
 use crate::playing::{Slot, answer, is_played, new_slot, shut};
 use crate::shown::contents;
 use crate::steps::{Step, Steps, commands_of, says};
+use crate::transactions::{reply_one_by_one, tells_each_schema};
 use Input::Ints;
 use Step::{Append, Create, Format, Import, Remove, Rename, Save};
 use std::alloc::Global;
@@ -97,23 +98,76 @@ const REFUSED: &[Row] = &[
     ),
 ];
 
-fn reply_of(alloc: Global, slot: &mut Slot, steps: &[Step]) -> Result<Reply, NotMade> {
-    let call = store::Call::ApplyAll(commands_of(alloc, steps)?);
-    answer(alloc, slot, call).ok_or(NotMade)
+// How commands are given.
+#[derive(Clone, Copy)]
+enum Handing {
+    Together,
+    OneByOne,
 }
 
-fn is_well_on(alloc: Global, slot: &mut Slot, row: &Row) -> Result<bool, NotMade> {
+// The commands that are added one by one, each with what is told then of the schema of the table `s`.
+const SCHEMAS: &[Steps] = &[
+    &[
+        (Create("s", &["b:utf8"]), "\"b\":utf8"),
+        (Rename("s", "r"), "S1 NoTable"),
+        (Import("s", Ints(&[1])), "\"a\":int32?"),
+        (Append("s", Ints(&[2])), "\"a\":int32?"),
+        (Remove("s"), "S1 NoTable"),
+        (Rename("r", "s"), "\"b\":utf8"),
+        (Remove("t"), "\"b\":utf8"),
+    ],
+    &[
+        (Append("t", Ints(&[3])), "S1 NoTable"),
+        (Save("t", "s", (&[], &["a >= 0"], None)), "\"a\":int32?"),
+        (Import("s", Ints(&[])), "\"a\":int32?"),
+    ],
+];
+
+fn reply_of(
+    alloc: Global,
+    slot: &mut Slot,
+    steps: &[Step],
+    handing: Handing,
+) -> Result<Reply, NotMade> {
+    let commands = commands_of(alloc, steps)?;
+    match handing {
+        Handing::Together => { answer(alloc, slot, store::Call::ApplyAll(commands)).ok_or(NotMade) }
+        Handing::OneByOne => reply_one_by_one(alloc, slot, commands),
+    }
+}
+
+fn is_well_on(
+    alloc: Global,
+    slot: &mut Slot,
+    row: &Row,
+    handing: Handing,
+) -> Result<bool, NotMade> {
     let (steps, want, after) = *row;
     if !is_played(alloc, slot, BEFORE)? {
         return Err(NotMade);
     }
-    let told = says(alloc, &reply_of(alloc, slot, steps)?, want)?;
+    let told = says(alloc, &reply_of(alloc, slot, steps, handing)?, want)?;
     Ok(told && contents(alloc, &mut shut(slot)?)?.as_str() == after)
 }
 
-fn wrong_row(alloc: Global, rows: &[Row]) -> Result<Option<usize>, NotMade> {
+fn wrong_row(alloc: Global, rows: &[Row], handing: Handing) -> Result<Option<usize>, NotMade> {
     for (place, row) in rows.iter().enumerate() {
-        if !is_well_on(alloc, &mut new_slot(alloc, 32)?, row)? {
+        if !is_well_on(alloc, &mut new_slot(alloc, 32)?, row, handing)? {
+            return Ok(Some(place));
+        }
+    }
+    Ok(None)
+}
+
+fn wrong_schemas(alloc: Global) -> Result<Option<usize>, NotMade> {
+    for (place, steps) in SCHEMAS.iter().enumerate() {
+        let mut slot = new_slot(alloc, 32)?;
+        if !is_played(alloc, &mut slot, BEFORE)? {
+            return Err(NotMade);
+        }
+        let told = tells_each_schema(alloc, &mut slot, "s", steps)?;
+        // nothing of them is done
+        if !told || contents(alloc, &mut shut(&mut slot)?)?.as_str() != "t: 7 -1, u:" {
             return Ok(Some(place));
         }
     }
@@ -122,10 +176,25 @@ fn wrong_row(alloc: Global, rows: &[Row]) -> Result<Option<usize>, NotMade> {
 
 #[test]
 fn several_commands_are_done_as_one(rt: HostRuntime) {
-    assert_no_row(&rt, wrong_row(rt.alloc(), DONE));
+    assert_no_row(&rt, wrong_row(rt.alloc(), DONE, Handing::Together));
 }
 
 #[test]
 fn the_first_refused_command_refuses_all(rt: HostRuntime) {
-    assert_no_row(&rt, wrong_row(rt.alloc(), REFUSED));
+    assert_no_row(&rt, wrong_row(rt.alloc(), REFUSED, Handing::Together));
+}
+
+#[test]
+fn commands_that_are_added_one_by_one_are_done_as_one(rt: HostRuntime) {
+    assert_no_row(&rt, wrong_row(rt.alloc(), DONE, Handing::OneByOne));
+}
+
+#[test]
+fn a_refused_command_refuses_those_that_were_added(rt: HostRuntime) {
+    assert_no_row(&rt, wrong_row(rt.alloc(), REFUSED, Handing::OneByOne));
+}
+
+#[test]
+fn each_schema_is_told_before_anything_is_done(rt: HostRuntime) {
+    assert_no_row(&rt, wrong_schemas(rt.alloc()));
 }

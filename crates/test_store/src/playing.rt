@@ -70,8 +70,9 @@ fn applied(alloc: Global, store: &mut Store<ModelDevice>, command: Command) -> R
     }
 }
 
-fn all_applied(alloc: Global, store: &mut Store<ModelDevice>, commands: Vec<Command>) -> Reply {
-    match store.apply_all(alloc, commands) {
+/// Returns how several commands as one are answered.
+pub fn list_reply(ended: Result<(), ListRefusal>) -> Reply {
+    match ended {
         Ok(()) => Reply::Done,
         Err(ListRefusal::At { place, refusal }) => Reply::RefusedAt { place, refusal },
         Err(ListRefusal::Whole(refusal)) => Reply::Refused(refusal),
@@ -178,7 +179,7 @@ fn compacted(alloc: Global, store: &mut Store<ModelDevice>) -> Reply {
 fn reply_of(alloc: Global, store: &mut Store<ModelDevice>, call: Call) -> Reply {
     match call {
         Call::Apply(command) => applied(alloc, store, command),
-        Call::ApplyAll(commands) => all_applied(alloc, store, commands),
+        Call::ApplyAll(commands) => list_reply(store.apply_all(alloc, commands)),
         Call::ImportFrom { name, reader } => imported(alloc, store, &name, reader),
         Call::AppendFrom { name, reader } => appended(alloc, store, &name, reader),
         Call::Tables => listed(alloc, store),

@@ -135,7 +135,8 @@ fn removal(alloc: Global, name: &str) -> Result<Command, NotMade> {
     Ok(Command::Drop { name })
 }
 
-fn command_of(alloc: Global, step: Step) -> Result<Command, NotMade> {
+/// Returns the command of a step.
+pub fn command_of(alloc: Global, step: Step) -> Result<Command, NotMade> {
     match step {
         Step::Create(name, columns) => creation(alloc, name, columns),
         Step::Import(name, input) => import(alloc, name, input),

@@ -28,7 +28,7 @@ at_line number (Text refused) = TextLine number refused
 at_line number refusal = refusal
 
 -- a store that was only read stands for the same machine
-pub record IsOnlyRead {D : Type 0} {g : Ghosts D} (size : D → ℕ) (story : D → Story) (failed : D → ℕ) (tells : Bool) (first new : stores.Store D g) : Type 0 where
+pub record HasOnlyRead {D : Type 0} {g : Ghosts D} (size : D → ℕ) (story : D → Story) (failed : D → ℕ) (tells : Bool) (first new : stores.Store D g) : Type 0 where
   pub reads : OnlyReadsStore size story failed tells done first new
   pub fits : tells ≡ true → (base : Tables) (m : Machine) → StoreFits size story base m first → StoreFits size story base m new
 
@@ -50,6 +50,6 @@ pub record RefusesLine {D : Type 0} {g : Ghosts D} (size : D → ℕ) (story : D
 abbrev pub EndsLine : {D : Type 0} {g : Ghosts D} → (size : D → ℕ) → (story : D → Story) → (failed : D → ℕ) → (tells : Bool) → PlainCatalogue → ListedCommand
     → (first : stores.Store D g) → (commands : List PlainCommand) → Refusal → (new : stores.Store D g) → Type 0
 EndsLine size story failed tells c line first commands (Store r) new = RefusesLine size story failed tells c line first commands r new
-EndsLine size story failed tells c line first commands (Text refused) new = TextIsRefused c line refused × IsOnlyRead size story failed tells first new
-EndsLine size story failed tells c line first commands OutOfMemory new = IsOnlyRead size story failed tells first new
+EndsLine size story failed tells c line first commands (Text refused) new = TextIsRefused c line refused × HasOnlyRead size story failed tells first new
+EndsLine size story failed tells c line first commands OutOfMemory new = HasOnlyRead size story failed tells first new
 EndsLine size story failed tells c line first commands _ new = ⊥

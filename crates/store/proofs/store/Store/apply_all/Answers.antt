@@ -1,146 +1,202 @@
-use Rattle.std.specs.Prelude.{ℕ, IfErr, OnOk}
-use Rattle.std.proofs.Common.{◌≡◌, Bool, true, false, Some, List, map, Result, Ok, Err, refl, sym, ap, ◌∙◌, subst}
-use Rattle.sector_dev.specs.Disk.{now, shown_image}
-use Rattle.segments.specs.laws.Usages.{or_false}
+use Rattle.std.specs.Vec.Iter.{into_iter_items}
+use Rattle.std.proofs.Common.{◌≡◌, ◌++◌, ◌∷◌, [], ℕ, Bool, Some, Err, List, map, length, Result, refl, sym, ap, ◌∙◌, subst, arith, append_assoc, length_push}
+use Rattle.std.proofs.lemmas.Bool.{true≢false}
+use Rattle.std.proofs.lemmas.List.{map-append, length-map}
+use Rattle.sector_dev.specs.Disk.{Image, now, shown_image}
+use Rattle.catalogue.specs.Entries.{PlainCatalogue}
 use Rattle.catalogue.specs.laws.Kept.{catalogue_is}
-use Rattle.catalogue.specs.View.{catalogue_of}
-use Rattle.commit.specs.declared.recovery.Opened.{Opened}
-use Rattle.pages.specs.declared.stored.StoredCatalogue.{StoredCatalogue}
 use Rattle.tables.specs.declared.command.Command.{Command}
 use Rattle.tables.specs.declared.refusal.Refusal.{Refusal}
-use Rattle.tables.specs.Commands.{BringsTables}
-use Rattle.tables.specs.Verdict.{verdict}
+use Rattle.tables.specs.Commands.{PlainCommand, BringsTables, commands_of}
 use Rattle.tables.specs.View.{command_of, list_of}
-use Rattle.store_runs.specs.Calls.{PlainReply, apply_call, done, counted}
-use Rattle.store_runs.specs.Changes.{PlainChange, CanChange}
-use Rattle.store_runs.specs.Deciding.{IsDecided}
+use Rattle.store_runs.specs.Calls.{PlainReply, apply_call, counted, refused}
+use Rattle.store_runs.specs.Deciding.{any_reads_device}
 use Rattle.store_runs.specs.Held.{tables_held}
 use Rattle.store_runs.specs.Machine.{tables_now}
 use Rattle.store_runs.specs.Reading.{ended}
-use Rattle.store_changes.specs.Change.{change_of}
+use Rattle.store_changes.specs.Verdicts.{IsRefusedAt}
+use Rattle.store_changes.specs.laws.Leading.{refusal_answered}
+use Rattle.store.specs.declared.applying_all.ListRefusal.{ListRefusal}
 use Rattle.store.specs.Answering.{Applies}
 use Rattle.store.specs.Applying.{GoesOn}
 use Rattle.store.specs.Fits.{setting_of, listed_in}
-use Rattle.store.specs.Lists.{refusal_of}
+use Rattle.store.specs.Lists.{refusal_at, ended_by, refusal_of, ended_list, NamesLine}
+use Rattle.store.specs.Reading.{OnlyReadsStore}
+use Rattle.store.specs.Transactions.{Drafts}
+use Rattle.store.proofs.AllApplied.{reads_alike, applies_first, names_line, whole_line, single_commands, goes_refused}
 use Rattle.store.proofs.Asked.{is_running}
-use Rattle.store.proofs.ReadsStore.{shown, fits_reading}
-use Rattle.store.proofs.Applied.{refuses_halted, goes_after, tells_command, decided_after}
-use Rattle.store.proofs.AllApplied.{no_failure, reads_one, applies_first, applies_halted, applies_then, list_answered, names_line, whole_line, single_commands, goes_refused}
-use Rattle.store.proofs.Goings.{carried_goes}
+use Rattle.store.proofs.Begun.{reads_after}
+use Rattle.store.proofs.Listed.{none_in_front, within, ends_in_front, refusal_of_at, reply_at, refuses_at}
+use Rattle.store.proofs.ReadsStore.{shown}
 use Rattle.store.proofs.store.Store.apply_all.Goals as goal
 
--- where it was done
-told_done : (A B : Type 0) (tells : Bool) (result : Result (Unit {0}) Refusal) → tells ≡ true → A → OnOk result (tells ≡ true → A → B) → OnOk result B
-told_done A B tells (Ok unit) told on does = does told on
-told_done A B tells (Err e) told on does = tt
+-- ---- they are not begun
 
--- ---- a store that is halted
+pub returns-in-Err-clause-goes : goal.returns-in-Err-clause-goes
+returns-in-Err-clause-goes g c = λ told base m fits. (c.in-Err.ensures.refused (map command_of c.args.commands.items)).goes told base m fits
 
-pub returns-then-self-clause-goes : goal.returns-then-self-clause-goes
-returns-then-self-clause-goes g c = λ told base m fits.
-    let D = g.D.SectorDevice in refuses_halted D.size D.story D.failed base m (list_of c.args.commands.items) c.args.self.now c.if-self.true fits
+pub returns-in-Err-clause-applies : goal.returns-in-Err-clause-applies
+returns-in-Err-clause-applies g c = (c.in-Err.ensures.refused (map command_of c.args.commands.items)).applies
 
-pub returns-then-self-clause-applies : goal.returns-then-self-clause-applies
-returns-then-self-clause-applies g c =
-    let D = g.D.SectorDevice in applies_halted D.size D.story D.tells c.args.self.now (list_of c.args.commands.items) c.if-self.true
+pub returns-in-Err-clause-count : goal.returns-in-Err-clause-count
+returns-in-Err-clause-count g c = (c.in-Err.ensures.refused (map command_of c.args.commands.items)).count
+
+pub loop-command-init : goal.loop-command-init
+loop-command-init g c = record {
+  next = tt;
+  ends = tt;
+  drafts = c.in-Ok.ensures.drafts;
+  place = omega arith;
+  parts = c.into_iter-command-iterator.ensures.into_iter_gives.0;
+}
+
+-- ---- one more
+
+pub add-requires : goal.add-requires
+add-requires g c = record { first = c.args.self.now; commands = map command_of c.loop-command.yielded; drafts = c.loop-command.invariant.drafts }
+
+pub overflow_add-place : goal.overflow_add-place
+overflow_add-place g c =
+    let here = c.loop-command.invariant.place in
+    let few = within c.loop-command.yielded c.in-Some.command (into_iter_items c.next.new.self) c.args.commands.items (ap (λ (cs : List Command). c.loop-command.yielded ++ cs) (sym c.in-Some.ensures.steps.0) ∙ c.loop-command.invariant.parts) in
+    let count = c.args.commands.ok.0 in
+    let most = c.args.commands.ok.1 in
+    let small = c.args.commands.small in
+    omega (arith, here, few, count, most, small)
+
+pub loop-command-preserved : goal.loop-command-preserved
+loop-command-preserved g c =
+    let D = g.D.SectorDevice in
+    let first = c.args.self.now in
+    let so_far = c.loop-command.yielded in
+    let command = c.in-Some.command in
+    let was = c.loop-command.invariant in
+    record {
+      next = tt;
+      ends = tt;
+      drafts = subst (λ (cs : List PlainCommand). Drafts D.size D.story D.failed D.tells first c.add.new.self c.in-Ok-add.next cs) (sym (map-append command_of so_far (command ∷ [])))
+          (c.in-Ok-add.ensures.drafts first (map command_of so_far) was.drafts);
+      place = let here = was.place in let more = length_push so_far command in omega (arith, here, more);
+      parts = append_assoc so_far (command ∷ []) (into_iter_items c.next.new.self) ∙ ap (λ (cs : List Command). so_far ++ cs) (sym c.in-Some.ensures.steps.0) ∙ was.parts;
+    }
+
+-- ---- one is refused
+
+-- the list is refused for it, also with the commands behind it
+module _ (tells : Bool) (image : Image) (c : PlainCatalogue) (front : List Command) (x : Command) (rest all : List Command) (place : ℕ) (r : Refusal) (here : place ≡ length front) (parts : front ++ x ∷ rest ≡ all)
+    (is : IsRefusedAt tells image c (map command_of front ++ command_of x ∷ []) (length (map command_of front)) r) where
+  refused_there : IsRefusedAt tells image c (map command_of all) place r
+  refused_there =
+      let whole : map command_of front ++ command_of x ∷ map command_of rest ≡ map command_of all = sym (map-append command_of front (x ∷ rest)) ∙ ap (map command_of) parts in
+      let count : length (map command_of front) ≡ place = length-map front command_of ∙ sym here in
+      subst (λ (n : ℕ). IsRefusedAt tells image c (map command_of all) n r) count
+      (subst (λ (cs : List PlainCommand). IsRefusedAt tells image c cs (length (map command_of front)) r) whole (ends_in_front tells image c (map command_of front) (command_of x) (map command_of rest) r is))
+
+pub returns-in-Err-add-clause-goes : goal.returns-in-Err-add-clause-goes
+returns-in-Err-add-clause-goes g c = λ told base m fits.
+    let D = g.D.SectorDevice in
+    let first = c.args.self.now in
+    let new = c.add.new.self in
+    let was = c.loop-command.invariant in
+    let r = c.in-Err-add.refusal in
+    let commands = map command_of c.args.commands.items in
+    let parts = ap (λ (cs : List Command). c.loop-command.yielded ++ cs) (sym c.in-Some.ensures.steps.0) ∙ was.parts in
+    let image = shown_image (now (D.story first.device)) in
+    let is = refused_there D.tells image (listed_in first) c.loop-command.yielded c.in-Some.command (into_iter_items c.next.new.self) c.args.commands.items c.loop-command.place r was.place parts
+    (c.in-Err-add.ensures.told first (map command_of c.loop-command.yielded) was.drafts) in
+    let runs = is_running m.phase first.halted fits.phase was.drafts.on in
+    let t = tables_now (setting_of (D.size first.device) base) m in
+    let held : tables_held image (listed_in first) ≡ Some t = ap (λ i. tables_held i (listed_in first)) (shown D.size D.story D.failed base m D.tells told first new fits runs) ∙ (fits.sound runs).tables in
+    let brings = subst (λ (cs : List Command). BringsTables (list_of cs)) c.deref.ensures.value c.lists_bring_tables.ensures in
+    let reads = reads_after D.size D.story D.failed D.tells (refused r) first c.loop-command.self new was.drafts.reads c.in-Err-add.ensures.reads in
+    subst (λ (e : ListRefusal). GoesOn D.size D.story D.failed base m (apply_call (list_of c.args.commands.items)) (ended_by e) first new) (sym c.list_refusal.ensures)
+    (goes_refused D.size D.story D.failed base m D.tells told first new was.drafts.on fits image commands (refusal_at c.loop-command.place r) (refuses_at D.tells image (listed_in first) commands c.loop-command.place r is)
+    (λ place q at. c.decisions_are_verdicts.ensures.at_line image (listed_in first) t commands place q (catalogue_is (listed_in first) first.opened.catalogue.list.kept) held brings (single_commands c.args.commands.items) at)
+    (reads_alike D.size D.story D.failed D.tells first new (refused r) (ended_by (refusal_at c.loop-command.place r)) (sym (reply_at c.loop-command.place r)) reads))
+
+pub returns-in-Err-add-clause-applies : goal.returns-in-Err-add-clause-applies
+returns-in-Err-add-clause-applies g c =
+    let D = g.D.SectorDevice in
+    let first = c.args.self.now in
+    let new = c.add.new.self in
+    let was = c.loop-command.invariant in
+    let r = c.in-Err-add.refusal in
+    let front = map command_of c.loop-command.yielded in
+    let commands = map command_of c.args.commands.items in
+    let parts = ap (λ (cs : List Command). c.loop-command.yielded ++ cs) (sym c.in-Some.ensures.steps.0) ∙ was.parts in
+    let whole : front ++ command_of c.in-Some.command ∷ map command_of (into_iter_items c.next.new.self) ≡ commands = sym (map-append command_of c.loop-command.yielded (c.in-Some.command ∷ into_iter_items c.next.new.self)) ∙ ap (map command_of) parts in
+    let image = shown_image (now (D.story first.device)) in
+    let is = refused_there D.tells image (listed_in first) c.loop-command.yielded c.in-Some.command (into_iter_items c.next.new.self) c.args.commands.items c.loop-command.place r was.place parts
+    (c.in-Err-add.ensures.told first front was.drafts) in
+    let one = (c.in-Err-add.ensures.refused first front was.drafts).applies in
+    let same = refusal_of_at (length front) r in
+    let reads = reads_after D.size D.story D.failed D.tells (refused r) first c.loop-command.self new was.drafts.reads c.in-Err-add.ensures.reads in
+    subst (λ (e : ListRefusal). Applies D.size D.story D.tells first (list_of c.args.commands.items) (Err (refusal_of e)) new) (sym c.list_refusal.ensures)
+    (subst (λ (q : Refusal). Applies D.size D.story D.tells first (list_of c.args.commands.items) (Err q) new) (sym (refusal_of_at c.loop-command.place r))
+    (applies_first D.size D.story D.failed D.tells first new (list_of c.args.commands.items) r was.drafts.on reads (λ halted. absurd (true≢false (sym (one.halted.0 (ap Err (same ∙ halted))) ∙ was.drafts.on)))
+    (refusal_answered D.tells image (listed_in first) commands c.loop-command.place r is)
+    (λ device none. one.quiet (λ d. device (sym same ∙ d))
+    (none_in_front front (command_of c.in-Some.command) (map command_of (into_iter_items c.next.new.self)) (ap (λ (cs : List PlainCommand). any_reads_device (commands_of cs)) whole ∙ none)))))
+
+pub returns-in-Err-add-clause-line : goal.returns-in-Err-add-clause-line
+returns-in-Err-add-clause-line g c =
+    let D = g.D.SectorDevice in
+    let first = c.args.self.now in
+    let was = c.loop-command.invariant in
+    let r = c.in-Err-add.refusal in
+    let commands = map command_of c.args.commands.items in
+    let parts = ap (λ (cs : List Command). c.loop-command.yielded ++ cs) (sym c.in-Some.ensures.steps.0) ∙ was.parts in
+    let image = shown_image (now (D.story first.device)) in
+    let is = refused_there D.tells image (listed_in first) c.loop-command.yielded c.in-Some.command (into_iter_items c.next.new.self) c.args.commands.items c.loop-command.place r was.place parts
+    (c.in-Err-add.ensures.told first (map command_of c.loop-command.yielded) was.drafts) in
+    subst (NamesLine D.tells image (listed_in first) commands) (sym c.list_refusal.ensures)
+    (names_line D.tells image (listed_in first) commands (refusal_at c.loop-command.place r) (refuses_at D.tells image (listed_in first) commands c.loop-command.place r is))
+
+pub returns-in-Err-add-clause-size : goal.returns-in-Err-add-clause-size
+returns-in-Err-add-clause-size g c = c.in-Err-add.ensures.reads.device.same ∙ c.loop-command.invariant.drafts.reads.device.same
+
+pub returns-in-Err-add-clause-count : goal.returns-in-Err-add-clause-count
+returns-in-Err-add-clause-count g c =
+    let D = g.D.SectorDevice in
+    let first = c.args.self.now in
+    let new = c.add.new.self in
+    let was = c.loop-command.invariant in
+    let r = c.in-Err-add.refusal in
+    let reads = reads_after D.size D.story D.failed D.tells (refused r) first c.loop-command.self new was.drafts.reads c.in-Err-add.ensures.reads in
+    subst (λ (e : ListRefusal). D.failed new.device ≡ counted (ended_by e) (D.failed first.device)) (sym c.list_refusal.ensures)
+    (reads_alike D.size D.story D.failed D.tells first new (refused r) (ended_by (refusal_at c.loop-command.place r)) (sym (reply_at c.loop-command.place r)) reads).device.count
 
 -- ---- all are accepted
 
-pub carry_out-all-requires-clause-sound : goal.carry_out-all-requires-clause-sound
-carry_out-all-requires-clause-sound g c =
-    subst (λ (opened : Opened StoredCatalogue). CanChange (catalogue_of opened.catalogue.list) (change_of c.in-Ok.change)) (sym c.in-Ok.ensures.reads.kept) c.in-Ok.ensures.ok
-
-pub carry_out-all-requires-clause-on : goal.carry_out-all-requires-clause-on
-carry_out-all-requires-clause-on g c = c.in-Ok.ensures.reads.halts ∙ or_false c.args.self.now.halted ∙ c.if-self.false
-
-pub returns-in-Ok-clause-goes : goal.returns-in-Ok-clause-goes
-returns-in-Ok-clause-goes g c = λ told base m fits.
+pub returns-clause-goes : goal.returns-clause-goes
+returns-clause-goes g c = λ told base m fits.
     let D = g.D.SectorDevice in
-    let old = c.args.self.now in
-    let mid = c.decide_all.new.self in
-    let cmd = list_of c.args.commands.items in
-    let runs = is_running m.phase old.halted fits.phase c.if-self.false in
-    let sound = fits.sound runs in
-    let t = tables_now (setting_of (D.size old.device) base) m in
-    let image = shown_image (now (D.story old.device)) in
-    let held : tables_held image (listed_in old) ≡ Some t = ap (λ i. tables_held i (listed_in old)) (shown D.size D.story D.failed base m D.tells told old mid fits runs) ∙ sound.tables in
-    let change : PlainChange = change_of c.in-Ok.change in
-    let reads = c.in-Ok.ensures.reads in
-    let is : IsDecided true image (listed_in old) cmd (Ok change) = subst (λ (b : Bool). IsDecided b image (listed_in old) cmd (Ok change)) told c.in-Ok.ensures.decided in
-    let brings = subst (λ (cs : List Command). BringsTables (list_of cs)) c.deref.ensures.value c.lists_bring_tables.ensures in
-    let says = c.decisions_are_verdicts.ensures.each image (listed_in old) t cmd (Ok change) (catalogue_is (listed_in old) old.opened.catalogue.list.kept) held brings is in
-    let there = fits_reading D.size D.story D.failed base m D.tells told old mid fits done refl reads in
-    let ends = c.carry_out-all.ensures in
-    let all = c.carry_out-all.result in
-    let new = c.carry_out-all.new.self in
-    subst (λ (r : PlainReply). GoesOn D.size D.story D.failed base m (apply_call cmd) r old new) (sym c.as_whole.ensures.reply)
-    (goes_after D.size D.story D.failed base m cmd D.tells told old mid new done (ended all) refl fits reads (tells_command (setting_of (D.size old.device) base) (now (D.story old.device)) all)
-    (carried_goes D.size D.story D.failed base m mid new there runs ends.size ends.book mid.exported change cmd says.0 (subst (λ (n : ℕ). verdict (tables_now (setting_of n base) m) cmd ≡ Ok says.0) (sym reads.device.same) says.1) says.2
-    (decided_after D.size D.story D.failed D.tells old mid done reads told cmd change is) all ends.count ends.carried ends.halts ends.kept ends.quiet (ends.carries told (there.sound runs).stands) (told_done _ _ D.tells all told (there.sound runs).stands ends.done)))
+    let first = c.args.self.now in
+    let was = c.loop-command.invariant in
+    subst (λ (r : PlainReply). GoesOn D.size D.story D.failed base m (apply_call (list_of c.args.commands.items)) r first c.commit.new.self) (sym c.as_whole.ensures.reply)
+    (subst (λ (cs : List Command). GoesOn D.size D.story D.failed base m (apply_call (list_of cs)) (ended c.commit.result) first c.commit.new.self) (all_yielded g c)
+    (c.commit.ensures.goes first (map command_of c.loop-command.yielded) was.drafts told base m fits))
 
-pub returns-in-Ok-clause-applies : goal.returns-in-Ok-clause-applies
-returns-in-Ok-clause-applies g c =
+pub returns-clause-applies : goal.returns-clause-applies
+returns-clause-applies g c =
     let D = g.D.SectorDevice in
-    let old = c.args.self.now in
-    let mid = c.decide_all.new.self in
-    let new = c.carry_out-all.new.self in
-    let cmd = list_of c.args.commands.items in
-    let ends = c.carry_out-all.ensures in
-    let of = c.in-Ok.ensures in
-    subst (λ (r : Result (Unit {0}) Refusal). Applies D.size D.story D.tells old cmd r new) (sym c.as_whole.ensures.one)
-    (applies_then D.size D.story D.failed D.tells old mid new cmd (change_of c.in-Ok.change) c.carry_out-all.result c.if-self.false of.reads of.decided of.still ends.carried ends.halts ends.not_halted ends.kept ends.book ends.quiet ends.carries ends.done)
+    let first = c.args.self.now in
+    let was = c.loop-command.invariant in
+    subst (λ (r : Result (Unit {0}) Refusal). Applies D.size D.story D.tells first (list_of c.args.commands.items) r c.commit.new.self) (sym c.as_whole.ensures.one)
+    (subst (λ (cs : List Command). Applies D.size D.story D.tells first (list_of cs) c.commit.result c.commit.new.self) (all_yielded g c)
+    (c.commit.ensures.applies first (map command_of c.loop-command.yielded) was.drafts))
 
-pub returns-in-Ok-clause-line : goal.returns-in-Ok-clause-line
-returns-in-Ok-clause-line g c =
+pub returns-clause-line : goal.returns-clause-line
+returns-clause-line g c =
     let D = g.D.SectorDevice in
     let old = c.args.self.now in
     whole_line D.tells (shown_image (now (D.story old.device))) (listed_in old) (map command_of c.args.commands.items) c.as_whole.result c.as_whole.ensures.no_line
 
-pub returns-in-Ok-clause-size : goal.returns-in-Ok-clause-size
-returns-in-Ok-clause-size g c = c.carry_out-all.ensures.size ∙ c.in-Ok.ensures.reads.device.same
+pub returns-clause-size : goal.returns-clause-size
+returns-clause-size g c = c.commit.ensures.size ∙ c.loop-command.invariant.drafts.reads.device.same
 
-pub returns-in-Ok-clause-count : goal.returns-in-Ok-clause-count
-returns-in-Ok-clause-count g c =
+pub returns-clause-count : goal.returns-clause-count
+returns-clause-count g c =
     let D = g.D.SectorDevice in
     let failed = D.failed c.args.self.now.device in
-    c.carry_out-all.ensures.count ∙ ap (counted (ended c.carry_out-all.result)) c.in-Ok.ensures.reads.device.count ∙ ap (λ (r : PlainReply). counted r failed) (sym c.as_whole.ensures.reply)
-
--- ---- they are refused
-
-pub returns-in-Err-clause-goes : goal.returns-in-Err-clause-goes
-returns-in-Err-clause-goes g c = λ told base m fits.
-    let D = g.D.SectorDevice in
-    let old = c.args.self.now in
-    let mid = c.decide_all.new.self in
-    let commands = c.args.commands.items in
-    let runs = is_running m.phase old.halted fits.phase c.if-self.false in
-    let t = tables_now (setting_of (D.size old.device) base) m in
-    let image = shown_image (now (D.story old.device)) in
-    let held : tables_held image (listed_in old) ≡ Some t = ap (λ i. tables_held i (listed_in old)) (shown D.size D.story D.failed base m D.tells told old mid fits runs) ∙ (fits.sound runs).tables in
-    let brings = subst (λ (cs : List Command). BringsTables (list_of cs)) c.deref.ensures.value c.lists_bring_tables.ensures in
-    goes_refused D.size D.story D.failed base m D.tells told old mid c.if-self.false fits image (map command_of commands) c.in-Err.refusal c.in-Err.ensures.told
-    (λ place r is. c.decisions_are_verdicts.ensures.at_line image (listed_in old) t (map command_of commands) place r (catalogue_is (listed_in old) old.opened.catalogue.list.kept) held brings (single_commands commands) is) c.in-Err.ensures.reads
-
-pub returns-in-Err-clause-applies : goal.returns-in-Err-clause-applies
-returns-in-Err-clause-applies g c =
-    let D = g.D.SectorDevice in
-    let old = c.args.self.now in
-    let mid = c.decide_all.new.self in
-    let image = shown_image (now (D.story old.device)) in
-    let commands = map command_of c.args.commands.items in
-    let e = c.in-Err.refusal in
-    let of = c.in-Err.ensures in
-    applies_first D.size D.story D.failed D.tells old mid (list_of c.args.commands.items) (refusal_of e) c.if-self.false (reads_one D.size D.story D.failed D.tells old mid e (no_failure D.tells image (listed_in old) commands e of.told) of.reads) of.not_halted
-    (list_answered D.tells image (listed_in old) commands e of.told) of.still
-
-pub returns-in-Err-clause-line : goal.returns-in-Err-clause-line
-returns-in-Err-clause-line g c =
-    let D = g.D.SectorDevice in
-    let old = c.args.self.now in
-    names_line D.tells (shown_image (now (D.story old.device))) (listed_in old) (map command_of c.args.commands.items) c.in-Err.refusal c.in-Err.ensures.told
-
-pub returns-in-Err-clause-size : goal.returns-in-Err-clause-size
-returns-in-Err-clause-size g c = c.in-Err.ensures.reads.device.same
-
-pub returns-in-Err-clause-count : goal.returns-in-Err-clause-count
-returns-in-Err-clause-count g c = c.in-Err.ensures.reads.device.count
+    c.commit.ensures.count ∙ ap (counted (ended c.commit.result)) c.loop-command.invariant.drafts.reads.device.count ∙ ap (λ (r : PlainReply). counted r failed) (sym c.as_whole.ensures.reply)

@@ -1,19 +1,25 @@
-use Rattle.std.proofs.Common.{◌≡◌, ◌∙◌, Some, None, Err, refl, ap, sym, subst}
+use Rattle.std.proofs.Common.{◌≡◌, ◌∙◌, ℕ, Bool, false, List, Option, Some, None, Result, Ok, Err, refl, ap, sym, subst}
+use Rattle.std.specs.Prelude.{MatchResult, IfOk, IfErr, option_map, true}
+use Rattle.std.proofs.lemmas.Bool.{true≢false}
 use Rattle.std.proofs.lemmas.Result.{err_from_is_err_and}
-use Rattle.sector_dev.specs.Disk.{now, synced_image}
+use Rattle.sector_dev.specs.Disk.{Story, now, synced_image}
+use Rattle.sector_dev.specs.declared.device.SectorDevice.{Ghosts}
+use Rattle.arrow_schema.specs.Column.{PlainSchema}
+use Rattle.arrow_schema.specs.View.{schema_of}
 use Rattle.cells.specs.Cell.{PlainTable}
-use Rattle.arrow_schema.specs.Limits.{IsWithinLimits}
-use Rattle.catalogue.specs.Entries.{PlainEntry, is_entry, plain_entry}
-use Rattle.catalogue.specs.laws.Changed.{found_passes}
-use Rattle.catalogue.specs.laws.Kept.{entry_is}
+use Rattle.catalogue.specs.Entries.{PlainEntry}
 use Rattle.catalogue.specs.Edits.{entry_of}
-use Rattle.catalogue.specs.View.{catalogue_of}
-use Rattle.catalogue.specs.declared.catalogue.Catalogue.{Catalogue}
-use Rattle.tables.specs.declared.refusal.Refusal.TheVariants.{Halted, NoTable, OutOfMemory}
+use Rattle.tables.specs.declared.refusal.Refusal.{Refusal}
+use Rattle.tables.specs.declared.refusal.Refusal.TheVariants as refusals
+use Rattle.tables.specs.Tables.{Tables}
 use Rattle.tables.specs.Verdict.{after}
 use Rattle.store_runs.specs.Calls.{schema_call, schema_is, refused}
+use Rattle.store_runs.specs.Machine.{Machine}
 use Rattle.store_runs.specs.Steps.{Step}
-use Rattle.store.specs.Fits.{listed_in}
+use Rattle.store.specs.declared.store.Store.{Store}
+use Rattle.store.specs.Applying.{GoesOn}
+use Rattle.store.specs.Fits.{StoreFits, listed_in}
+use Rattle.store.specs.Listing.{RefusesSchema}
 use Rattle.store_changes.specs.laws.Named.{entry_has, entry_lacks, held_has}
 use Rattle.store.proofs.Asked.{not_running, is_running, told_of, still}
 use Rattle.store.proofs.store.Store.schema.Goals as goal
@@ -24,44 +30,42 @@ returns-in_err-list-clause-refused g c =
     let D = g.D.SectorDevice in
     let store = c.args.self.now in
     let p = err_from_is_err_and c.from_residual.result c.from_residual.ensures.1 in
-    told_of c.from_residual.result Halted _ (p.1 ∙ ap Err p.2 ∙ ap Err c.in_err-list.ensures.0) (λ told base m fits.
-    still D.size D.story D.failed base m (schema_call c.args.name.now) (refused Halted) store (not_running m.phase store.halted fits.phase c.in_err-list.ensures.1, (refl, refl)) refl fits tt tt)
+    told_of c.from_residual.result refusals.Halted _ (p.1 ∙ ap Err p.2 ∙ ap Err c.in_err-list.ensures.0) (λ told base m fits.
+    still D.size D.story D.failed base m (schema_call c.args.name.now) (refused refusals.Halted) store (not_running m.phase store.halted fits.phase c.in_err-list.ensures.1, (refl, refl)) refl fits tt tt)
 
-pub returns-in_ok-copy-in-Some-clause-goes : goal.returns-in_ok-copy-in-Some-clause-goes
-unfolding Step
-returns-in_ok-copy-in-Some-clause-goes g c = λ told base m fits.
-    let D = g.D.SectorDevice in
-    let store = c.args.self.now in
-    let on = is_running m.phase store.halted fits.phase c.in_ok-list.ensures.1 in
-    let image = synced_image (now (D.story store.device)) in
-    let e = plain_entry c.in-Some.entry.now in
-    let found : entry_of (listed_in store) c.args.name.now ≡ Some e = sym (c.in-Some.ensures.entry ∙ ap (λ (list : Catalogue). entry_of (catalogue_of list) c.args.name.now) c.in_ok-list.ensures.0) in
-    let own = entry_has image (listed_in store) (after base m.settled) (fits.sound on).tables c.args.name.now e found in
-    let has = held_has image e own.0 own.1 in
-    still D.size D.story D.failed base m (schema_call c.args.name.now) (schema_is _) store
-    (on, (own.0, own.2, (c.in_ok-copy-in-Some.ensures ∙ c.schema.ensures) ∙ sym (ap (λ (t : PlainTable). t.schema) has.2)), (refl, refl)) refl fits tt tt
+-- ---- what a store that is not halted answers
 
-pub returns-in_ok-copy-in-Some-clause-within : goal.returns-in_ok-copy-in-Some-clause-within
-returns-in_ok-copy-in-Some-clause-within g c =
-    let e : PlainEntry = plain_entry c.in-Some.entry.now in
-    let own = found_passes is_entry _ c.args.name.now e c.in-Some.ensures.kept.entries (sym c.in-Some.ensures.entry) in
-    subst IsWithinLimits (sym (c.in_ok-copy-in-Some.ensures ∙ c.schema.ensures)) (entry_is e own).schema
+module _ {D : Type 0} {g : Ghosts D} (size : D → ℕ) (story : D → Story) (failed : D → ℕ) (store : Store D g) (on : store.halted ≡ false) (name : List ℕ) where
+  schema_goes : (s : PlainSchema) → option_map (λ e. e.schema) (entry_of (listed_in store) name) ≡ Some s → (base : Tables) (m : Machine) → StoreFits size story base m store
+      → GoesOn size story failed base m (schema_call name) (schema_is s) store store
+  unfolding Step
+  schema_goes s is base m fits = by_entry (entry_of (listed_in store) name) refl is
+    where
+      by_entry : (o : Option PlainEntry) → entry_of (listed_in store) name ≡ o → option_map (λ e. e.schema) o ≡ Some s → GoesOn size story failed base m (schema_call name) (schema_is s) store store
+      by_entry None there has = absurd cc
+      by_entry (Some e) there has =
+          let runs = is_running m.phase store.halted fits.phase on in
+          let image = synced_image (now (story store.device)) in
+          let own = entry_has image (listed_in store) (after base m.settled) (fits.sound runs).tables name e there in
+          let held = held_has image e own.0 own.1 in
+          let same : e.schema ≡ s = cc has in
+          still size story failed base m (schema_call name) (schema_is s) store (runs, (own.0, own.2, sym same ∙ sym (ap (λ (t : PlainTable). t.schema) held.2)), (refl, refl)) refl fits tt tt
 
-pub returns-in_err-copy-in-Some-clause-refused : goal.returns-in_err-copy-in-Some-clause-refused
-unfolding Step
-returns-in_err-copy-in-Some-clause-refused g c =
-    let D = g.D.SectorDevice in
-    let store = c.args.self.now in
-    let p = err_from_is_err_and c.from_residual-in_err-copy-in-Some.result c.from_residual-in_err-copy-in-Some.ensures.1 in
-    told_of c.from_residual-in_err-copy-in-Some.result OutOfMemory _ (p.1 ∙ ap Err p.2) (λ told base m fits.
-    still D.size D.story D.failed base m (schema_call c.args.name.now) (refused OutOfMemory) store (is_running m.phase store.halted fits.phase c.in_ok-list.ensures.1, (refl, refl)) refl fits tt tt)
+  schema_refused : (r : Refusal) → RefusesSchema false (entry_of (listed_in store) name) r → (base : Tables) (m : Machine) → StoreFits size story base m store → GoesOn size story failed base m (schema_call name) (refused r) store store
+  unfolding Step
+  schema_refused refusals.NoTable is base m fits =
+      let runs = is_running m.phase store.halted fits.phase on in
+      let none = entry_lacks (synced_image (now (story store.device))) (listed_in store) (after base m.settled) (fits.sound runs).tables name is.1 in
+      still size story failed base m (schema_call name) (refused refusals.NoTable) store (runs, none, (refl, refl)) refl fits tt tt
+  schema_refused refusals.OutOfMemory is base m fits =
+      still size story failed base m (schema_call name) (refused refusals.OutOfMemory) store (is_running m.phase store.halted fits.phase on, (refl, refl)) refl fits tt tt
+  schema_refused refusals.Halted is base m fits = absurd (true≢false (sym is))
+  schema_refused _ is base m fits = absurd is
 
-pub returns-in-None-clause-refused : goal.returns-in-None-clause-refused
-unfolding Step
-returns-in-None-clause-refused g c = λ told base m fits.
-    let D = g.D.SectorDevice in
-    let store = c.args.self.now in
-    let on = is_running m.phase store.halted fits.phase c.in_ok-list.ensures.1 in
-    let absent : entry_of (listed_in store) c.args.name.now ≡ None = sym (c.in-None.ensures.entry ∙ ap (λ (list : Catalogue). entry_of (catalogue_of list) c.args.name.now) c.in_ok-list.ensures.0) in
-    let none = entry_lacks (synced_image (now (D.story store.device))) (listed_in store) (after base m.settled) (fits.sound on).tables c.args.name.now absent in
-    still D.size D.story D.failed base m (schema_call c.args.name.now) (refused NoTable) store (on, none, (refl, refl)) refl fits tt tt
+match_ok : {A B : Type 0} (r : Result A B) (P R : A → Type 0) (Q : B → Type 0) → ((x : A) → P x → R x) → MatchResult r P Q → IfOk r R
+match_ok (Ok x) P R Q f is = f x is
+match_ok (Err e) P R Q f is = tt
+
+match_err : {A B : Type 0} (r : Result A B) (P : A → Type 0) (Q R : B → Type 0) → ((e : B) → Q e → R e) → MatchResult r P Q → IfErr r R
+match_err (Ok x) P Q R f is = tt
+match_err (Err e) P Q R f is = f e is

@@ -1,0 +1,73 @@
+use Rattle.std.proofs.Common.{◌≡◌, ◌∙◌, Bool, refl, sym, ap, subst}
+use Rattle.std.specs.Prelude.{◌||◌}
+use Rattle.commit.specs.Standing.{is_size}
+use Rattle.tables.specs.View.{command_of}
+use Rattle.store_runs.specs.Calls.{is_device_reply}
+use Rattle.store_runs.specs.Reading.{ended}
+use Rattle.store.proofs.Applied.{single_command}
+use Rattle.store.proofs.Begun.{shown_first, shows_old, from_old, placed_old, old_on, drafts_more, ends_behind, refuses_next}
+use Rattle.store.proofs.StillSound.{still_sound, all_placed}
+use Rattle.store.proofs.store.Store.add.Goals as goal
+
+pub add_line-next-requires-clause-draft : goal.add_line-next-requires-clause-draft
+add_line-next-requires-clause-draft g c = c.requires.drafts.draft
+
+pub add_line-next-requires-clause-begins : goal.add_line-next-requires-clause-begins
+add_line-next-requires-clause-begins g c =
+    let D = g.D.SectorDevice in let begun = c.requires in from_old D.size D.story D.failed D.tells begun.first c.args.self.now c.args.transaction begun.commands begun.drafts
+
+pub add_line-next-requires-clause-placed : goal.add_line-next-requires-clause-placed
+add_line-next-requires-clause-placed g c =
+    let D = g.D.SectorDevice in let begun = c.requires in placed_old D.size D.story D.failed D.tells begun.first c.args.self.now c.args.transaction begun.commands begun.drafts (all_placed begun.first)
+
+-- ---- it was only read
+
+pub returns-in-Ok-clause-reads : goal.returns-in-Ok-clause-reads
+returns-in-Ok-clause-reads g c =
+    let D = g.D.SectorDevice in
+    let begun = c.requires in
+    let on = old_on D.size D.story D.failed D.tells begun.first c.args.self.now c.args.transaction begun.commands begun.drafts in
+    record { device = c.in-Ok.ensures.reads; kept = refl; book = refl; halts = c.halts-self.ensures ∙ sym (ap (λ (b : Bool). b || is_device_reply (ended c.add_line-next.result)) on) }
+
+pub returns-in-Err-clause-reads : goal.returns-in-Err-clause-reads
+returns-in-Err-clause-reads g c =
+    let D = g.D.SectorDevice in
+    let begun = c.requires in
+    let on = old_on D.size D.story D.failed D.tells begun.first c.args.self.now c.args.transaction begun.commands begun.drafts in
+    record { device = c.in-Err.ensures.reads; kept = refl; book = refl; halts = c.halts-self.ensures ∙ sym (ap (λ (b : Bool). b || is_device_reply (ended c.add_line-next.result)) on) }
+
+-- ---- one more
+
+pub returns-in-Ok-clause-drafts : goal.returns-in-Ok-clause-drafts
+returns-in-Ok-clause-drafts g c = λ first commands begun.
+    let D = g.D.SectorDevice in
+    let old = c.args.self.now in
+    let t = c.args.transaction in
+    let does = c.in-Ok.ensures in
+    drafts_more D.size D.story D.failed D.tells first old t commands begun (command_of c.args.command) _ (record { draft = c.in-Ok.draft }) (single_command c.args.command) c.commands_bring_tables.ensures
+    (returns-in-Ok-clause-reads g c) (λ plain. ap D.story (does.still plain)) does.draft does.same
+    (does.steps (shown_first D.size D.story D.failed D.tells first old t commands begun) (shows_old D.size D.story D.failed D.tells first old t commands begun))
+
+-- ---- refused
+
+pub returns-in-Err-clause-told : goal.returns-in-Err-clause-told
+returns-in-Err-clause-told g c = λ first commands begun.
+    let D = g.D.SectorDevice in
+    let old = c.args.self.now in
+    let t = c.args.transaction in
+    ends_behind D.size D.story D.failed D.tells first old t commands begun (command_of c.args.command) c.in-Err.refusal
+    (c.in-Err.ensures.ends (shown_first D.size D.story D.failed D.tells first old t commands begun) (shows_old D.size D.story D.failed D.tells first old t commands begun))
+
+pub returns-in-Err-clause-refused : goal.returns-in-Err-clause-refused
+returns-in-Err-clause-refused g c = λ first commands begun.
+    let D = g.D.SectorDevice in
+    let old = c.args.self.now in
+    let t = c.args.transaction in
+    let does = c.in-Err.ensures in
+    refuses_next D.size D.story D.failed D.tells first old t commands begun c.decisions_are_verdicts.ensures.at_line (command_of c.args.command) c.in-Err.refusal _ (single_command c.args.command) c.commands_bring_tables.ensures
+    does.not_halted (returns-in-Err-clause-told g c first commands begun) (returns-in-Err-clause-reads g c) (λ plain. ap D.story (does.still plain))
+
+-- ---- the device keeps its size
+
+pub invariant_of-self : goal.invariant_of-self
+invariant_of-self g c = assumption (still_sound c.args.self.now _ _ c.add_line-next.ensures.reads.same refl)
