@@ -52,6 +52,8 @@ pub(crate) struct Served<'a> {
     pub(crate) start: &'a [u8],
     /// Whether no byte of the input was read.
     pub(crate) is_input_empty: bool,
+    /// The line on which the quotation begins that the input ends within, if it is watched for that.
+    pub(crate) open_quotation: Option<u64>,
     /// How the last read of the input failed, if it did.
     pub(crate) input_failure: Option<io::Error>,
     /// How the last write of the output failed, if it did.

@@ -1,0 +1,70 @@
+// What a command that is done leaves in doubt.
+ghost use Rattle.std.specs.Prelude.{◌≡◌, string_bytes, IfOk};
+ghost use Rattle.cli_refusals.specs.Output.{AppendsFront};
+ghost use Rattle.cli_texts.specs.Warnings.{warning_line, TellsNotes};
+
+use crate::notes::{tell_note, write_front};
+use crate::{Audience, Note};
+use std::alloc::{AllocError, Global};
+use std::fmt::{self, Write as _};
+use std::io::Write;
+
+/// What a command that is done leaves in doubt.
+#[derive(Clone, Copy)]
+pub enum Warning {
+    /// A CSV text ends within quotation marks that begin on this line, counted from 1.
+    OpenQuotation(u64),
+}
+
+/// What is told of a command that is done.
+#[derive(Clone, Copy)]
+pub struct Notes {
+    pub note: Option<Note>,
+    pub warning: Option<Warning>,
+}
+
+impl fmt::Display for Warning {
+    ghost use Rattle.std.specs.Prelude.{Some};
+    ghost use Rattle.cli_texts.specs.Warnings.{warning_text};
+
+    ghost output = { λ warning. Some (warning_text warning) };
+
+    #[tactic(auto, unfolding(crate::specs::Warnings::warning_text))]
+    fn fmt<W: fmt::Write>(&self, f: &mut fmt::Formatter<W>) -> fmt::Result {
+        match self {
+            Warning::OpenQuotation(line) => write!(
+                f,
+                "The text ends within quotation marks that begin on line {line}: all that follows them is in one field."
+            ),
+        }
+    }
+}
+
+fn line_of(alloc: Global, warning: Warning) -> Result<String, AllocError>
+    ensures { IfOk result (λ text. string_bytes text ≡ warning_line warning) }
+{
+    let mut text = String::new(alloc);
+    writeln!(text, "{warning}")?;
+    Ok(text)
+}
+
+#[tactic(auto, using(crate::proofs::TextLemmas::no_front))]
+fn write_warning<E: Write>(alloc: Global, warning: Warning, errors: &mut E)
+    ensures { AppendsFront (E.contents errors.old) (E.contents errors.new) (warning_line warning) }
+{
+    match line_of(alloc, warning) {
+        Ok(line) => write_front(line.as_str(), errors),
+        Err(_) => {}
+    }
+}
+
+/// Tells the notes of a command that is done, on a terminal or to a script. The command stays done if memory is refused or the writer fails.
+pub fn tell_notes<E: Write>(alloc: Global, notes: Notes, audience: Audience, errors: &mut E)
+    ensures { TellsNotes E.contents audience notes errors.old errors.new }
+{
+    tell_note(alloc, notes.note, audience, errors);
+    match notes.warning {
+        Some(warning) if audience.is_advised() => write_warning(alloc, warning, errors),
+        _ => {}
+    }
+}
