@@ -10,6 +10,7 @@ ghost use Rattle.arrowstore.specs.Serving.{remarked};
 
 use crate::Remarks;
 use crate::applying_scripts::serve_apply;
+use crate::block_devices::is_device_at;
 use crate::copying_files::serve_copy;
 use crate::formatting_devices::serve_format_device;
 use crate::made_file::MadeFile;
@@ -17,6 +18,7 @@ use crate::open_command::stated;
 use crate::replaying::serve_replay;
 use crate::salvaging_files::serve_salvage;
 use crate::serving_device::serve_device;
+use cli_commands::DeviceKind;
 use cli_refusals::{Refusal, Side, write_whole};
 use cli_requests::{StoreCommand, StoreRequest};
 use commit::FormatVersion;
@@ -215,7 +217,16 @@ fn serve_format<
     write_whole(output, b"ok\n")
 }
 
-// Serves a command on the store in a file. Its texts are parsed before any system call.
+// Returns what `info` says of the device at a path.
+fn kind_at<H: Files>(rt: &H, path: &str) -> DeviceKind {
+    if is_device_at(rt, path) {
+        DeviceKind::Block
+    } else {
+        DeviceKind::File
+    }
+}
+
+// Serves a command on the store in a file. Its texts are parsed before it is opened.
 fn serve_command<
     F: Read + Write + Seek + OpenFile + LockFile + Drop,
     H: Files<File = F> + AllocGlobal,
@@ -235,7 +246,7 @@ fn serve_command<
     ensures silent { IfErr result (λ refusal. refusal ≢ Refusal.Io Side.Output → output.new ≡ output.old) }
 {
     let access = access_of(command);
-    let command = stated(rt.alloc(), command)?;
+    let command = stated(rt.alloc(), command, kind_at(rt, path))?;
     let _places = reserve_standard_descriptors(rt)?;
     let device = device_of(rt, path, access)?;
     let (done, _device) = serve_device(rt.alloc(), device, command, input, output, remarks);

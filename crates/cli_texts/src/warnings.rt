@@ -97,7 +97,7 @@ impl fmt::Display for Warning<'_> {
 }
 
 fn line_of(alloc: Global, warning: Warning<'_>) -> Result<String, AllocError>
-    ensures { IfOk result (λ text. string_bytes text ≡ warning_line warning) }
+    ensures { IfOk result (λ text. string_bytes text ≡ warning_line warning.entry) }
 {
     let mut text = String::new(alloc);
     writeln!(text, "{warning}")?;
@@ -106,7 +106,7 @@ fn line_of(alloc: Global, warning: Warning<'_>) -> Result<String, AllocError>
 
 #[tactic(auto, using(crate::proofs::TextLemmas::no_front))]
 fn write_warning<E: Write>(alloc: Global, warning: Warning<'_>, errors: &mut E)
-    ensures { AppendsFront (E.contents errors.old) (E.contents errors.new) (warning_line warning) }
+    ensures { AppendsFront (E.contents errors.old) (E.contents errors.new) (warning_line warning.entry) }
 {
     match line_of(alloc, warning) {
         Ok(line) => write_front(line.as_str(), errors),
@@ -116,7 +116,7 @@ fn write_warning<E: Write>(alloc: Global, warning: Warning<'_>, errors: &mut E)
 
 /// Tells the notes of a command that is done, on a terminal or to a script. The command stays done if memory is refused or the writer fails.
 pub fn tell_notes<E: Write>(alloc: Global, notes: Notes<'_>, audience: Audience, errors: &mut E)
-    ensures { TellsNotes E.contents audience notes errors.old errors.new }
+    ensures { TellsNotes E.contents audience notes.entry errors.old errors.new }
 {
     tell_note(alloc, notes.note, audience, errors);
     match notes.warning {
