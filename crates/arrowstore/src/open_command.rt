@@ -116,7 +116,8 @@ fn save_as(alloc: Global, from: &str, to: &str, words: &QueryWords<'_>) -> Resul
     })
 }
 
-/// Returns the command of an open store that the words state, for a device that is said to be of this kind. Parsing fields and conditions needs no store.
+/// Returns the command of an open store that the words state, for a device that is said to be of this kind. Parsing fields and conditions
+/// needs no store.
 ///
 /// # Errors
 /// `Fields` or `Query` if such a text is refused; `OutOfMemory`.

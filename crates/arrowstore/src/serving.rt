@@ -146,8 +146,8 @@ fn device_of<F: Read + Write + Seek + OpenFile + LockFile + Drop, H: Files<File 
     }
 }
 
-/// Returns `done`, and removes the new file if it is an error. The file's device still holds its lock, so nobody else has written to it. Whatever else is
-/// at the path by now stays, and so does a block device.
+/// Returns `done`, and removes the new file if it is an error. The file's device still holds its lock, so nobody else has written to it.
+/// Whatever else is at the path by now stays, and so does a block device.
 pub(crate) fn remove_on_error<T: Drop, H: Files>(
     rt: &H,
     path: &str,

@@ -51,7 +51,8 @@ fn doubted_literal<'a>(query: &QueryWords<'a>) -> Option<Warning<'a>> {
         .find_map(|condition| warning_about(literal_of(condition)?))
 }
 
-// Returns the warning that the commits of a store do not agree. There is none if it can't be opened again: another program may have locked it by now.
+// Returns the warning that the commits of a store do not agree. There is none if it can't be opened again: another program may have locked
+// it by now.
 fn doubted_commits<
     F: Read + Write + Seek + OpenFile + LockFile + Drop,
     H: Files<File = F> + AllocGlobal,

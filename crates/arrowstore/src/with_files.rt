@@ -375,9 +375,9 @@ pub fn run_with_files<
     // If no command is done, help that was asked for is written, and nothing else.
     ensures helps { result.status ≡ Done → AreRecode (map S.text arguments.now) ⊎ (is_own (map S.text arguments.now) ≡ true)
         ⊎ (is_of_store (map S.text arguments.now) ≡ true) ⊎ GivesSome (W.contents output.old) (W.contents output.new) }
-    // `errors` gets the report of a refusal for this audience, the segments that are left out, and on success the notes of the command, or else nothing;
-    // nor the failure of an output whose reader is gone. Only commands of a store leave something out, have notes, or have hints other than those that
-    // `run` may give.
+    // `errors` gets the report of a refusal for this audience, the segments that are left out, and on success the notes of the command, or
+    // else nothing; nor the failure of an output whose reader is gone. Only commands of a store leave something out, have notes, or have
+    // hints other than those that `run` may give.
     ensures reports { (known : Known) × (left : List (ℕ × ℕ)) × (notes : Notes)
         × ((is_of_store (map S.text arguments.now) ≡ true)
         ⊎ ((left ≡ []) × (notes ≡ no_notes) × (known ≡ unchanging known.hint)

@@ -101,8 +101,8 @@ fn text_of(
     }
 }
 
-/// Prints the summary of a store ([`Store::summary`]), whether its commit sectors agree ([`Store::commits_agree`]), and what its device is said to be: a
-/// line with a name and a value each, or one JSON object on one line.
+/// Prints the summary of a store ([`Store::summary`]), whether its commit sectors agree ([`Store::commits_agree`]), and what its device is
+/// said to be: a line with a name and a value each, or one JSON object on one line.
 ///
 /// # Errors
 /// `Store` with `Halted`, `OutOfMemory` or `Device`, and `OutOfMemory`: nothing is written. `Io` if a write fails: some first
