@@ -217,16 +217,15 @@ fn serve_format<
     write_whole(output, b"ok\n")
 }
 
-// Returns what `info` says of the device at a path.
-fn kind_at<H: Files>(rt: &H, path: &str) -> DeviceKind {
-    if is_device_at(rt, path) {
-        DeviceKind::Block
-    } else {
-        DeviceKind::File
+// Returns what `info` says of the device at a path. For other commands the system is not asked.
+fn kind_told<H: Files>(rt: &H, path: &str, command: &StoreCommand<'_>) -> DeviceKind {
+    match command {
+        StoreCommand::Info { .. } if is_device_at(rt, path) => DeviceKind::Block,
+        _ => DeviceKind::File,
     }
 }
 
-// Serves a command on the store in a file. Its texts are parsed before it is opened.
+// Serves a command on the store in a file. Its texts are parsed before any system call.
 fn serve_command<
     F: Read + Write + Seek + OpenFile + LockFile + Drop,
     H: Files<File = F> + AllocGlobal,
@@ -246,7 +245,8 @@ fn serve_command<
     ensures silent { IfErr result (λ refusal. refusal ≢ Refusal.Io Side.Output → output.new ≡ output.old) }
 {
     let access = access_of(command);
-    let command = stated(rt.alloc(), command, kind_at(rt, path))?;
+    let kind = kind_told(rt, path, command);
+    let command = stated(rt.alloc(), command, kind)?;
     let _places = reserve_standard_descriptors(rt)?;
     let device = device_of(rt, path, access)?;
     let (done, _device) = serve_device(rt.alloc(), device, command, input, output, remarks);
