@@ -58,7 +58,7 @@ fn numbers_of(s: &Summary) -> [(&'static str, u64); 9]
 }
 
 fn lines_of(alloc: Global, s: &Summary, agree: bool, kind: DeviceKind) -> Result<String, AllocError>
-    ensures { IfOk result (λ text. string_bytes text ≡ summary_lines s.now agree) }
+    ensures { IfOk result (λ text. string_bytes text ≡ summary_lines s.now agree kind) }
 {
     let mut text = String::new(alloc);
     for (name, number) in numbers_of(s) {
@@ -74,7 +74,7 @@ fn object_of(
     agree: bool,
     kind: DeviceKind,
 ) -> Result<String, AllocError>
-    ensures { IfOk result (λ text. string_bytes text ≡ summary_object s.now agree) }
+    ensures { IfOk result (λ text. string_bytes text ≡ summary_object s.now agree kind) }
 {
     let mut text = String::new(alloc);
     text.push_str("{")?;
@@ -92,7 +92,7 @@ fn text_of(
     kind: DeviceKind,
     as_json: bool,
 ) -> Result<String, AllocError>
-    ensures { IfOk result (λ text. string_bytes text ≡ summary_text as_json s.now agree) }
+    ensures { IfOk result (λ text. string_bytes text ≡ summary_text as_json s.now agree kind) }
 {
     if as_json {
         object_of(alloc, s, agree, kind)
