@@ -151,6 +151,7 @@ FORMS = {
     "line_return": (r"The line ends with a carriage return\. ", lambda facts: (facts.line or b"").endswith(b"\r")),
     "record_of_file": (r"Record (\d+) of the file of the line is refused\. ", lambda facts, number: int(number) == facts.number),
     "whole_file": (r"The file of the line is refused as a whole\. ", lambda facts: facts.number == 0),
+    "line_cut": (r"The last line has no line feed at its end: the script may be cut off\. ", lambda facts: facts.is_cut_off is True),
     "missing": (r"The name `(.*)` is missing\. ", because("missing")),
     "no_column": (r"The name `(.*)` is no column\. ", because("unknown")),
     "no_field": (r"The name `(.*)` is no field\. ", because("unknown")),

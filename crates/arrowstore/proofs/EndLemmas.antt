@@ -16,7 +16,7 @@ use Rattle.clap.specs.Words.{Text}
 use Rattle.cli_texts.specs.Ending.{IsOutput, IsOfOutput, GivesText, TellsRefusal, HasReported, HasReportedHint, HintsText}
 use Rattle.cli_texts.specs.Reported.{IfRefused}
 use Rattle.cli_texts.specs.Told.{told}
-use Rattle.cli_texts.specs.declared.notes.Note.{Note}
+use Rattle.cli_texts.specs.declared.warnings.Notes.{Notes}
 use Rattle.cli_texts.specs.declared.telling.Audience.{Audience}
 use Rattle.cli_commands.specs.Recode.{IsTrueFault}
 use Rattle.arrowstore.specs.OnFiles.{WritesPart}
@@ -113,9 +113,9 @@ text_may_hint arguments contents audience output output' errors errors' ended ha
     (has.0, if_refused ended.status (HintsText has.0) (MayHint arguments has.0) (λ r hints. inr hints) has.1, has.2)
 
 -- a run that writes a part of its output for no other reason
-pub reported_of_word : {W E : Type 0} (contents : E → Option (List ℕ)) (audience : Audience) (known : Known) (left : List (ℕ × ℕ)) (note : Option Note) (word : List ℕ) (output output' : W) (errors errors' : E) (ended : Ended)
-    → HasReported contents audience known left note IsOutput output output' errors errors' ended → HasReported contents audience known left note (WritesPart word) output output' errors errors' ended
-reported_of_word contents audience known left note word output output' errors errors' ended has = record {
+pub reported_of_word : {W E : Type 0} (contents : E → Option (List ℕ)) (audience : Audience) (known : Known) (left : List (ℕ × ℕ)) (notes : Notes) (word : List ℕ) (output output' : W) (errors errors' : E) (ended : Ended)
+    → HasReported contents audience known left notes IsOutput output output' errors errors' ended → HasReported contents audience known left notes (WritesPart word) output output' errors errors' ended
+reported_of_word contents audience known left notes word output output' errors errors' ended has = record {
   silent = has.silent;
   listed = has.listed;
   nothing_written = has.nothing_written;
@@ -124,7 +124,7 @@ reported_of_word contents audience known left note word output output' errors er
 }
 
 -- or whose command has another word, which is the same
-pub told_of_word : {W E : Type 0} (contents : E → Option (List ℕ)) (audience : Audience) (known : Known) (left : List (ℕ × ℕ)) (note : Option Note) (word other : List ℕ) (output output' : W) (errors errors' : E) (ended : Ended)
-    → word ≡ other → HasReported contents audience known left note (WritesPart word) output output' errors errors' ended → HasReported contents audience known left note (WritesPart other) output output' errors errors' ended
-told_of_word contents audience known left note word other output output' errors errors' ended same has =
-    subst (λ (w : List ℕ). HasReported contents audience known left note (WritesPart w) output output' errors errors' ended) same has
+pub told_of_word : {W E : Type 0} (contents : E → Option (List ℕ)) (audience : Audience) (known : Known) (left : List (ℕ × ℕ)) (notes : Notes) (word other : List ℕ) (output output' : W) (errors errors' : E) (ended : Ended)
+    → word ≡ other → HasReported contents audience known left notes (WritesPart word) output output' errors errors' ended → HasReported contents audience known left notes (WritesPart other) output output' errors errors' ended
+told_of_word contents audience known left notes word other output output' errors errors' ended same has =
+    subst (λ (w : List ℕ). HasReported contents audience known left notes (WritesPart w) output output' errors errors' ended) same has

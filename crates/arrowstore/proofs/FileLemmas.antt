@@ -25,8 +25,8 @@ use Rattle.cli_texts.specs.declared.status.Status.TheVariants.{Done, PartlyDone}
 use Rattle.cli_texts.specs.declared.status.Ended.{Ended}
 use Rattle.cli_texts.specs.Ending.{HasReported, TellsRefusal}
 use Rattle.cli_texts.specs.LeftOut.{left_out_text}
-use Rattle.cli_texts.specs.Notes.{note_to, TellsNote}
-use Rattle.cli_texts.specs.declared.notes.Note.{Note}
+use Rattle.cli_texts.specs.Warnings.{TellsNotes}
+use Rattle.cli_texts.specs.declared.warnings.Notes.{Notes}
 use Rattle.cli_texts.specs.Reported.{IfRefused}
 use Rattle.cli_texts.specs.Told.{told}
 use Rattle.cli_texts.specs.declared.telling.Audience.{Audience}
@@ -107,27 +107,27 @@ silent_but_broken_off word output output' (Ok unit) is silent = tt
 silent_but_broken_off word output output' (Err e) is silent = λ whole. silent (λ broken. whole (inr (is, broken)))
 
 -- what is reported of a request that was done, in part or whole, or refused
-pub has_reported : {W E : Type 0} (contents : E → Option (List ℕ)) (audience : Audience) (known : Known) (left : List (ℕ × ℕ)) (note : Option Note) (word : List ℕ) (output output' : W) (errors told_note errors' : E)
+pub has_reported : {W E : Type 0} (contents : E → Option (List ℕ)) (audience : Audience) (known : Known) (left : List (ℕ × ℕ)) (notes : Notes) (word : List ℕ) (output output' : W) (errors noted errors' : E)
     (done : Result (Unit {0}) Refusal) (ended : Ended) → ended.status ≡ status_of done left → IfErr done (λ refusal. ¬ WritesPart word refusal → output' ≡ output)
-    → (status_of done left ≡ Done → TellsNote contents (note_to audience note) errors told_note) → (status_of done left ≢ Done → told_note ≡ errors)
-    → (ended.status ≡ Done → (errors' ≡ told_note) × IsTrue ended.is_reported)
-    → (ended.status ≡ PartlyDone → IsTrue ended.is_reported → Appends (contents told_note) (contents errors') (left_out_text audience left))
-    → TellsRefusal (told audience known) ended (contents told_note) (contents errors') → HasReported contents audience known left note (WritesPart word) output output' errors errors' ended
-has_reported contents audience known [] note word output output' errors told_note errors' (Ok unit) ended ends quiet notes still silent lines line = record {
-  silent = λ done. (refl, subst (λ e. TellsNote contents (note_to audience note) errors e) (sym (silent done).0) (notes refl), (silent done).1);
+    → (status_of done left ≡ Done → TellsNotes contents audience notes errors noted) → (status_of done left ≢ Done → noted ≡ errors)
+    → (ended.status ≡ Done → (errors' ≡ noted) × IsTrue ended.is_reported)
+    → (ended.status ≡ PartlyDone → IsTrue ended.is_reported → Appends (contents noted) (contents errors') (left_out_text audience left))
+    → TellsRefusal (told audience known) ended (contents noted) (contents errors') → HasReported contents audience known left notes (WritesPart word) output output' errors errors' ended
+has_reported contents audience known [] notes word output output' errors noted errors' (Ok unit) ended ends quiet tells still silent lines line = record {
+  silent = λ done. (refl, subst (λ e. TellsNotes contents audience notes errors e) (sym (silent done).0) (tells refl), (silent done).1);
   listed = λ partly. absurd (cc (ends, partly));
   nothing_written = λ wrong. absurd (cc (ends, wrong));
   quiet = subst (λ s. IfRefused s (λ refusal. ¬ WritesPart word refusal → output' ≡ output)) (sym ends) tt;
   line = subst (λ s. IfRefused s (λ refusal. IsTrue ended.is_reported → Appends (contents errors) (contents errors') (told audience known refusal))) (sym ends) tt;
 }
-has_reported contents audience known (s ∷ ss) note word output output' errors told_note errors' (Ok unit) ended ends quiet notes still silent lines line = record {
+has_reported contents audience known (s ∷ ss) notes word output output' errors noted errors' (Ok unit) ended ends quiet tells still silent lines line = record {
   silent = λ done. absurd (cc (ends, done));
   listed = λ partly. (λ none. absurd (cc none), subst (λ e. IsTrue ended.is_reported → Appends (contents e) (contents errors') (left_out_text audience (s ∷ ss))) (still (λ done. absurd (cc done))) (lines partly));
   nothing_written = λ wrong. absurd (cc (ends, wrong));
   quiet = subst (λ s. IfRefused s (λ refusal. ¬ WritesPart word refusal → output' ≡ output)) (sym ends) tt;
   line = subst (λ s. IfRefused s (λ refusal. IsTrue ended.is_reported → Appends (contents errors) (contents errors') (told audience known refusal))) (sym ends) tt;
 }
-has_reported contents audience known left note word output output' errors told_note errors' (Err e) ended ends quiet notes still silent lines line = record {
+has_reported contents audience known left notes word output output' errors noted errors' (Err e) ended ends quiet tells still silent lines line = record {
   silent = λ done. absurd (cc (ends, done));
   listed = λ partly. absurd (cc (ends, partly));
   nothing_written = λ wrong. absurd (cc (ends, wrong));

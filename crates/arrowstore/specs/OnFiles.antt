@@ -48,7 +48,9 @@ use Rattle.cli_refusals.specs.declared.known.Known.{Known}
 use Rattle.cli_refusals.specs.declared.hint.Hinted.TheVariants.{Part, Table}
 use Rattle.cli_texts.specs.Reported.{IsWrong}
 use Rattle.cli_texts.specs.Ending.{GivesSome, HasReported, HasReportedHint, HintsText, IsOutput}
-use Rattle.cli_texts.specs.declared.notes.Note.{Note}
+use Rattle.cli_texts.specs.Warnings.{both_notes}
+use Rattle.cli_texts.specs.declared.warnings.Notes.{Notes}
+use Rattle.cli_texts.specs.declared.warnings.Warning.{Warning}
 use Rattle.cli_texts.specs.declared.telling.Audience.{Audience}
 use Rattle.cli_texts.specs.declared.status.Ended.{Ended}
 use Rattle.cli_texts.specs.declared.status.Status.{Status}
@@ -361,14 +363,15 @@ pub record Ends (R W E : Type 0) : Type 0 where
 abbrev pub ends_of : {R W E : Type 0} → R → W → E → Ends R W E
 ends_of input output errors = record { input = input; output = output; errors = errors }
 
--- how a run of the command of this word ended, what it left out and what it noted, was reported to an audience, with what is known
-abbrev pub HasTold : {W E : Type 0} → (reported : E → Option (List ℕ)) → Audience → (word : List ℕ) → (left : List (ℕ × ℕ)) → Option Note
+-- how a run of the command of this word ended, what it left out and what is told of it once it is done, was reported to an audience, with
+-- what is known
+abbrev pub HasTold : {W E : Type 0} → (reported : E → Option (List ℕ)) → Audience → (word : List ℕ) → (left : List (ℕ × ℕ)) → Notes
     → (output output' : W) → (errors errors' : E)
     → Ended → Known → Type 0
-HasTold reported audience word left note output output' errors errors' ended known =
-    HasReported reported audience known left note (WritesPart word) output output' errors errors' ended
+HasTold reported audience word left notes output output' errors errors' ended known =
+    HasReported reported audience known left notes (WritesPart word) output output' errors errors' ended
 
--- a request was served, and what was left out, hinted or noted was reported
+-- a request was served, and what was left out, hinted or noted was reported, and for some requests a warning
 pub record ServesTold {D : Type 0} (g : Ghosts D) (is_opened : D → Type 0) {F R W E : Type 0} (of_file : F → Option (List ℕ)) (remaining : R → Option (List ℕ))
     (contents : W → Option (List ℕ)) (replays : ReplayWords → W → W → Result (Unit {0}) Refusal → Type 0) (reported : E → Option (List ℕ))
     (audience : Audience) (request : StoreRequest)
@@ -384,7 +387,10 @@ pub record ServesTold {D : Type 0} (g : Ghosts D) (is_opened : D → Type 0) {F 
   pub changing : known.changes ≡ changes request
   -- the hint names the part of the input or the table that the command hinted at, and none if it hinted at none
   pub hints : hinted_of known.hint ≡ remarks.hint
-  pub told : HasTold reported audience (request_word request) left remarks.note before.output after.output before.errors after.errors ended known
+  -- which warning this is, is only tested
+  pub warning : Option Warning
+  pub told : HasTold reported audience (request_word request) left (both_notes remarks.note warning) before.output after.output before.errors
+      after.errors ended known
 
 -- the request that the words state: the command of the first one, where only operands follow the file and the tables that they name, and all that
 -- `clap` finds, options too

@@ -3,13 +3,13 @@ ghost use Rattle.std.specs.Prelude.{◌≡◌, ◌≢◌, IsTrue, OnOk};
 ghost use Rattle.std.specs.Io.KnownBytes.{Appends};
 ghost use Rattle.cli_texts.specs.Ending.{TellsRefusal};
 ghost use Rattle.cli_texts.specs.LeftOut.{left_out_lines, left_out_text};
-ghost use Rattle.cli_texts.specs.Notes.{note_to, TellsNote};
 ghost use Rattle.cli_texts.specs.Told.{told};
+ghost use Rattle.cli_texts.specs.Warnings.{TellsNotes};
 ghost use Rattle.store.specs.Salvaging.{plain_left};
 ghost use Rattle.arrowstore.specs.OnFiles.{status_of};
 
 use cli_refusals::{Known, Refusal};
-use cli_texts::{Audience, Ended, Note, Status, end, tell_lacking, tell_left_out, tell_note};
+use cli_texts::{Audience, Ended, Notes, Status, end, tell_lacking, tell_left_out, tell_notes};
 use std::alloc::Global;
 use std::io::{self, Write};
 use store::LeftOut;
@@ -66,19 +66,19 @@ pub(crate) fn end_whole_or_partly<E: Write>(
     }
 }
 
-/// Tells the note of a request that is wholly done.
+/// Tells the notes of a request that is wholly done.
 pub(crate) fn tell_if_done<E: Write>(
     alloc: Global,
     done: &Result<(), Refusal>,
     left_out: &[LeftOut],
-    note: Option<Note>,
+    notes: Notes,
     audience: Audience,
     errors: &mut E,
 )
-    ensures done { status_of done.now (plain_left left_out.now) ≡ Status.Done → TellsNote E.contents (note_to audience note) errors.old errors.new }
+    ensures done { status_of done.now (plain_left left_out.now) ≡ Status.Done → TellsNotes E.contents audience notes.entry errors.old errors.new }
     ensures silent { status_of done.now (plain_left left_out.now) ≢ Status.Done → errors.new ≡ errors.old }
 {
     if done.is_ok() && left_out.is_empty() {
-        tell_note(alloc, note, audience, errors);
+        tell_notes(alloc, notes, audience, errors);
     }
 }

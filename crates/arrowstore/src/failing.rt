@@ -1,5 +1,6 @@
 // Explains the system call that failed while a request was served.
 use crate::asking_again::{AskedAgain, Served};
+use crate::block_devices::is_device_at;
 use crate::in_place_of_store::reason_in_place_of_store;
 use crate::noted::{Failure, FileCall};
 use crate::streams_again::FoundOfStreams;
@@ -54,7 +55,7 @@ fn unopened(alloc: Global, error: &io::Error) -> Option<FileReason> {
     Some(FileReason::Unopened(system_text(alloc, error)?))
 }
 
-// Returns whether a request makes the file at `path`.
+// Returns whether a request makes the file at `path`, unless a block device is there.
 fn makes(request: &StoreRequest<'_>, path: &str) -> bool {
     match request {
         StoreRequest::Format { path: new, .. } | StoreRequest::Copy { new, .. } => *new == path,
@@ -63,6 +64,15 @@ fn makes(request: &StoreRequest<'_>, path: &str) -> bool {
         | StoreRequest::Replay(_)
         | StoreRequest::Apply { .. }
         | StoreRequest::Command { .. } => false,
+    }
+}
+
+// Returns whether a request has made the file at `path` and removed it: a block device stays, and so does what another program has moved
+// there.
+fn has_removed<H: Files>(rt: &H, request: &StoreRequest<'_>, path: &str) -> bool {
+    match fs::symlink_metadata(rt, path) {
+        Ok(_) => false,
+        Err(error) => makes(request, path) && error.kind() == ErrorKind::NotFound,
     }
 }
 
@@ -75,7 +85,7 @@ fn reason_of_opening<H: Files + AllocGlobal>(
     if error.kind() == ErrorKind::AlreadyExists {
         return Some(FileReason::Exists);
     }
-    if makes(request, path) {
+    if makes(request, path) && !is_device_at(rt, path) {
         return Some(FileReason::Unmade(system_text(rt.alloc(), error)?));
     }
     match reason_in_place_of_store(rt, request, path) {
@@ -92,18 +102,18 @@ fn reason_of_lock(alloc: Global, error: &io::Error) -> Option<FileReason> {
     }
 }
 
-fn reason_of_write(alloc: Global, is_new: bool, error: &io::Error) -> Option<FileReason> {
+fn reason_of_write(alloc: Global, is_removed: bool, error: &io::Error) -> Option<FileReason> {
     let text = system_text(alloc, error)?;
-    Some(if is_new {
+    Some(if is_removed {
         FileReason::NewUnwritten(text)
     } else {
         FileReason::Unwritten(text)
     })
 }
 
-fn reason_of_sync(alloc: Global, is_new: bool, error: &io::Error) -> Option<FileReason> {
+fn reason_of_sync(alloc: Global, is_removed: bool, error: &io::Error) -> Option<FileReason> {
     let text = system_text(alloc, error)?;
-    Some(if is_new {
+    Some(if is_removed {
         FileReason::NewUnsynced(text)
     } else {
         FileReason::Unsynced(text)
@@ -121,8 +131,8 @@ fn reason_of<H: Files + AllocGlobal>(
         FileCall::Open => reason_of_opening(rt, request, path, error),
         FileCall::Lock => reason_of_lock(rt.alloc(), error),
         FileCall::Read => Some(FileReason::Unread(system_text(rt.alloc(), error)?)),
-        FileCall::Write => reason_of_write(rt.alloc(), makes(request, path), error),
-        FileCall::Sync => reason_of_sync(rt.alloc(), makes(request, path), error),
+        FileCall::Write => reason_of_write(rt.alloc(), has_removed(rt, request, path), error),
+        FileCall::Sync => reason_of_sync(rt.alloc(), has_removed(rt, request, path), error),
     }
 }
 

@@ -1,6 +1,7 @@
-// An input whose first bytes are kept, and how its last read ended.
+// An input whose first bytes are kept, and how it ended.
 ghost use Rattle.std.specs.Prelude.{◌≡◌};
 
+use crate::open_quotation::QuotationWatch;
 use cli_texts::{Audience, failure_of};
 use std::alloc::Global;
 use std::io::{self, Read};
@@ -16,23 +17,28 @@ pub trait Input {
     /// Returns whether no byte was read.
     fn is_empty(&self) -> bool;
 
+    /// Returns the line, counted from 1, on which the quotation begins that the bytes so far, as CSV, end within, if that is watched.
+    fn open_quotation(&self) -> Option<u64>;
+
     /// Returns the system's error if the last read failed.
     fn failure(&self) -> Option<io::Error>;
 }
 
-/// A reader that passes on what `input` gives, and keeps its first bytes and how the last read ended.
+/// A reader that passes on what `input` gives, and keeps its first bytes, where quotation marks are open, and how the last read ended.
 #[derive(Drop)]
 pub struct KeptStart<R: Read> {
     input: R,
     start: Vec<u8>,
     room: usize,
     is_empty: bool,
+    quotation: Option<QuotationWatch>,
     failure: Option<io::Error>,
 }
 
 impl<R: Read> KeptStart<R> {
-    /// Keeps at most [`MOST_KEPT`] bytes for a terminal, and none for any other audience.
-    pub fn new(alloc: Global, input: R, audience: Audience) -> KeptStart<R>
+    /// Keeps at most [`MOST_KEPT`] bytes for a terminal or a script, and none for any other audience. A text that may be CSV is watched for
+    /// its quotation marks, also for those alone.
+    pub fn new(alloc: Global, input: R, audience: Audience, may_be_csv: bool) -> KeptStart<R>
         ensures { result.input ≡ input }
     {
         let room = match audience {
@@ -44,8 +50,18 @@ impl<R: Read> KeptStart<R> {
             start: Vec::new(alloc),
             room,
             is_empty: true,
+            quotation: watch_for(audience, may_be_csv),
             failure: None,
         }
+    }
+}
+
+// Each byte of a text is looked at once more, so nothing is watched that nobody is told.
+fn watch_for(audience: Audience, may_be_csv: bool) -> Option<QuotationWatch> {
+    if may_be_csv && audience.is_advised() {
+        Some(QuotationWatch::new())
+    } else {
+        None
     }
 }
 
@@ -67,6 +83,10 @@ impl<R: Read> Input for KeptStart<R> {
         self.is_empty
     }
 
+    fn open_quotation(&self) -> Option<u64> {
+        self.quotation?.open_line()
+    }
+
     fn failure(&self) -> Option<io::Error> {
         self.failure
     }
@@ -81,6 +101,9 @@ impl<R: Read> Read for KeptStart<R> {
         if let Ok(count) = &read {
             self.is_empty = self.is_empty && *count == 0;
             keep(&mut self.start, &mut self.room, &buf[..*count]);
+            if let Some(quotation) = &mut self.quotation {
+                quotation.follow(&buf[..*count]);
+            }
         }
         read
     }

@@ -1,35 +1,9 @@
 // The line on which a refused record of a CSV text begins, in a sentence for a terminal.
+use crate::csv_place::{Place, UTF_8_MARK, next_place};
 use cli_refusals::Refusal;
 use cli_requests::{StoreCommand, StoreRequest};
 use std::alloc::Global;
 use text_import::TextForm;
-
-// A text may begin with this mark, which is no part of its first record.
-const UTF_8_MARK: [u8; 3] = [0xef, 0xbb, 0xbf];
-
-// Where a byte of a CSV text stands.
-#[derive(Clone, Copy, PartialEq, Eq)]
-enum Place {
-    BetweenRecords,
-    BeforeField,
-    InField,
-    InQuotationMarks,
-    AfterQuotationMark,
-}
-
-// Returns where the byte after this one stands.
-fn next_place(place: Place, byte: u8) -> Place {
-    match (place, byte) {
-        (Place::InQuotationMarks, b'"') => Place::AfterQuotationMark,
-        (Place::InQuotationMarks, _) => Place::InQuotationMarks,
-        (Place::AfterQuotationMark | Place::BeforeField | Place::BetweenRecords, b'"') => {
-            Place::InQuotationMarks
-        }
-        (_, b',') => Place::BeforeField,
-        (_, b'\n' | b'\r') => Place::BetweenRecords,
-        _ => Place::InField,
-    }
-}
 
 // Returns the line, counted from 1, on which a record of a CSV text begins; the header has the number 0. Empty lines are no records.
 fn line_of_record(text: &[u8], number: u64) -> Option<u64> {

@@ -10,12 +10,15 @@ ghost use Rattle.arrowstore.specs.Serving.{remarked};
 
 use crate::Remarks;
 use crate::applying_scripts::serve_apply;
+use crate::block_devices::is_device_at;
 use crate::copying_files::serve_copy;
 use crate::formatting_devices::serve_format_device;
+use crate::made_file::MadeFile;
 use crate::open_command::stated;
 use crate::replaying::serve_replay;
 use crate::salvaging_files::serve_salvage;
 use crate::serving_device::serve_device;
+use cli_commands::DeviceKind;
 use cli_refusals::{Refusal, Side, write_whole};
 use cli_requests::{StoreCommand, StoreRequest};
 use commit::FormatVersion;
@@ -143,25 +146,20 @@ fn device_of<F: Read + Write + Seek + OpenFile + LockFile + Drop, H: Files<File 
     }
 }
 
-// Returns whether a regular file is at the path, and no device.
-fn is_file_at<H: Files>(rt: &H, path: &str) -> bool {
-    match fs::metadata(rt, path) {
-        Ok(found) => found.is_file(),
-        Err(_) => false,
-    }
-}
-
-/// Returns `done`, and removes the new file if it is an error. The file's device still holds its lock, so nobody else has written to it. A block device
-/// stays at its path.
+/// Returns `done`, and removes the new file if it is an error. The file's device still holds its lock, so nobody else has written to it.
+/// Whatever else is at the path by now stays, and so does a block device.
 pub(crate) fn remove_on_error<T: Drop, H: Files>(
     rt: &H,
     path: &str,
+    made: Option<MadeFile>,
     done: Result<T, Refusal>,
 ) -> Result<T, Refusal>
     ensures { result ≡ done }
 {
-    if done.is_err() && is_file_at(rt, path) {
-        let _removed = fs::remove_file(rt, path);
+    if let Some(made) = made {
+        if done.is_err() && made.is_at(rt, path) {
+            let _removed = fs::remove_file(rt, path);
+        }
     }
     done
 }
@@ -173,6 +171,7 @@ pub(crate) fn format_new<
 >(
     rt: &H,
     path: &str,
+    made: Option<MadeFile>,
     device: FileDevice<SystemFile<F>>,
     version: FormatVersion,
 ) -> Result<Store<FileDevice<SystemFile<F>>>, Refusal>
@@ -182,7 +181,7 @@ pub(crate) fn format_new<
 {
     match format_on(rt.alloc(), device, version) {
         Ok(store) => Ok(store),
-        Err((refusal, _device)) => remove_on_error(rt, path, Err(refusal)),
+        Err((refusal, _device)) => remove_on_error(rt, path, made, Err(refusal)),
     }
 }
 
@@ -201,7 +200,8 @@ pub(crate) fn format_file<
     ensures refused { IfErr result (RefusesFormat ⟦<FileDevice<SystemFile<F>> as SectorDevice>⟧ sectors version) }
 {
     let device = FileDevice::create(rt, path, sectors)?;
-    format_new(rt, path, device, version)
+    let made = MadeFile::at(rt, path, sectors);
+    format_new(rt, path, made, device, version)
 }
 
 fn serve_format<
@@ -215,6 +215,14 @@ fn serve_format<
     let _places = reserve_standard_descriptors(rt)?;
     let _store = format_file(rt, path, sectors, version)?;
     write_whole(output, b"ok\n")
+}
+
+// Returns what `info` says of the device at a path. For other commands the system is not asked.
+fn kind_told<H: Files>(rt: &H, path: &str, command: &StoreCommand<'_>) -> DeviceKind {
+    match command {
+        StoreCommand::Info { .. } if is_device_at(rt, path) => DeviceKind::Block,
+        _ => DeviceKind::File,
+    }
 }
 
 // Serves a command on the store in a file. Its texts are parsed before any system call.
@@ -237,7 +245,8 @@ fn serve_command<
     ensures silent { IfErr result (λ refusal. refusal ≢ Refusal.Io Side.Output → output.new ≡ output.old) }
 {
     let access = access_of(command);
-    let command = stated(rt.alloc(), command)?;
+    let kind = kind_told(rt, path, command);
+    let command = stated(rt.alloc(), command, kind)?;
     let _places = reserve_standard_descriptors(rt)?;
     let device = device_of(rt, path, access)?;
     let (done, _device) = serve_device(rt.alloc(), device, command, input, output, remarks);

@@ -15,14 +15,15 @@ ghost use Rattle.cli_requests.specs.Asked.{changes, request_word};
 ghost use Rattle.cli_requests.specs.Right.{AreRightWords};
 ghost use Rattle.cli_requests.specs.StoreWords.{first_word, is_of_store, takes_input, takes_input_word};
 ghost use Rattle.cli_texts.specs.Reported.{IfRefused, IsWrong};
-ghost use Rattle.cli_texts.specs.declared.notes.Note.{Note};
+ghost use Rattle.cli_texts.specs.Warnings.{no_notes};
+ghost use Rattle.cli_texts.specs.declared.warnings.Notes.{Notes};
 ghost use Rattle.cli_texts.specs.declared.status.Status.TheVariants.{Done, PartlyDone, Refused};
 ghost use Rattle.cli_refusals.specs.declared.refusal.Refusal.TheVariants as refusals;
 ghost use Rattle.cli_refusals.specs.declared.known.Known.{Known};
 ghost use Rattle.cli_refusals.specs.Known.{unchanging};
 ghost use Rattle.store.specs.Salvaging.{plain_left};
 
-use crate::about_words::{about_file, about_line, about_word};
+use crate::about_words::{about_file, about_word};
 use crate::asking_again::{AskedAgain, Served, ask_again};
 use crate::ending::{end_whole_or_partly, tell_if_done};
 use crate::failing::cause_of;
@@ -32,13 +33,14 @@ use crate::noted::Failure;
 use crate::record_line::line_of_refused;
 use crate::serving::serve;
 use crate::unread_tables::report_of_others;
+use crate::warnings::warning_of;
 use crate::{Failures, Remarks, run};
 use cli_refusals::{Hint, Hinted, Known, Refusal, Word};
 use cli_requests::{
     Mistake, StoreRequest, ask_for_help, is_of_store, no_block_device, refused_word, request_of,
 };
 use cli_texts::{
-    Audience, Ended, Output, audience_after_output, report_arguments, report_signed_number,
+    Audience, Ended, Notes, Output, audience_after_output, report_arguments, report_signed_number,
     report_wrong_arguments,
 };
 use sector_dev::{FileDevice, LockFile, ModelDevice, SectorDevice, SystemFile};
@@ -101,7 +103,7 @@ fn about_found(
             alloc,
             refused.number,
         ),
-        (AskedAgain::Line(text), _) => about_line(alloc, text.as_slice()),
+        (AskedAgain::Line(line), _) => line.about(alloc),
         _ => None,
     }
 }
@@ -115,8 +117,8 @@ fn found_hint<'a>(asked: &'a AskedAgain, word: Option<Word<'a>>, about: &'a str)
         AskedAgain::File(file) => Some(Hint::File(file)),
         AskedAgain::Streams(found) => Some(found.hint()),
         AskedAgain::Unread(name) => Some(Hint::UnreadTable(name.as_str())),
-        AskedAgain::Line(text) => Some(Hint::ScriptLine {
-            text: text.as_slice(),
+        AskedAgain::Line(line) => Some(Hint::ScriptLine {
+            text: line.text.as_slice(),
             about,
         }),
         AskedAgain::Field(field) => Some(field.hint()),
@@ -186,6 +188,17 @@ fn end_of_request<E: Write>(
     end_whole_or_partly(done, left_out, known, audience, errors)
 }
 
+fn served_of<'a, R: Input, W: Output>(input: &'a R, output: &W) -> Served<'a> {
+    Served {
+        start: input.start(),
+        is_input_empty: input.is_empty(),
+        open_quotation: input.open_quotation(),
+        input_failure: input.failure(),
+        is_output_empty: output.is_empty(),
+        output_failure: output.failure(),
+    }
+}
+
 // Serves a request of a store, and tells what it has brought, or reports why it was refused. The hint is the part of the input or the table that the
 // command itself hinted at, or else what is found by asking again, or a word of the command line.
 fn serve_and_report<
@@ -219,20 +232,20 @@ fn serve_and_report<
     let left: &[LeftOut] = &left_out;
     let failure = failures.take();
     let audience = audience_after_output(audience, output);
-    tell_if_done(rt.alloc(), &done, left, remarks.note, audience, errors);
-    let about = about_hinted(rt, request, &remarks.hint, input.start(), &done, audience);
+    let served = served_of(input, output);
+    let warning = warning_of(rt, request, served, remarks.note, &done, audience);
+    let notes = Notes {
+        note: remarks.note,
+        warning,
+    };
+    tell_if_done(rt.alloc(), &done, left, notes, audience, errors);
+    let about = about_hinted(rt, request, &remarks.hint, served.start, &done, audience);
     match hint_of(&remarks.hint, about.as_str()) {
         Some(hint) => {
             let known = known_of(request, &failure, Some(hint));
             end_whole_or_partly(done, left, known, audience, errors)
         }
         None => {
-            let served = Served {
-                start: input.start(),
-                is_input_empty: input.is_empty(),
-                input_failure: input.failure(),
-                output_failure: output.failure(),
-            };
             let asked = ask_again(rt, request, served, &failure, &done, audience);
             end_of_request(
                 rt.alloc(),
@@ -370,14 +383,14 @@ pub fn run_with_files<
     // If no command is done, help that was asked for is written, and nothing else.
     ensures helps { result.status ≡ Done → AreRecode (map S.text arguments.now) ⊎ (is_own (map S.text arguments.now) ≡ true)
         ⊎ (is_of_store (map S.text arguments.now) ≡ true) ⊎ GivesSome (W.contents output.old) (W.contents output.new) }
-    // `errors` gets the report of a refusal for this audience, the segments that are left out, and on success the note of the command, or else nothing;
-    // nor the failure of an output whose reader is gone. Only commands of a store leave something out, have notes, or have hints other than those that
-    // `run` may give.
-    ensures reports { (known : Known) × (left : List (ℕ × ℕ)) × (note : Option Note)
+    // `errors` gets the report of a refusal for this audience, the segments that are left out, and on success the notes of the command, or
+    // else nothing; nor the failure of an output whose reader is gone. Only commands of a store leave something out, have notes, or have
+    // hints other than those that `run` may give.
+    ensures reports { (known : Known) × (left : List (ℕ × ℕ)) × (notes : Notes)
         × ((is_of_store (map S.text arguments.now) ≡ true)
-        ⊎ ((left ≡ []) × (note ≡ None) × (known ≡ unchanging known.hint)
+        ⊎ ((left ≡ []) × (notes ≡ no_notes) × (known ≡ unchanging known.hint)
         × IfRefused result.status (MayHint (map S.text arguments.now) known.hint)))
-        × HasTold E.contents (audience_after_output audience (W.unread output.new)) (first_word (map S.text arguments.now)) left note output.old
+        × HasTold E.contents (audience_after_output audience (W.unread output.new)) (first_word (map S.text arguments.now)) left notes output.old
         output.new errors.old errors.new result known }
 {
     if is_of_store(arguments) {

@@ -13,8 +13,8 @@ use Rattle.cli_texts.specs.declared.status.Status.{Status}
 use Rattle.cli_texts.specs.declared.status.Status.TheVariants.{Done, PartlyDone, Refused, WrongArguments}
 use Rattle.cli_texts.specs.declared.telling.Audience.{Audience}
 use Rattle.cli_texts.specs.LeftOut.{left_out_text}
-use Rattle.cli_texts.specs.Notes.{note_to, TellsNote}
-use Rattle.cli_texts.specs.declared.notes.Note.{Note}
+use Rattle.cli_texts.specs.Warnings.{no_notes, TellsNotes}
+use Rattle.cli_texts.specs.declared.warnings.Notes.{Notes}
 use Rattle.cli_texts.specs.Reported.{IfRefused}
 use Rattle.cli_texts.specs.Told.{told}
 
@@ -43,12 +43,12 @@ TellsRefusal tells ended errors errors' = IfRefused ended.status (λ refusal. Is
 abbrev pub IsOutput : Refusal → Type 0
 IsOutput refusal = refusal ≡ Io Output
 
--- a run that has ended, whatever it was asked for: what was reported to an audience, with what is known; which segments were left out; the note of a command
+-- a run that has ended, whatever it was asked for: what was reported to an audience, with what is known; which segments were left out; the notes of a command
 -- that is done; and after which refusals some output may be written
-pub record HasReported {W E : Type 0} (contents : E → Option (List ℕ)) (audience : Audience) (known : Known) (left : List (ℕ × ℕ)) (note : Option Note)
+pub record HasReported {W E : Type 0} (contents : E → Option (List ℕ)) (audience : Audience) (known : Known) (left : List (ℕ × ℕ)) (notes : Notes)
     (writes_part : Refusal → Type 0) (output output' : W) (errors errors' : E) (ended : Ended) : Type 0 where
-  -- a run that is done leaves nothing out, and tells its note to whoever is advised, and nothing else; it counts as reported
-  pub silent : ended.status ≡ Done → (left ≡ []) × TellsNote contents (note_to audience note) errors errors' × IsTrue ended.is_reported
+  -- a run that is done leaves nothing out, and tells its notes to whoever is advised, and nothing else; it counts as reported
+  pub silent : ended.status ≡ Done → (left ≡ []) × TellsNotes contents audience notes errors errors' × IsTrue ended.is_reported
   -- a run that is partly done reports what it leaves out
   pub listed : ended.status ≡ PartlyDone → (left ≢ []) × (IsTrue ended.is_reported → Appends (contents errors) (contents errors') (left_out_text audience left))
   pub nothing_written : ended.status ≡ WrongArguments → output' ≡ output
@@ -62,9 +62,9 @@ HintsText None refusal = Unit {0}
 HintsText (Some (hints.Output reason)) refusal = IsOutput refusal
 HintsText (Some hint) refusal = ⊥
 
--- a run that changes nothing, leaves nothing out and has no note, and writes a part of its output only if that failed; a refusal is reported with one of these hints or
+-- a run that changes nothing, leaves nothing out and has no notes, and writes a part of its output only if that failed; a refusal is reported with one of these hints or
 -- none
 abbrev pub HasReportedHint : {W E : Type 0} → (may_hint : Option Hint → Refusal → Type 0) → (contents : E → Option (List ℕ)) → Audience → (output output' : W)
     → (errors errors' : E) → Ended → Type 0
 HasReportedHint may_hint contents audience output output' errors errors' ended =
-    (hint : Option Hint) × IfRefused ended.status (may_hint hint) × HasReported contents audience (unchanging hint) [] None IsOutput output output' errors errors' ended
+    (hint : Option Hint) × IfRefused ended.status (may_hint hint) × HasReported contents audience (unchanging hint) [] no_notes IsOutput output output' errors errors' ended

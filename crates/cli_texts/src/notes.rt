@@ -77,7 +77,7 @@ fn line_of(alloc: Global, note: Note) -> Result<String, AllocError>
 
 // Writes a text, or some first bytes of it if the writer fails.
 #[tactic(auto, using(crate::proofs::TextLemmas::front_of_written))]
-fn write_front<E: Write>(text: &str, errors: &mut E)
+pub(crate) fn write_front<E: Write>(text: &str, errors: &mut E)
     ensures { AppendsFront (E.contents errors.old) (E.contents errors.new) text.now }
 {
     let _written = write_whole(errors, text.as_bytes());
@@ -94,7 +94,12 @@ fn write_note<E: Write>(alloc: Global, note: Note, errors: &mut E)
 }
 
 /// Tells the note of a command that is done, on a terminal or to a script. The command stays done if memory is refused or the writer fails.
-pub fn tell_note<E: Write>(alloc: Global, note: Option<Note>, audience: Audience, errors: &mut E)
+pub(crate) fn tell_note<E: Write>(
+    alloc: Global,
+    note: Option<Note>,
+    audience: Audience,
+    errors: &mut E,
+)
     ensures { TellsNote E.contents (note_to audience note) errors.old errors.new }
 {
     match note {

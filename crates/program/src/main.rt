@@ -10,7 +10,7 @@
 mod progress;
 
 use arrowstore::{
-    Audience, Failures, KeptStart, ShownOutput, WatchedOutput, asks_to_wait,
+    Audience, Failures, KeptStart, ShownOutput, WatchedOutput, asks_csv, asks_to_wait,
     report_stream_to_terminal, report_unreadable_arguments, run_with_files, writes_stream,
 };
 use progress::{ProgressFiles, ProgressLine, ProgressReader, ProgressWriter, Target};
@@ -42,6 +42,7 @@ fn main(rt: HostRuntime) -> ExitCode {
                 rt.alloc(),
                 ProgressReader::new(rt.reader(), line.as_ref()),
                 audience,
+                asks_csv(arguments.as_slice()),
             ),
             &mut WatchedOutput::new(ShownOutput::new(
                 ProgressWriter::new(rt.stdout(), line.as_ref(), target),

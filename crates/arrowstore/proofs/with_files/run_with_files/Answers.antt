@@ -1,5 +1,6 @@
-use Rattle.std.proofs.Common.{◌∙◌, [], None, inl, inr, refl, sym, true≢false}
+use Rattle.std.proofs.Common.{◌∙◌, [], inl, inr, refl, sym, true≢false}
 use Rattle.cli_refusals.specs.Known.{unchanging}
+use Rattle.cli_texts.specs.Warnings.{both_notes, no_notes}
 use Rattle.arrowstore.proofs.EndLemmas.{reported_of_word, told_of_word}
 use Rattle.arrowstore.proofs.WordLemmas.{recode_of_no_store, own_of_no_store}
 use Rattle.arrowstore.proofs.with_files.run_with_files.Goals as goal
@@ -29,8 +30,8 @@ pub returns-then-is_of_store-clause-reports : goal.returns-then-is_of_store-clau
 returns-then-is_of_store-clause-reports g c =
     let is = sym c.is_of_store.ensures ∙ c.if-is_of_store.true in
     elim c.run_on_store.ensures.serves [
-      | inl none ↦ (unchanging none.2.0, [], None, inl is, reported_of_word _ _ (unchanging none.2.0) [] None _ _ _ _ _ _ none.2.2)
-      | inr asked ↦ (asked.served.known, asked.served.left, asked.served.remarks.note, inl is, told_of_word _ _ _ _ _ _ _ _ _ _ _ _ asked.asks.0 asked.served.told)
+      | inl none ↦ (unchanging none.2.0, [], no_notes, inl is, reported_of_word _ _ (unchanging none.2.0) [] no_notes _ _ _ _ _ _ none.2.2)
+      | inr asked ↦ (asked.served.known, asked.served.left, both_notes asked.served.remarks.note asked.served.warning, inl is, told_of_word _ _ _ _ _ _ _ _ _ _ _ _ asked.asks.0 asked.served.told)
     ]
 
 pub returns-clause-done : goal.returns-clause-done
@@ -52,7 +53,7 @@ pub returns-clause-serves : goal.returns-clause-serves
 returns-clause-serves g c = λ is. absurd (true≢false (sym is ∙ (sym c.is_of_store.ensures ∙ c.if-is_of_store.false)))
 
 pub returns-clause-reports : goal.returns-clause-reports
-returns-clause-reports g c = let has = c.run.ensures.reports in (unchanging has.0, [], None, inr (refl, refl, refl, has.1), reported_of_word _ _ (unchanging has.0) [] None _ _ _ _ _ _ has.2)
+returns-clause-reports g c = let has = c.run.ensures.reports in (unchanging has.0, [], no_notes, inr (refl, refl, refl, has.1), reported_of_word _ _ (unchanging has.0) [] no_notes _ _ _ _ _ _ has.2)
 
 pub returns-then-is_of_store-clause-helps : goal.returns-then-is_of_store-clause-helps
 returns-then-is_of_store-clause-helps g c = λ _. inr (inr (inl (sym c.is_of_store.ensures ∙ c.if-is_of_store.true)))

@@ -1,5 +1,6 @@
 use Rattle.std.proofs.Common.{Some, ◌∙◌}
 use Rattle.store.specs.Salvaging.{plain_left}
+use Rattle.cli_texts.specs.Warnings.{both_notes}
 use Rattle.arrowstore.proofs.FileLemmas.{has_reported}
 use Rattle.arrowstore.proofs.with_files.serve_and_report.Goals as goal
 
@@ -13,7 +14,8 @@ returns-in-Some-clause-serves g c = let e = c.end_whole_or_partly.ensures in rec
   known = c.known_of-known.result;
   changing = c.known_of-known.ensures.changes;
   hints = rw c.known_of-known.ensures.hint c.in-Some.ensures;
-  told = rw (← c.deref-left.ensures.value, ← c.audience_after_output-audience.ensures) (has_reported _ _ _ _ c.serve-done.new.remarks.note _ _ _ _ _ _ c.serve-done.result c.end_whole_or_partly.result e.ends c.serve-done.ensures.silent c.tell_if_done.ensures.done c.tell_if_done.ensures.silent e.silent e.lines e.line);
+  warning = c.warning_of-warning.result;
+  told = rw (← c.deref-left.ensures.value, ← c.audience_after_output-audience.ensures) (has_reported _ _ _ _ (both_notes c.serve-done.new.remarks.note c.warning_of-warning.result) _ _ _ _ _ _ c.serve-done.result c.end_whole_or_partly.result e.ends c.serve-done.ensures.silent c.tell_if_done.ensures.done c.tell_if_done.ensures.silent e.silent e.lines e.line);
 }
 
 pub returns-clause-serves : goal.returns-clause-serves
@@ -26,5 +28,6 @@ returns-clause-serves g c = let e = c.end_of_request.ensures in record {
   known = e.line.0;
   changing = e.line.1;
   hints = e.line.2 ∙ c.in-None.ensures;
-  told = rw (← c.deref-left.ensures.value, ← c.audience_after_output-audience.ensures) (has_reported _ _ _ _ c.serve-done.new.remarks.note _ _ _ _ _ _ c.serve-done.result c.end_of_request.result e.ends c.serve-done.ensures.silent c.tell_if_done.ensures.done c.tell_if_done.ensures.silent e.silent e.lines e.line.3);
+  warning = c.warning_of-warning.result;
+  told = rw (← c.deref-left.ensures.value, ← c.audience_after_output-audience.ensures) (has_reported _ _ _ _ (both_notes c.serve-done.new.remarks.note c.warning_of-warning.result) _ _ _ _ _ _ c.serve-done.result c.end_of_request.result e.ends c.serve-done.ensures.silent c.tell_if_done.ensures.done c.tell_if_done.ensures.silent e.silent e.lines e.line.3);
 }
