@@ -1,0 +1,17 @@
+use Rattle.std.proofs.Common.{◌≡◌, ◌∙◌, ◌+◌, ◌<◌, ◌==◌, ℕ, List, [], true, false, arith, get_or, length, sym, ap, subst, eqb-true}
+use Rattle.std.specs.Borrow.{Bor}
+use Rattle.std.proofs.lemmas.Bool.{eqb-false}
+use Rattle.table_archive.specs.Digests.{StateDigests}
+use Rattle.table_archive.proofs.LineLemmas.{next_digest, bad_line}
+use Rattle.table_archive.proofs.digests.parse_digests.Goals.{else-is_empty-via-then-is_empty+else-place-len, else-is_empty-via-else-is_empty}
+use Rattle.table_archive.proofs.digests.parse_digests.Goals as goal
+
+pub loop-place-preserved : goal.loop-place-preserved
+loop-place-preserved c =
+    next_digest c.in_ok-parts.parts.items c.loop-place.place c.index.result.now c.loop-place.digests.items _ c.in-Some.digest (omega arith)
+    c.index.ensures c.in_ok-push-in-Some.ensures.items c.loop-place.invariant c.in-Some.ensures
+
+pub returns-in-None-clause-told : goal.returns-in-None-clause-told
+returns-in-None-clause-told c =
+    bad_line c.args.text.now c.in_ok-parts.parts.items c.loop-place.place c.index.result.now c.loop-place.digests.items c.in_ok-parts.ensures (omega arith)
+    c.index.ensures c.loop-place.invariant c.in-None.ensures ?
