@@ -59,10 +59,11 @@ pub fn parse_digests(alloc: Global, text: &[u8]) -> Result<Vec<[u8; 32]>, Digest
     let parts = parts_of(alloc, text)?;
     let mut digests = Vec::new(alloc);
     for place in 0..parts.len() {
-        match digest_of(parts[place]) {
+        let line = parts[place];
+        match digest_of(line) {
             Some(digest) => digests.push(digest)?,
             None => {
-                if parts[place].is_empty() && place + 1 == parts.len() {
+                if line.is_empty() && place + 1 == parts.len() {
                     return Ok(digests);
                 }
                 return Err(DigestsError::BadLine(place as u64 + 1));
