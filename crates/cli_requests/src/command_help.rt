@@ -116,7 +116,10 @@ names that create does not take, is refused then (P3 NoText).",
     CommandHelp {
         name: "check",
         about: abouts::CHECK,
-        example: "Example: arrowstore check store",
+        example: "Example: arrowstore check store
+
+Only a user that may write the file makes sure of the last change: the commits are then
+written again. Others, and a read-only disk, only have the tables read.",
     },
     CommandHelp {
         name: "salvage",
