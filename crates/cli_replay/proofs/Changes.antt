@@ -1,23 +1,16 @@
 -- Lines that can be parsed, those that change tables, and their commands, one after another.
-use Rattle.std.proofs.Common.{◌≡◌, ◌≢◌, ◌<◌, ◌+◌, ◌++◌, ◌∷◌, [], ℕ, zero, suc, Bool, true, false, List, length, take, map, get_or, Option, Some, None, Ok, Err, ◌⊎◌, inl, inr, ap, sym, refl, subst, arith}
+use Rattle.std.proofs.Common.{◌≡◌, ◌≢◌, ◌<◌, ◌+◌, ◌++◌, ◌∷◌, [], ℕ, zero, suc, Bool, true, false, List, length, take, map, get_or, Option, Some, None, Ok, Err, inl, inr, ap, sym, refl, subst, arith}
 use Rattle.std.specs.List.{list_all, AllByRecursion}
 use Rattle.std.proofs.lemmas.Bool.{and_parts}
 use Rattle.std.proofs.lemmas.List.{take_more, map-append}
-use Rattle.std.specs.Borrow.{Bor}
-use Rattle.text_import.specs.declared.form.TextForm.{TextForm}
-use Rattle.cli_refusals.specs.declared.refusal.Refusal.{Refusal}
-use Rattle.cli_refusals.specs.declared.refusal.Refusal.TheVariants as refusals
-use Rattle.cli_refusals.specs.declared.refusal.Side.TheVariants.{File}
 use Rattle.cli_commands.specs.declared.applying.ListedCommand.{ListedCommand}
-use Rattle.cli_commands.specs.declared.applying.ListedCommand.TheVariants.{Known}
 use Rattle.cli_scripts.specs.declared.line.ScriptLine.{ScriptLine}
-use Rattle.cli_scripts.specs.declared.line.ScriptLine.TheVariants.{Create, Import, Append, AppendText, Save, Rename, Drop, Compact, Upgrade, Reopen, Begin, Commit}
 use Rattle.cli_scripts.specs.Plain.{plain_line, plain_lines}
-use Rattle.cli_scripts.specs.Script.{PlainLine, create, import_file, append_file, append_text, save, rename, drop, compact, upgrade, reopen, begin_list, commit_list, HaveLines, IsScriptOfChanges, changes_tables}
+use Rattle.cli_scripts.specs.Script.{PlainLine, HaveLines}
 use Rattle.tables.specs.View.{command_of}
 use Rattle.tables.specs.declared.command.Command.{Command}
-use Rattle.cli_replay.specs.Listed.{IsTested, IsChange, IsKnownChange, IsListedOfLine, AreListedOfLines, IsOfFiles, RefusesCommands}
-use Rattle.cli_replay.specs.Replay.{AreCommandsOfLines, IsCommandOfLine, IsOfReading}
+use Rattle.cli_replay.specs.Listed.{IsTested, IsListedOfLine, AreListedOfLines}
+use Rattle.cli_replay.specs.Replay.{AreCommandsOfLines, IsCommandOfLine}
 
 -- ---- what is known of each line
 
@@ -72,34 +65,6 @@ commands_kept remaining lines i line commands command lt is before here =
 
 -- ---- their commands, as far as they are known before the tables are
 
-pub known_change : (line : ScriptLine) → ((name file : Bor (List ℕ)) (form : TextForm) → line ≢ AppendText name file form) → IsChange (plain_line line) → IsKnownChange (plain_line line)
-known_change (Create name fields) other is = is
-known_change (Import name file) other is = is
-known_change (Append name file) other is = is
-known_change (AppendText name file form) other is = absurd (other name file form refl)
-known_change (Save from to rows) other is = is
-known_change (Rename from to) other is = is
-known_change (Drop name) other is = is
-known_change Compact other is = is
-known_change Upgrade other is = is
-known_change Reopen other is = is
-known_change Begin other is = is
-known_change Commit other is = is
-
-pub listed_known : {F : Type 0} (remaining : F → Option (List ℕ)) (line : PlainLine) (command : Command) → IsCommandOfLine remaining line (command_of command) → IsListedOfLine remaining line (Known command)
-listed_known remaining (create name texts) command is = is
-listed_known remaining (import_file name file) command is = is
-listed_known remaining (append_file name file) command is = is
-listed_known remaining (append_text name file form) command is = absurd is
-listed_known remaining (save from to rows) command is = is
-listed_known remaining (rename from to) command is = is
-listed_known remaining (drop name) command is = is
-listed_known remaining compact command is = is
-listed_known remaining upgrade command is = is
-listed_known remaining reopen command is = is
-listed_known remaining begin_list command is = is
-listed_known remaining commit_list command is = is
-
 listed_more : {F : Type 0} (remaining : F → Option (List ℕ)) (lines : List PlainLine) (commands : List ListedCommand) (line : PlainLine) (command : ListedCommand)
     → AreListedOfLines remaining lines commands → IsListedOfLine remaining line command → AreListedOfLines remaining (lines ++ line ∷ []) (commands ++ command ∷ [])
 listed_more remaining [] [] line command are is = (is, tt)
@@ -112,20 +77,3 @@ pub listed_kept : {F : Type 0} (remaining : F → Option (List ℕ)) (lines : Li
     → AreListedOfLines remaining (plain_lines (take (i + 1) lines)) (commands ++ command ∷ [])
 listed_kept remaining lines i line commands command lt is before here =
     one_kept plain_line (IsListedOfLine remaining) (AreListedOfLines remaining) (listed_more remaining) lines i line commands command lt is before here
-
--- ---- why their files are not read
-
-pub of_files : (r : Refusal) → IsOfReading r → IsOfFiles r
-of_files (refusals.Io File) is = tt
-of_files refusals.OutOfMemory is = tt
-of_files _ is = absurd is
-
-pub of_text : (r : Refusal) → (r ≡ refusals.TooManyBytes) ⊎ IsOfReading r → IsOfFiles r
-of_text r (inl is) = subst IsOfFiles (sym is) tt
-of_text r (inr is) = of_files r is
-
-pub commands_refused : (script : List ℕ) (lines : List PlainLine) (r : Refusal) → IsScriptOfChanges script (Ok lines) → IsOfFiles r → RefusesCommands script r
-commands_refused script lines refusals.TooManyBytes parsed is = (lines, parsed)
-commands_refused script lines (refusals.Io File) parsed is = (lines, parsed)
-commands_refused script lines refusals.OutOfMemory parsed is = tt
-commands_refused script lines _ parsed is = absurd is

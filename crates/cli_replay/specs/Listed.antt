@@ -1,5 +1,5 @@
 -- The commands of a script that is applied as one commit.
-use Rattle.std.specs.Prelude.{◌≡◌, ◌⊎◌, ℕ, max, true, false, List, length, Option, Ok, Err}
+use Rattle.std.specs.Prelude.{◌≡◌, ◌⊎◌, ℕ, max, true, false, List, [], ◌∷◌, length, Option, Ok, Err}
 use Rattle.std.specs.List.{AllByRecursion}
 use Rattle.tables.specs.View.{command_of}
 use Rattle.cli_commands.specs.declared.applying.ListedCommand.{ListedCommand}

@@ -97,8 +97,8 @@ rename kept readings
 
 All files are read before the store is opened. A text is read for the fields that its
 table has at its line. If a line is refused, so is the whole script, with the number of
-the line, as in T1 Line 3 S2 NameTaken, or T1 Line 3 X4 NotANumber 5 for the record 5 of
-the file of line 3. It prints ok once.",
+the line, as in T1 Line 3 S2 NameTaken, or T1 Line 3 X4 NotANumber 5 for record 5 of the
+file of line 3. It prints ok once.",
     },
     CommandHelp {
         name: "tables",

@@ -9,6 +9,12 @@ returns-in_err-script-clause-applies g c =
     let kept : c.args.output.now ≡ c.args.output.now = refl in
     rw (p.1, p.2) (record { applies = inl (c.in_err-script.ensures.told, kept); unread = c.in_err-script.ensures.unread })
 
+pub returns-in_err-words-clause-applies : goal.returns-in_err-words-clause-applies
+returns-in_err-words-clause-applies g c =
+    let p = err_from_is_err_and c.from_residual-in_err-words.result c.from_residual-in_err-words.ensures.1 in
+    let kept : c.args.output.now ≡ c.args.output.now = refl in
+    rw (p.1, p.2) (record { applies = inr (c.in_ok-script.script.items, c.in_ok-script.ensures.read, inl (inl tt, kept)); unread = c.in_ok-script.ensures.unread })
+
 pub returns-in_err-commands-clause-applies : goal.returns-in_err-commands-clause-applies
 returns-in_err-commands-clause-applies g c =
     let p = err_from_is_err_and c.from_residual-in_err-commands.result c.from_residual-in_err-commands.ensures.1 in
@@ -54,8 +60,8 @@ returns-clause-applies g c = record {
       of_script = rw c.deref.ensures.value at c.in_ok-commands.ensures.commands;
       old = c.in_ok-store.store;
       opens = c.in_ok-store.ensures.opened;
-      new = c.apply_commands.new.store;
-      carries = record { goes = c.apply_commands.ensures.goes; told = c.apply_commands.ensures.told; written = c.apply_commands.ensures.written };
+      new = c.apply_listed.new.store;
+      carries = record { goes = c.apply_listed.ensures.goes; told = c.apply_listed.ensures.told; written = c.apply_listed.ensures.written };
     }),
   );
   unread = c.in_ok-script.ensures.unread;
