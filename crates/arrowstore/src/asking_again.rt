@@ -56,6 +56,8 @@ pub(crate) struct Served<'a> {
     pub(crate) open_quotation: Option<u64>,
     /// How the last read of the input failed, if it did.
     pub(crate) input_failure: Option<io::Error>,
+    /// Whether no byte of the output was written.
+    pub(crate) is_output_empty: bool,
     /// How the last write of the output failed, if it did.
     pub(crate) output_failure: Option<io::Error>,
 }

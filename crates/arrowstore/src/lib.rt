@@ -25,6 +25,7 @@ mod in_place_of_store;
 mod input_again;
 mod kept_start;
 mod later_version;
+mod literal_form;
 mod nearest_type;
 mod noted;
 mod notes;

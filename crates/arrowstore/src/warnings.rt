@@ -1,17 +1,59 @@
 // What a command that is done leaves in doubt, for a person or a script.
+use crate::about_words::is_shown;
 use crate::asking_again::Served;
+use crate::literal_form::{literal_form, literal_of};
 use cli_refusals::Refusal;
-use cli_requests::{StoreCommand, StoreRequest};
-use cli_texts::{Audience, Warning};
+use cli_requests::{QueryWords, StoreCommand, StoreRequest};
+use cli_texts::{Audience, Note, Warning};
 use text_import::TextForm;
 
-/// Returns the warning about a request that is done, if it has one and someone is told it.
-pub(crate) fn warning_of(
-    request: &StoreRequest<'_>,
+// Returns the words of a query that no row has met. One that is to have no rows is none.
+fn unmet_query<'r, 'a>(
+    request: &'r StoreRequest<'a>,
     served: Served<'_>,
+    note: Option<Note>,
+) -> Option<&'r QueryWords<'a>> {
+    let StoreRequest::Command { command, .. } = request else {
+        return None;
+    };
+    let query = match (command, note) {
+        (StoreCommand::Query { query, .. }, _) if served.is_output_empty => query,
+        (StoreCommand::SaveAs { query, .. }, Some(Note::Saved(0))) => query,
+        _ => return None,
+    };
+    if query.limit == Some(0) {
+        None
+    } else {
+        Some(query)
+    }
+}
+
+fn warning_about<'a>(literal: &'a str) -> Option<Warning<'a>> {
+    let form = literal_form(literal)?;
+    let text = if is_shown(literal) {
+        Some(literal)
+    } else {
+        None
+    };
+    Some(Warning::Literal { text, form })
+}
+
+// Returns the warning about the first literal that may not have been meant. Only columns of texts take such literals.
+fn doubted_literal<'a>(query: &QueryWords<'a>) -> Option<Warning<'a>> {
+    query
+        .conditions
+        .iter()
+        .find_map(|condition| warning_about(literal_of(condition)?))
+}
+
+/// Returns the warning about a request that is done, if it has one and someone is told it.
+pub(crate) fn warning_of<'a>(
+    request: &StoreRequest<'a>,
+    served: Served<'_>,
+    note: Option<Note>,
     done: &Result<(), Refusal>,
     audience: Audience,
-) -> Option<Warning> {
+) -> Option<Warning<'a>> {
     if done.is_err() || !audience.is_advised() {
         return None;
     }
@@ -23,6 +65,6 @@ pub(crate) fn warning_of(
             },
             ..
         } => Some(Warning::OpenQuotation(served.open_quotation?)),
-        _ => None,
+        _ => doubted_literal(unmet_query(request, served, note)?),
     }
 }

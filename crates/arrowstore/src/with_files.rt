@@ -222,9 +222,10 @@ fn serve_and_report<
         is_input_empty: input.is_empty(),
         open_quotation: input.open_quotation(),
         input_failure: input.failure(),
+        is_output_empty: output.is_empty(),
         output_failure: output.failure(),
     };
-    let warning = warning_of(request, served, &done, audience);
+    let warning = warning_of(request, served, remarks.note, &done, audience);
     let notes = Notes {
         note: remarks.note,
         warning,

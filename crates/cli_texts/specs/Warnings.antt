@@ -2,6 +2,8 @@
 use Rattle.std.specs.Prelude.{ℕ, if◌then◌else◌, decimal, List, [], ◌∷◌, ◌++◌, codes, Option, Some, None}
 use Rattle.cli_refusals.specs.Output.{AppendsFront}
 use Rattle.cli_texts.specs.declared.notes.Note.{Note}
+use Rattle.cli_texts.specs.declared.warnings.LiteralForm.{LiteralForm}
+use Rattle.cli_texts.specs.declared.warnings.LiteralForm.TheVariants.{Marked, Spaced, Null, Joined}
 use Rattle.cli_texts.specs.declared.warnings.Warning.{Warning}
 use Rattle.cli_texts.specs.declared.warnings.Warning.TheVariants as warnings
 use Rattle.cli_texts.specs.declared.warnings.Notes.{Notes}
@@ -9,10 +11,20 @@ use Rattle.cli_texts.specs.declared.telling.Audience.{Audience}
 use Rattle.cli_texts.specs.Notes.{note_to, TellsNote}
 use Rattle.cli_texts.specs.Told.{is_advised}
 
+-- what a literal was taken to be
+abbrev pub form_text : LiteralForm → List ℕ
+form_text Marked = codes "was taken with its quotation marks: leave them out."
+form_text Spaced = codes "was taken with the spaces at its ends: leave them out."
+form_text Null = codes "was taken as a text: `is null` and `is not null` ask for nulls."
+form_text Joined = codes "was taken as one text: give each condition as a word of its own."
+
 -- the sentence of a warning
 unfoldable pub warning_text : Warning → List ℕ
 warning_text (warnings.OpenQuotation line) =
     codes "The text ends within quotation marks that begin on line " ++ decimal line ++ codes ": all that follows them is in one field."
+warning_text (warnings.Literal (Some text) form) =
+    codes "No row meets the conditions. The literal `" ++ text.now ++ codes "` " ++ form_text form
+warning_text (warnings.Literal None form) = codes "No row meets the conditions. A literal " ++ form_text form
 
 abbrev pub warning_line : Warning → List ℕ
 warning_line warning = warning_text warning ++ 10 ∷ []

@@ -40,5 +40,5 @@ pub use reports::{
 pub use status::{Ended, Status};
 pub use telling::{Audience, Output, audience_after_output};
 pub use unreadable::report_unreadable_arguments;
-pub use warnings::{Notes, Warning, tell_notes};
+pub use warnings::{LiteralForm, Notes, Warning, tell_notes};
 pub use watched::WatchedOutput;

@@ -39,7 +39,7 @@ impl Audience {
     }
 }
 
-/// An output that knows whether its reader is gone, and why it failed.
+/// An output that knows whether its reader is gone, whether anything was written, and why it failed.
 pub trait Output {
     /// Its reader is gone.
     ghost unread: { Self → Bool };
@@ -47,6 +47,9 @@ pub trait Output {
     /// Returns whether its reader is gone: a write was answered so, as by a pipe that its reader has closed.
     fn is_unread(&self) -> bool
         ensures { result ≡ unread self.now };
+
+    /// Returns whether no byte was written.
+    fn is_empty(&self) -> bool;
 
     /// Returns the system's error if the last write or flush failed.
     fn failure(&self) -> Option<io::Error>;

@@ -9,21 +9,56 @@ use std::alloc::{AllocError, Global};
 use std::fmt::{self, Write as _};
 use std::io::Write;
 
+/// What of a literal may not have been meant.
+#[derive(Clone, Copy)]
+pub enum LiteralForm {
+    /// It stands in quotation marks.
+    Marked,
+    /// It has a space at an end.
+    Spaced,
+    /// It is `null`.
+    Null,
+    /// It has ` and ` within it.
+    Joined,
+}
+
+impl fmt::Display for LiteralForm {
+    ghost use Rattle.std.specs.Prelude.{Some};
+    ghost use Rattle.cli_texts.specs.Warnings.{form_text};
+
+    ghost output = { λ form. Some (form_text form) };
+
+    fn fmt<W: fmt::Write>(&self, f: &mut fmt::Formatter<W>) -> fmt::Result {
+        f.write_str(match self {
+            LiteralForm::Marked => "was taken with its quotation marks: leave them out.",
+            LiteralForm::Spaced => "was taken with the spaces at its ends: leave them out.",
+            LiteralForm::Null => "was taken as a text: `is null` and `is not null` ask for nulls.",
+            LiteralForm::Joined =>
+                "was taken as one text: give each condition as a word of its own.",
+        })
+    }
+}
+
 /// What a command that is done leaves in doubt.
 #[derive(Clone, Copy)]
-pub enum Warning {
+pub enum Warning<'a> {
     /// A CSV text ends within quotation marks that begin on this line, counted from 1.
     OpenQuotation(u64),
+    /// No row meets the conditions of a query, and what one of them compares with has this form. It is printed if a terminal may be shown it.
+    Literal {
+        text: Option<&'a str>,
+        form: LiteralForm,
+    },
 }
 
 /// What is told of a command that is done.
 #[derive(Clone, Copy)]
-pub struct Notes {
+pub struct Notes<'a> {
     pub note: Option<Note>,
-    pub warning: Option<Warning>,
+    pub warning: Option<Warning<'a>>,
 }
 
-impl fmt::Display for Warning {
+impl fmt::Display for Warning<'_> {
     ghost use Rattle.std.specs.Prelude.{Some};
     ghost use Rattle.cli_texts.specs.Warnings.{warning_text};
 
@@ -36,11 +71,21 @@ impl fmt::Display for Warning {
                 f,
                 "The text ends within quotation marks that begin on line {line}: all that follows them is in one field."
             ),
+            Warning::Literal {
+                text: Some(text),
+                form,
+            } => write!(
+                f,
+                "No row meets the conditions. The literal `{text}` {form}"
+            ),
+            Warning::Literal { text: None, form } => {
+                write!(f, "No row meets the conditions. A literal {form}")
+            }
         }
     }
 }
 
-fn line_of(alloc: Global, warning: Warning) -> Result<String, AllocError>
+fn line_of(alloc: Global, warning: Warning<'_>) -> Result<String, AllocError>
     ensures { IfOk result (λ text. string_bytes text ≡ warning_line warning) }
 {
     let mut text = String::new(alloc);
@@ -49,7 +94,7 @@ fn line_of(alloc: Global, warning: Warning) -> Result<String, AllocError>
 }
 
 #[tactic(auto, using(crate::proofs::TextLemmas::no_front))]
-fn write_warning<E: Write>(alloc: Global, warning: Warning, errors: &mut E)
+fn write_warning<E: Write>(alloc: Global, warning: Warning<'_>, errors: &mut E)
     ensures { AppendsFront (E.contents errors.old) (E.contents errors.new) (warning_line warning) }
 {
     match line_of(alloc, warning) {
@@ -59,7 +104,7 @@ fn write_warning<E: Write>(alloc: Global, warning: Warning, errors: &mut E)
 }
 
 /// Tells the notes of a command that is done, on a terminal or to a script. The command stays done if memory is refused or the writer fails.
-pub fn tell_notes<E: Write>(alloc: Global, notes: Notes, audience: Audience, errors: &mut E)
+pub fn tell_notes<E: Write>(alloc: Global, notes: Notes<'_>, audience: Audience, errors: &mut E)
     ensures { TellsNotes E.contents audience notes errors.old errors.new }
 {
     tell_note(alloc, notes.note, audience, errors);

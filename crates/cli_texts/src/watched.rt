@@ -1,4 +1,4 @@
-// An output that notices when its reader is gone, and why it failed.
+// An output that notices when its reader is gone, whether anything was written, and why it failed.
 ghost use Rattle.std.specs.Prelude.{◌≡◌, ◌⊎◌, Bool, true, false, IsErrAnd};
 ghost use Rattle.std.specs.IoError.{error_kind};
 ghost use Rattle.std.specs.Io.{WritesAtMost};
@@ -7,11 +7,12 @@ ghost use Rattle.std.specs.Io.KnownBytes.{Keeps, WriteAppends};
 use crate::{Output, failure_of};
 use std::io::{self, ErrorKind, Write};
 
-/// Writes to `output`, and notices when its reader is gone, and how the last call ended.
+/// Writes to `output`, and notices when its reader is gone, whether anything was written, and how the last call ended.
 #[derive(Drop)]
 pub struct WatchedOutput<W: Write> {
     output: W,
     is_unread: bool,
+    is_empty: bool,
     failure: Option<io::Error>,
 }
 
@@ -23,6 +24,7 @@ impl<W: Write> WatchedOutput<W> {
         WatchedOutput {
             output,
             is_unread: false,
+            is_empty: true,
             failure: None,
         }
     }
@@ -46,6 +48,10 @@ impl<W: Write> Output for WatchedOutput<W> {
         self.is_unread
     }
 
+    fn is_empty(&self) -> bool {
+        self.is_empty
+    }
+
     fn failure(&self) -> Option<io::Error> {
         self.failure
     }
@@ -65,6 +71,7 @@ impl<W: Write> Write for WatchedOutput<W> {
     {
         let written = self.output.write(buf);
         self.failure = failure_of(&written);
+        self.is_empty = self.is_empty && !matches!(&written, Ok(count) if *count > 0);
         if finds_no_reader(&written) {
             self.is_unread = true;
         }
