@@ -1,10 +1,15 @@
 // What a command that is done leaves in doubt, for a person or a script.
 use crate::about_words::is_shown;
 use crate::asking_again::Served;
+use crate::copying_files::open_to_read;
 use crate::literal_form::{literal_form, literal_of};
 use cli_refusals::Refusal;
 use cli_requests::{QueryWords, StoreCommand, StoreRequest};
 use cli_texts::{Audience, Note, Warning};
+use sector_dev::LockFile;
+use std::fs::OpenFile;
+use std::io::{Read, Seek, Write};
+use std::rt::Files;
 use text_import::TextForm;
 
 // Returns the words of a query that no row has met. One that is to have no rows is none.
@@ -46,8 +51,26 @@ fn doubted_literal<'a>(query: &QueryWords<'a>) -> Option<Warning<'a>> {
         .find_map(|condition| warning_about(literal_of(condition)?))
 }
 
+// Returns the warning that the commits of a store do not agree. There is none if it can't be opened again: another program may have locked it by now.
+fn doubted_commits<
+    F: Read + Write + Seek + OpenFile + LockFile + Drop,
+    H: Files<File = F> + AllocGlobal,
+>(rt: &H, path: &str) -> Option<Warning<'static>> {
+    let mut store = open_to_read(rt, path).ok()?;
+    if store.commits_agree().ok()? {
+        None
+    } else {
+        Some(Warning::OtherCommits)
+    }
+}
+
 /// Returns the warning about a request that is done, if it has one and someone is told it.
-pub(crate) fn warning_of<'a>(
+pub(crate) fn warning_of<
+    'a,
+    F: Read + Write + Seek + OpenFile + LockFile + Drop,
+    H: Files<File = F> + AllocGlobal,
+>(
+    rt: &H,
     request: &StoreRequest<'a>,
     served: Served<'_>,
     note: Option<Note>,
@@ -65,6 +88,10 @@ pub(crate) fn warning_of<'a>(
             },
             ..
         } => Some(Warning::OpenQuotation(served.open_quotation?)),
+        StoreRequest::Command {
+            path,
+            command: StoreCommand::Check,
+        } => doubted_commits(rt, path),
         _ => doubted_literal(unmet_query(request, served, note)?),
     }
 }

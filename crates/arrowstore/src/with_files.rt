@@ -225,7 +225,7 @@ fn serve_and_report<
         is_output_empty: output.is_empty(),
         output_failure: output.failure(),
     };
-    let warning = warning_of(request, served, remarks.note, &done, audience);
+    let warning = warning_of(rt, request, served, remarks.note, &done, audience);
     let notes = Notes {
         note: remarks.note,
         warning,

@@ -7,6 +7,7 @@ use Rattle.cli_texts.specs.declared.warnings.LiteralForm.TheVariants.{Marked, Sp
 use Rattle.cli_texts.specs.declared.warnings.Warning.{Warning}
 use Rattle.cli_texts.specs.declared.warnings.Warning.TheVariants as warnings
 use Rattle.cli_texts.specs.declared.warnings.Notes.{Notes}
+use Rattle.cli_texts.specs.declared.warnings.TheConstants.{COMMITS_DISAGREE, LOOK_FIRST}
 use Rattle.cli_texts.specs.declared.telling.Audience.{Audience}
 use Rattle.cli_texts.specs.Notes.{note_to, TellsNote}
 use Rattle.cli_texts.specs.Told.{is_advised}
@@ -25,6 +26,7 @@ warning_text (warnings.OpenQuotation line) =
 warning_text (warnings.Literal (Some text) form) =
     codes "No row meets the conditions. The literal `" ++ text.now ++ codes "` " ++ form_text form
 warning_text (warnings.Literal None form) = codes "No row meets the conditions. A literal " ++ form_text form
+warning_text warnings.OtherCommits = COMMITS_DISAGREE.now ++ codes " " ++ LOOK_FIRST.now
 
 abbrev pub warning_line : Warning → List ℕ
 warning_line warning = warning_text warning ++ 10 ∷ []

@@ -9,6 +9,14 @@ use std::alloc::{AllocError, Global};
 use std::fmt::{self, Write as _};
 use std::io::Write;
 
+/// What it means that the two commits of a store do not agree. A later version of the program may have written one that this one does not know.
+pub const COMMITS_DISAGREE: &str =
+    "The two commits do not agree: something other than this version of the program has changed one, and the last change may be undone.";
+
+/// What to do about it: until then, both are there to be looked at.
+pub const LOOK_FIRST: &str =
+    "Look at the tables first: the next change overwrites the commit that is not in use.";
+
 /// What of a literal may not have been meant.
 #[derive(Clone, Copy)]
 pub enum LiteralForm {
@@ -49,6 +57,8 @@ pub enum Warning<'a> {
         text: Option<&'a str>,
         form: LiteralForm,
     },
+    /// The two commits of a store do not agree.
+    OtherCommits,
 }
 
 /// What is told of a command that is done.
@@ -81,6 +91,7 @@ impl fmt::Display for Warning<'_> {
             Warning::Literal { text: None, form } => {
                 write!(f, "No row meets the conditions. A literal {form}")
             }
+            Warning::OtherCommits => write!(f, "{COMMITS_DISAGREE} {LOOK_FIRST}"),
         }
     }
 }
