@@ -149,6 +149,7 @@ FORMS = {
     "line_mark": (r"The line begins with a byte order mark\. ", lambda facts: (facts.line or b"").startswith(MARK)),
     "line_utf_16": (r"The line begins with the byte order mark of UTF-16, but must be UTF-8\. ", lambda facts: (facts.line or b"").startswith(UTF_16)),
     "line_return": (r"The line ends with a carriage return\. ", lambda facts: (facts.line or b"").endswith(b"\r")),
+    "line_cut": (r"The last line has no line feed at its end: the script may be cut off\. ", lambda facts: facts.is_cut_off is True),
     "missing": (r"The name `(.*)` is missing\. ", because("missing")),
     "no_column": (r"The name `(.*)` is no column\. ", because("unknown")),
     "no_field": (r"The name `(.*)` is no field\. ", because("unknown")),

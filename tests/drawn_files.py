@@ -173,6 +173,15 @@ def draw_script(pick, stores):
     return Draw(["replay", script, "--sectors", "64"], b"", f"G3 BadScript {len(lines) + 1}", facts, due)
 
 
+def draw_cut_script(pick, stores):
+    """A script to be applied whose last line lacks its line feed, be it right or not."""
+    lines = [pick.choice(("drop t", "rename t u")) for _ in range(pick.randrange(4))]
+    line = pick.choice(("drop t", "rename t u", "create t a:int32", "drop", "dro", "re", "é", "x" * 101))
+    facts = Facts("G3", line=line.encode(), is_cut_off=True)
+    script = put(stores.fresh(), "\n".join([*lines, line]).encode())
+    return Draw(["apply", stores.path, script], b"", f"G3 BadScript {len(lines) + 1}", facts, (["line"] if shown(line) is not None else []) + ["line_cut"])
+
+
 def draw_unread_in_script(pick, stores):
     path = os.path.join(stores.room, pick.choice(("none", "é", "esc\x1b", "n" * 120, "")))
     script = put(stores.fresh(), f"create t a:int8\n{pick.choice(('import', 'append'))} t {path}\n".encode())

@@ -10,7 +10,7 @@ use crate::in_place_of_store::{
 use crate::input_again::{FoundField, field_of_no_table};
 use crate::later_version::file_of_later_version;
 use crate::noted::Failure;
-use crate::script_again::line_of_script;
+use crate::script_again::{RefusedLine, line_of_script};
 use crate::streams_again::{FoundOfStreams, found_in_stream};
 use crate::unread_tables::unread_table;
 use cli_refusals::{FailedFile, Refusal, Side};
@@ -40,7 +40,7 @@ pub(crate) enum AskedAgain {
     /// The name of a table that can't be read.
     Unread(String),
     /// The refused line of a script.
-    Line(Vec<u8>),
+    Line(RefusedLine),
     /// How the fields of the input differ from those of the table.
     Field(FoundField),
 }

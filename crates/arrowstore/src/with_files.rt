@@ -23,7 +23,7 @@ ghost use Rattle.cli_refusals.specs.declared.known.Known.{Known};
 ghost use Rattle.cli_refusals.specs.Known.{unchanging};
 ghost use Rattle.store.specs.Salvaging.{plain_left};
 
-use crate::about_words::{about_line, about_word};
+use crate::about_words::about_word;
 use crate::asking_again::{AskedAgain, Served, ask_again};
 use crate::ending::{end_whole_or_partly, tell_if_done};
 use crate::failing::cause_of;
@@ -99,7 +99,7 @@ fn about_found(
         }
         (AskedAgain::Nothing, Err(refusal)) => about_word(alloc, word?, None, refusal),
         (AskedAgain::Listed(text), _) => text.clone().ok(),
-        (AskedAgain::Line(text), _) => about_line(alloc, text.as_slice()),
+        (AskedAgain::Line(line), _) => line.about(alloc),
         _ => None,
     }
 }
@@ -113,8 +113,8 @@ fn found_hint<'a>(asked: &'a AskedAgain, word: Option<Word<'a>>, about: &'a str)
         AskedAgain::File(file) => Some(Hint::File(file)),
         AskedAgain::Streams(found) => Some(found.hint()),
         AskedAgain::Unread(name) => Some(Hint::UnreadTable(name.as_str())),
-        AskedAgain::Line(text) => Some(Hint::ScriptLine {
-            text: text.as_slice(),
+        AskedAgain::Line(line) => Some(Hint::ScriptLine {
+            text: line.text.as_slice(),
             about,
         }),
         AskedAgain::Field(field) => Some(field.hint()),
