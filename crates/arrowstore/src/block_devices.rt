@@ -8,13 +8,20 @@ use std::io::{Seek, SeekFrom};
 use std::os::unix::fs::FileTypeExt;
 use std::rt::Files;
 
+/// Returns whether a block device is at the path.
+pub(crate) fn is_device_at<H: Files>(rt: &H, path: &str) -> bool {
+    match fs::metadata(rt, path) {
+        Ok(found) => found.file_type().is_block_device(),
+        Err(_) => false,
+    }
+}
+
 // Returns the number of bytes of the block device at the path, if there is one.
 fn bytes_of_device<F: Seek + OpenFile + Drop, H: Files<File = F>>(
     rt: &H,
     path: &str,
 ) -> Option<u64> {
-    let found = fs::metadata(rt, path).ok()?;
-    if !found.file_type().is_block_device() {
+    if !is_device_at(rt, path) {
         return None;
     }
     let mut device = fs::open(rt, path).ok()?;

@@ -1,5 +1,6 @@
 // Explains the system call that failed while a request was served.
 use crate::asking_again::{AskedAgain, Served};
+use crate::block_devices::is_device_at;
 use crate::in_place_of_store::reason_in_place_of_store;
 use crate::noted::{Failure, FileCall};
 use crate::streams_again::FoundOfStreams;
@@ -54,10 +55,12 @@ fn unopened(alloc: Global, error: &io::Error) -> Option<FileReason> {
     Some(FileReason::Unopened(system_text(alloc, error)?))
 }
 
-// Returns whether a request makes the file at `path`.
-fn makes(request: &StoreRequest<'_>, path: &str) -> bool {
+// Returns whether a request makes the file at `path`. A block device was there before, and stays.
+fn makes<H: Files>(rt: &H, request: &StoreRequest<'_>, path: &str) -> bool {
     match request {
-        StoreRequest::Format { path: new, .. } | StoreRequest::Copy { new, .. } => *new == path,
+        StoreRequest::Format { path: new, .. } | StoreRequest::Copy { new, .. } => {
+            *new == path && !is_device_at(rt, path)
+        }
         StoreRequest::FormatDevice { .. }
         | StoreRequest::Salvage { .. }
         | StoreRequest::Replay(_)
@@ -75,7 +78,7 @@ fn reason_of_opening<H: Files + AllocGlobal>(
     if error.kind() == ErrorKind::AlreadyExists {
         return Some(FileReason::Exists);
     }
-    if makes(request, path) {
+    if makes(rt, request, path) {
         return Some(FileReason::Unmade(system_text(rt.alloc(), error)?));
     }
     match reason_in_place_of_store(rt, request, path) {
@@ -121,8 +124,8 @@ fn reason_of<H: Files + AllocGlobal>(
         FileCall::Open => reason_of_opening(rt, request, path, error),
         FileCall::Lock => reason_of_lock(rt.alloc(), error),
         FileCall::Read => Some(FileReason::Unread(system_text(rt.alloc(), error)?)),
-        FileCall::Write => reason_of_write(rt.alloc(), makes(request, path), error),
-        FileCall::Sync => reason_of_sync(rt.alloc(), makes(request, path), error),
+        FileCall::Write => reason_of_write(rt.alloc(), makes(rt, request, path), error),
+        FileCall::Sync => reason_of_sync(rt.alloc(), makes(rt, request, path), error),
     }
 }
 

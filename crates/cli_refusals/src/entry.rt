@@ -6,7 +6,7 @@ use std::alloc::{AllocError, Global};
 const ITEM: &str = "\n- ";
 
 // The last section has items too, with the word of each code.
-const AFTER_ENTRIES: &str = "\n## Words for scripts";
+const AFTER_ENTRIES: &str = "\n\n## Words for scripts";
 
 // The code of a refusal that is told without a name.
 const OF_MEMORY: &str = "OutOfMemory";
