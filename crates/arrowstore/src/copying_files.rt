@@ -3,6 +3,7 @@ ghost use Rattle.std.specs.Prelude.{◌≡◌, ◌≢◌, ◌≤◌, Ok, IfOk, I
 ghost use Rattle.sector_dev.specs.declared.file.TheConstants.{MOST_SECTORS};
 ghost use Rattle.arrowstore.specs.OnFiles.{IsOpenedFile, OpensStore, FailsToOpen, CopiesInto, FailsToCopy, CopiesStore};
 
+use crate::made_file::MadeFile;
 use crate::serving::{device_to_read, format_new, remove_on_error, reserve_standard_descriptors};
 use cli_commands::copy_tables;
 use cli_refusals::{Refusal, Side, write_whole};
@@ -36,10 +37,12 @@ fn set_length<F: OpenFile>(file: &F, bytes: u64) -> Result<(), Refusal>
     file.sync_all().map_err(|_| Refusal::Io(Side::File))
 }
 
-// Makes a new file one byte longer than its sectors. A file of such a length is never opened as a store, whatever its contents.
+// Makes a new file one byte longer than its sectors. A file of such a length is never opened as a store, whatever its contents. Another file that was
+// moved to the path meanwhile stays as it is.
 fn mark_unfinished<F: OpenFile + Drop, H: Files<File = F>>(
     rt: &H,
     path: &str,
+    made: Option<MadeFile>,
     sectors: u64,
 ) -> Result<F, Refusal>
     requires { sectors ≤ MOST_SECTORS }
@@ -49,6 +52,9 @@ fn mark_unfinished<F: OpenFile + Drop, H: Files<File = F>>(
         .write(true)
         .open(rt, path)
         .map_err(|_| Refusal::Io(Side::File))?;
+    if MadeFile::is_other(made, &file) {
+        return Err(Refusal::Io(Side::File));
+    }
     set_length(&file, sectors * 512 + 1)?;
     Ok(file)
 }
@@ -74,12 +80,13 @@ fn copy_into_file<
     ensures refused { IfErr result (FailsToCopy ⟦<FileDevice<SystemFile<F>> as SectorDevice>⟧ sectors from.old) }
 {
     let device = FileDevice::create(rt, path, sectors)?;
-    let file = remove_on_error(rt, path, mark_unfinished(rt, path, sectors))?;
-    let mut to = format_new(rt, path, device, from.version())?;
+    let made = MadeFile::at(rt, path, sectors);
+    let file = remove_on_error(rt, path, made, mark_unfinished(rt, path, made, sectors))?;
+    let mut to = format_new(rt, path, made, device, from.version())?;
     match copy_tables(rt.alloc(), from, &mut to) {
         // The commit point of the copy: from here on the file opens as a store.
-        Ok(()) => remove_on_error(rt, path, mark_finished(&file, sectors)),
-        Err(refusal) => remove_on_error(rt, path, Err(Refusal::Store(refusal))),
+        Ok(()) => remove_on_error(rt, path, made, mark_finished(&file, sectors)),
+        Err(refusal) => remove_on_error(rt, path, made, Err(Refusal::Store(refusal))),
     }
 }
 

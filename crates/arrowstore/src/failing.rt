@@ -55,17 +55,23 @@ fn unopened(alloc: Global, error: &io::Error) -> Option<FileReason> {
     Some(FileReason::Unopened(system_text(alloc, error)?))
 }
 
-// Returns whether a request makes the file at `path`. A block device was there before, and stays.
-fn makes<H: Files>(rt: &H, request: &StoreRequest<'_>, path: &str) -> bool {
+// Returns whether a request makes the file at `path`, unless a block device is there.
+fn makes(request: &StoreRequest<'_>, path: &str) -> bool {
     match request {
-        StoreRequest::Format { path: new, .. } | StoreRequest::Copy { new, .. } => {
-            *new == path && !is_device_at(rt, path)
-        }
+        StoreRequest::Format { path: new, .. } | StoreRequest::Copy { new, .. } => *new == path,
         StoreRequest::FormatDevice { .. }
         | StoreRequest::Salvage { .. }
         | StoreRequest::Replay(_)
         | StoreRequest::Apply { .. }
         | StoreRequest::Command { .. } => false,
+    }
+}
+
+// Returns whether a request has made the file at `path` and removed it: a block device stays, and so does what another program has moved there.
+fn has_removed<H: Files>(rt: &H, request: &StoreRequest<'_>, path: &str) -> bool {
+    match fs::symlink_metadata(rt, path) {
+        Ok(_) => false,
+        Err(error) => makes(request, path) && error.kind() == ErrorKind::NotFound,
     }
 }
 
@@ -78,7 +84,7 @@ fn reason_of_opening<H: Files + AllocGlobal>(
     if error.kind() == ErrorKind::AlreadyExists {
         return Some(FileReason::Exists);
     }
-    if makes(rt, request, path) {
+    if makes(request, path) && !is_device_at(rt, path) {
         return Some(FileReason::Unmade(system_text(rt.alloc(), error)?));
     }
     match reason_in_place_of_store(rt, request, path) {
@@ -95,18 +101,18 @@ fn reason_of_lock(alloc: Global, error: &io::Error) -> Option<FileReason> {
     }
 }
 
-fn reason_of_write(alloc: Global, is_new: bool, error: &io::Error) -> Option<FileReason> {
+fn reason_of_write(alloc: Global, is_removed: bool, error: &io::Error) -> Option<FileReason> {
     let text = system_text(alloc, error)?;
-    Some(if is_new {
+    Some(if is_removed {
         FileReason::NewUnwritten(text)
     } else {
         FileReason::Unwritten(text)
     })
 }
 
-fn reason_of_sync(alloc: Global, is_new: bool, error: &io::Error) -> Option<FileReason> {
+fn reason_of_sync(alloc: Global, is_removed: bool, error: &io::Error) -> Option<FileReason> {
     let text = system_text(alloc, error)?;
-    Some(if is_new {
+    Some(if is_removed {
         FileReason::NewUnsynced(text)
     } else {
         FileReason::Unsynced(text)
@@ -124,8 +130,8 @@ fn reason_of<H: Files + AllocGlobal>(
         FileCall::Open => reason_of_opening(rt, request, path, error),
         FileCall::Lock => reason_of_lock(rt.alloc(), error),
         FileCall::Read => Some(FileReason::Unread(system_text(rt.alloc(), error)?)),
-        FileCall::Write => reason_of_write(rt.alloc(), makes(rt, request, path), error),
-        FileCall::Sync => reason_of_sync(rt.alloc(), makes(rt, request, path), error),
+        FileCall::Write => reason_of_write(rt.alloc(), has_removed(rt, request, path), error),
+        FileCall::Sync => reason_of_sync(rt.alloc(), has_removed(rt, request, path), error),
     }
 }
 

@@ -26,6 +26,7 @@ mod input_again;
 mod kept_start;
 mod later_version;
 mod literal_form;
+mod made_file;
 mod nearest_type;
 mod noted;
 mod notes;

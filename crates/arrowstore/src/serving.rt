@@ -12,6 +12,7 @@ use crate::Remarks;
 use crate::applying_scripts::serve_apply;
 use crate::copying_files::serve_copy;
 use crate::formatting_devices::serve_format_device;
+use crate::made_file::MadeFile;
 use crate::open_command::stated;
 use crate::replaying::serve_replay;
 use crate::salvaging_files::serve_salvage;
@@ -143,25 +144,20 @@ fn device_of<F: Read + Write + Seek + OpenFile + LockFile + Drop, H: Files<File 
     }
 }
 
-// Returns whether a regular file is at the path, and no device.
-fn is_file_at<H: Files>(rt: &H, path: &str) -> bool {
-    match fs::metadata(rt, path) {
-        Ok(found) => found.is_file(),
-        Err(_) => false,
-    }
-}
-
-/// Returns `done`, and removes the new file if it is an error. The file's device still holds its lock, so nobody else has written to it. A block device
-/// stays at its path.
+/// Returns `done`, and removes the new file if it is an error. The file's device still holds its lock, so nobody else has written to it. Whatever else is
+/// at the path by now stays, and so does a block device.
 pub(crate) fn remove_on_error<T: Drop, H: Files>(
     rt: &H,
     path: &str,
+    made: Option<MadeFile>,
     done: Result<T, Refusal>,
 ) -> Result<T, Refusal>
     ensures { result ≡ done }
 {
-    if done.is_err() && is_file_at(rt, path) {
-        let _removed = fs::remove_file(rt, path);
+    if let Some(made) = made {
+        if done.is_err() && made.is_at(rt, path) {
+            let _removed = fs::remove_file(rt, path);
+        }
     }
     done
 }
@@ -173,6 +169,7 @@ pub(crate) fn format_new<
 >(
     rt: &H,
     path: &str,
+    made: Option<MadeFile>,
     device: FileDevice<SystemFile<F>>,
     version: FormatVersion,
 ) -> Result<Store<FileDevice<SystemFile<F>>>, Refusal>
@@ -182,7 +179,7 @@ pub(crate) fn format_new<
 {
     match format_on(rt.alloc(), device, version) {
         Ok(store) => Ok(store),
-        Err((refusal, _device)) => remove_on_error(rt, path, Err(refusal)),
+        Err((refusal, _device)) => remove_on_error(rt, path, made, Err(refusal)),
     }
 }
 
@@ -201,7 +198,8 @@ pub(crate) fn format_file<
     ensures refused { IfErr result (RefusesFormat ⟦<FileDevice<SystemFile<F>> as SectorDevice>⟧ sectors version) }
 {
     let device = FileDevice::create(rt, path, sectors)?;
-    format_new(rt, path, device, version)
+    let made = MadeFile::at(rt, path, sectors);
+    format_new(rt, path, made, device, version)
 }
 
 fn serve_format<

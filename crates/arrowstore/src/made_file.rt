@@ -1,0 +1,50 @@
+// The new file of a command, by which it is known wherever another program moves it.
+use std::fs::{self, Metadata, OpenFile};
+use std::os::unix::fs::MetadataExt;
+use std::rt::Files;
+
+/// A regular file, as its device and its inode name it as long as it is open.
+#[derive(Clone, Copy, PartialEq, Eq)]
+pub(crate) struct MadeFile {
+    device: u64,
+    inode: u64,
+}
+
+impl MadeFile {
+    fn of(found: &Metadata) -> Option<MadeFile> {
+        if found.is_file() {
+            Some(MadeFile {
+                device: found.dev(),
+                inode: found.ino(),
+            })
+        } else {
+            None
+        }
+    }
+
+    /// Returns the regular file of this number of sectors at the path at which one was just made. Another one of this length is not told from it.
+    pub(crate) fn at<H: Files>(rt: &H, path: &str, sectors: u64) -> Option<MadeFile> {
+        let found = fs::symlink_metadata(rt, path).ok()?;
+        if found.len() / 512 == sectors && found.len() % 512 == 0 {
+            MadeFile::of(&found)
+        } else {
+            None
+        }
+    }
+
+    /// Returns whether the file is at this path.
+    pub(crate) fn is_at<H: Files>(self, rt: &H, path: &str) -> bool {
+        match fs::symlink_metadata(rt, path) {
+            Ok(found) => MadeFile::of(&found) == Some(self),
+            Err(_) => false,
+        }
+    }
+
+    /// Returns whether an open file is a regular one, and another than this.
+    pub(crate) fn is_other<F: OpenFile>(made: Option<MadeFile>, file: &F) -> bool {
+        match file.metadata() {
+            Ok(found) => found.is_file() && MadeFile::of(&found) != made,
+            Err(_) => true,
+        }
+    }
+}
