@@ -215,9 +215,9 @@ Serves {g = g} remaining contents (opened.Export name) old new before after resu
     (OfStore (RefusesRead (is_halted old) g.tells (image_of old) (entry_of (listed_in old) name.now)) ((t : PlainTable) × Shows old name.now t))
     (OnlyRead result old new) before after result
 Serves remaining contents opened.Check old new before after result = Checks contents old new before after result
-Serves {g = g} remaining contents (opened.Info as_json) old new before after result =
+Serves {g = g} remaining contents (opened.Info as_json kind) old new before after result =
     Prints ((s : Summary) × (agree : Bool) × IsSummary (g.size (device_of old)) old s × SaysAgreement (is_halted old) g.tells (image_of old) agree
-    × Appends (contents before.output) (contents after.output) (summary_text as_json s agree))
+    × Appends (contents before.output) (contents after.output) (summary_text as_json s agree kind))
     (RefusesPrinting (RefusesSummary (is_halted old)) (is_halted old ≡ false)) (OnlyRead result old new) before after result
 Serves remaining contents opened.Compact old new before after result =
     Compacts contents old new before.output after.output result × (after.hint ≡ before.hint)

@@ -37,8 +37,8 @@ fn set_length<F: OpenFile>(file: &F, bytes: u64) -> Result<(), Refusal>
     file.sync_all().map_err(|_| Refusal::Io(Side::File))
 }
 
-// Makes a new file one byte longer than its sectors. A file of such a length is never opened as a store, whatever its contents. Another file that was
-// moved to the path meanwhile stays as it is.
+// Makes a new file one byte longer than its sectors. A file of such a length is never opened as a store, whatever its contents. Another
+// file that was moved to the path meanwhile stays as it is.
 fn mark_unfinished<F: OpenFile + Drop, H: Files<File = F>>(
     rt: &H,
     path: &str,

@@ -75,7 +75,7 @@ pub(crate) fn tell_if_done<E: Write>(
     audience: Audience,
     errors: &mut E,
 )
-    ensures done { status_of done.now (plain_left left_out.now) ≡ Status.Done → TellsNotes E.contents audience notes errors.old errors.new }
+    ensures done { status_of done.now (plain_left left_out.now) ≡ Status.Done → TellsNotes E.contents audience notes.entry errors.old errors.new }
     ensures silent { status_of done.now (plain_left left_out.now) ≢ Status.Done → errors.new ≡ errors.old }
 {
     if done.is_ok() && left_out.is_empty() {

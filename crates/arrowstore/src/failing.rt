@@ -67,7 +67,8 @@ fn makes(request: &StoreRequest<'_>, path: &str) -> bool {
     }
 }
 
-// Returns whether a request has made the file at `path` and removed it: a block device stays, and so does what another program has moved there.
+// Returns whether a request has made the file at `path` and removed it: a block device stays, and so does what another program has moved
+// there.
 fn has_removed<H: Files>(rt: &H, request: &StoreRequest<'_>, path: &str) -> bool {
     match fs::symlink_metadata(rt, path) {
         Ok(_) => false,

@@ -36,8 +36,8 @@ pub struct KeptStart<R: Read> {
 }
 
 impl<R: Read> KeptStart<R> {
-    /// Keeps at most [`MOST_KEPT`] bytes for a terminal or a script, and none for any other audience. A text that may be CSV is watched for its
-    /// quotation marks, also for those alone.
+    /// Keeps at most [`MOST_KEPT`] bytes for a terminal or a script, and none for any other audience. A text that may be CSV is watched for
+    /// its quotation marks, also for those alone.
     pub fn new(alloc: Global, input: R, audience: Audience, may_be_csv: bool) -> KeptStart<R>
         ensures { result.input ≡ input }
     {

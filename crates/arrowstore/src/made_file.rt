@@ -22,7 +22,8 @@ impl MadeFile {
         }
     }
 
-    /// Returns the regular file of this number of sectors at the path at which one was just made. Another one of this length is not told from it.
+    /// Returns the regular file of this number of sectors at the path at which one was just made. Another one of this length is not told
+    /// from it.
     pub(crate) fn at<H: Files>(rt: &H, path: &str, sectors: u64) -> Option<MadeFile> {
         let found = fs::symlink_metadata(rt, path).ok()?;
         if found.len() / 512 == sectors && found.len() % 512 == 0 {

@@ -8,7 +8,7 @@ ghost use Rattle.cli_requests.specs.Asked.{command_word};
 ghost use Rattle.cli_requests.specs.StoreWords.{takes_input_word};
 ghost use Rattle.arrowstore.specs.OpenCommands.{query_stated, StatesTable, StatesSaving, States, RefusesStating, reads_input};
 
-use cli_commands::{drop_table, new_table, query_of, rename_table};
+use cli_commands::{DeviceKind, drop_table, new_table, query_of, rename_table};
 use cli_refusals::Refusal;
 use cli_requests::{QueryWords, StoreCommand};
 use query::{Query, RowForm};
@@ -74,9 +74,10 @@ pub enum OpenCommand<'a> {
     },
     /// Checks that all tables can be read.
     Check,
-    /// Prints the summary of the store, as lines or as JSON.
+    /// Prints the summary of the store on a device of this kind, as lines or as JSON.
     Info {
         as_json: bool,
+        kind: DeviceKind,
     },
     /// Compacts the store step by step until there is nothing left to do.
     Compact,
@@ -115,12 +116,17 @@ fn save_as(alloc: Global, from: &str, to: &str, words: &QueryWords<'_>) -> Resul
     })
 }
 
-/// Returns the command of an open store that the words state. Parsing fields and conditions needs no store.
+/// Returns the command of an open store that the words state, for a device that is said to be of this kind. Parsing fields and conditions
+/// needs no store.
 ///
 /// # Errors
 /// `Fields` or `Query` if such a text is refused; `OutOfMemory`.
 #[tactic(auto, unfolding(crate::specs::OpenCommands::States, crate::specs::OpenCommands::RefusesStating, cli_requests::specs::StoreWords::takes_input_word))]
-pub fn stated<'a>(alloc: Global, command: &StoreCommand<'a>) -> Result<OpenCommand<'a>, Refusal>
+pub fn stated<'a>(
+    alloc: Global,
+    command: &StoreCommand<'a>,
+    kind: DeviceKind,
+) -> Result<OpenCommand<'a>, Refusal>
     ensures stated { IfOk result (States command.now) }
     ensures refused { IfErr result (RefusesStating command.now) }
     // A command reads the input exactly if its words say so.
@@ -167,7 +173,10 @@ pub fn stated<'a>(alloc: Global, command: &StoreCommand<'a>) -> Result<OpenComma
         StoreCommand::SchemaFields { name } => Ok(OpenCommand::SchemaFields { name }),
         StoreCommand::Export { name } => Ok(OpenCommand::Export { name }),
         StoreCommand::Check => Ok(OpenCommand::Check),
-        StoreCommand::Info { as_json } => Ok(OpenCommand::Info { as_json: *as_json }),
+        StoreCommand::Info { as_json } => Ok(OpenCommand::Info {
+            as_json: *as_json,
+            kind,
+        }),
         StoreCommand::Compact => Ok(OpenCommand::Compact),
         StoreCommand::Upgrade => Ok(OpenCommand::Upgrade),
     }

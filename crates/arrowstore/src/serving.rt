@@ -10,6 +10,7 @@ ghost use Rattle.arrowstore.specs.Serving.{remarked};
 
 use crate::Remarks;
 use crate::applying_scripts::serve_apply;
+use crate::block_devices::is_device_at;
 use crate::copying_files::serve_copy;
 use crate::formatting_devices::serve_format_device;
 use crate::made_file::MadeFile;
@@ -17,6 +18,7 @@ use crate::open_command::stated;
 use crate::replaying::serve_replay;
 use crate::salvaging_files::serve_salvage;
 use crate::serving_device::serve_device;
+use cli_commands::DeviceKind;
 use cli_refusals::{Refusal, Side, write_whole};
 use cli_requests::{StoreCommand, StoreRequest};
 use commit::FormatVersion;
@@ -144,8 +146,8 @@ fn device_of<F: Read + Write + Seek + OpenFile + LockFile + Drop, H: Files<File 
     }
 }
 
-/// Returns `done`, and removes the new file if it is an error. The file's device still holds its lock, so nobody else has written to it. Whatever else is
-/// at the path by now stays, and so does a block device.
+/// Returns `done`, and removes the new file if it is an error. The file's device still holds its lock, so nobody else has written to it.
+/// Whatever else is at the path by now stays, and so does a block device.
 pub(crate) fn remove_on_error<T: Drop, H: Files>(
     rt: &H,
     path: &str,
@@ -215,6 +217,14 @@ fn serve_format<
     write_whole(output, b"ok\n")
 }
 
+// Returns what `info` says of the device at a path. For other commands the system is not asked.
+fn kind_told<H: Files>(rt: &H, path: &str, command: &StoreCommand<'_>) -> DeviceKind {
+    match command {
+        StoreCommand::Info { .. } if is_device_at(rt, path) => DeviceKind::Block,
+        _ => DeviceKind::File,
+    }
+}
+
 // Serves a command on the store in a file. Its texts are parsed before any system call.
 fn serve_command<
     F: Read + Write + Seek + OpenFile + LockFile + Drop,
@@ -235,7 +245,8 @@ fn serve_command<
     ensures silent { IfErr result (λ refusal. refusal ≢ Refusal.Io Side.Output → output.new ≡ output.old) }
 {
     let access = access_of(command);
-    let command = stated(rt.alloc(), command)?;
+    let kind = kind_told(rt, path, command);
+    let command = stated(rt.alloc(), command, kind)?;
     let _places = reserve_standard_descriptors(rt)?;
     let device = device_of(rt, path, access)?;
     let (done, _device) = serve_device(rt.alloc(), device, command, input, output, remarks);

@@ -57,7 +57,7 @@ pub fn serve_open<D: SectorDevice, R: Read, W: Write>(
         OpenCommand::SchemaFields { name } => print_fields(alloc, store, name, output),
         OpenCommand::Export { name } => export_table(alloc, store, name, output),
         OpenCommand::Check => check_tables(alloc, store, output, hint),
-        OpenCommand::Info { as_json } => print_summary(alloc, store, as_json, output),
+        OpenCommand::Info { as_json, kind } => print_summary(alloc, store, as_json, kind, output),
         OpenCommand::Compact => compact_tables(alloc, store, output),
         OpenCommand::Upgrade => upgrade_store(alloc, store, output),
     }

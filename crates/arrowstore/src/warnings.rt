@@ -45,13 +45,27 @@ fn warning_about<'a>(literal: &'a str) -> Option<Warning<'a>> {
 
 // Returns the warning about the first literal that may not have been meant. Only columns of texts take such literals.
 fn doubted_literal<'a>(query: &QueryWords<'a>) -> Option<Warning<'a>> {
-    query
-        .conditions
-        .iter()
-        .find_map(|condition| warning_about(literal_of(condition)?))
+    for condition in &query.conditions {
+        if let Some(literal) = literal_of(condition) {
+            if let Some(warning) = warning_about(literal) {
+                return Some(warning);
+            }
+        }
+    }
+    None
 }
 
-// Returns the warning that the commits of a store do not agree. There is none if it can't be opened again: another program may have locked it by now.
+fn doubted_query<'a>(
+    request: &StoreRequest<'a>,
+    served: Served<'_>,
+    note: Option<Note>,
+) -> Option<Warning<'a>> {
+    let query = unmet_query(request, served, note)?;
+    doubted_literal(query)
+}
+
+// Returns the warning that the commits of a store do not agree. There is none if it can't be opened again: another program may have locked
+// it by now.
 fn doubted_commits<
     F: Read + Write + Seek + OpenFile + LockFile + Drop,
     H: Files<File = F> + AllocGlobal,
@@ -61,6 +75,38 @@ fn doubted_commits<
         None
     } else {
         Some(Warning::OtherCommits)
+    }
+}
+
+// Returns whether a request appends a CSV text.
+fn is_of_csv(request: &StoreRequest<'_>) -> bool {
+    matches!(
+        request,
+        StoreRequest::Command {
+            command: StoreCommand::AppendText {
+                form: TextForm::Csv(_),
+                ..
+            },
+            ..
+        }
+    )
+}
+
+fn warning_of_text(served: Served<'_>) -> Option<Warning<'static>> {
+    match served.open_quotation {
+        Some(line) => Some(Warning::OpenQuotation(line)),
+        None => None,
+    }
+}
+
+// Returns the path of the store that a request checks.
+fn checked_store<'a>(request: &StoreRequest<'a>) -> Option<&'a str> {
+    match request {
+        StoreRequest::Command {
+            path,
+            command: StoreCommand::Check,
+        } => Some(path),
+        _ => None,
     }
 }
 
@@ -80,18 +126,11 @@ pub(crate) fn warning_of<
     if done.is_err() || !audience.is_advised() {
         return None;
     }
-    match request {
-        StoreRequest::Command {
-            command: StoreCommand::AppendText {
-                form: TextForm::Csv(_),
-                ..
-            },
-            ..
-        } => Some(Warning::OpenQuotation(served.open_quotation?)),
-        StoreRequest::Command {
-            path,
-            command: StoreCommand::Check,
-        } => doubted_commits(rt, path),
-        _ => doubted_literal(unmet_query(request, served, note)?),
+    if is_of_csv(request) {
+        return warning_of_text(served);
+    }
+    match checked_store(request) {
+        Some(path) => doubted_commits(rt, path),
+        None => doubted_query(request, served, note),
     }
 }

@@ -184,6 +184,17 @@ fn end_of_request<E: Write>(
     end_whole_or_partly(done, left_out, known, audience, errors)
 }
 
+fn served_of<'a, R: Input, W: Output>(input: &'a R, output: &W) -> Served<'a> {
+    Served {
+        start: input.start(),
+        is_input_empty: input.is_empty(),
+        open_quotation: input.open_quotation(),
+        input_failure: input.failure(),
+        is_output_empty: output.is_empty(),
+        output_failure: output.failure(),
+    }
+}
+
 // Serves a request of a store, and tells what it has brought, or reports why it was refused. The hint is the part of the input or the table that the
 // command itself hinted at, or else what is found by asking again, or a word of the command line.
 fn serve_and_report<
@@ -217,14 +228,7 @@ fn serve_and_report<
     let left: &[LeftOut] = &left_out;
     let failure = failures.take();
     let audience = audience_after_output(audience, output);
-    let served = Served {
-        start: input.start(),
-        is_input_empty: input.is_empty(),
-        open_quotation: input.open_quotation(),
-        input_failure: input.failure(),
-        is_output_empty: output.is_empty(),
-        output_failure: output.failure(),
-    };
+    let served = served_of(input, output);
     let warning = warning_of(rt, request, served, remarks.note, &done, audience);
     let notes = Notes {
         note: remarks.note,
@@ -375,9 +379,9 @@ pub fn run_with_files<
     // If no command is done, help that was asked for is written, and nothing else.
     ensures helps { result.status ≡ Done → AreRecode (map S.text arguments.now) ⊎ (is_own (map S.text arguments.now) ≡ true)
         ⊎ (is_of_store (map S.text arguments.now) ≡ true) ⊎ GivesSome (W.contents output.old) (W.contents output.new) }
-    // `errors` gets the report of a refusal for this audience, the segments that are left out, and on success the notes of the command, or else nothing;
-    // nor the failure of an output whose reader is gone. Only commands of a store leave something out, have notes, or have hints other than those that
-    // `run` may give.
+    // `errors` gets the report of a refusal for this audience, the segments that are left out, and on success the notes of the command, or
+    // else nothing; nor the failure of an output whose reader is gone. Only commands of a store leave something out, have notes, or have
+    // hints other than those that `run` may give.
     ensures reports { (known : Known) × (left : List (ℕ × ℕ)) × (notes : Notes)
         × ((is_of_store (map S.text arguments.now) ≡ true)
         ⊎ ((left ≡ []) × (notes ≡ no_notes) × (known ≡ unchanging known.hint)

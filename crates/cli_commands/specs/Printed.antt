@@ -10,6 +10,8 @@ use Rattle.tables.specs.declared.refusal.Refusal as tables
 use Rattle.cli_refusals.specs.declared.refusal.Refusal.{Refusal}
 use Rattle.cli_refusals.specs.declared.refusal.Refusal.TheVariants.{Io, Store, OutOfMemory}
 use Rattle.cli_refusals.specs.declared.refusal.Side.TheVariants.{Output}
+use Rattle.cli_commands.specs.declared.summing.DeviceKind.{DeviceKind}
+use Rattle.cli_commands.specs.declared.summing.DeviceKind.TheVariants as kinds
 
 -- a line for each table: its name and its number of rows
 abbrev pub tables_text : List (List ℕ × ℕ) → List ℕ
@@ -41,16 +43,24 @@ number_line n = n.0 ++ codes " " ++ decimal n.1 ++ codes "\n"
 abbrev pub number_member : List ℕ × ℕ → List ℕ
 number_member n = codes "\"" ++ n.0 ++ codes "\":" ++ decimal n.1 ++ codes ","
 
--- a line for each number of a store, with its name, and one that says whether its commit sectors agree
-abbrev pub summary_lines : Summary → (agree : Bool) → List ℕ
-summary_lines s agree = flat_map number_line (summary_numbers s) ++ codes "commits_agree " ++ truth agree ++ codes "\n"
+-- what a store is on
+abbrev pub kind_name : DeviceKind → List ℕ
+kind_name kinds.File = codes "file"
+kind_name kinds.Block = codes "block"
+
+-- a line for each number of a store, with its name, one that says whether its commit sectors agree, and one that says what it is on
+abbrev pub summary_lines : Summary → (agree : Bool) → DeviceKind → List ℕ
+summary_lines s agree kind =
+    flat_map number_line (summary_numbers s) ++ codes "commits_agree " ++ truth agree ++ codes "\ndevice " ++ kind_name kind ++ codes "\n"
 
 -- the same as one JSON object (RFC 8259) on one line
-abbrev pub summary_object : Summary → (agree : Bool) → List ℕ
-summary_object s agree = codes "{" ++ flat_map number_member (summary_numbers s) ++ codes "\"commits_agree\":" ++ truth agree ++ codes "}\n"
+abbrev pub summary_object : Summary → (agree : Bool) → DeviceKind → List ℕ
+summary_object s agree kind =
+    codes "{" ++ flat_map number_member (summary_numbers s) ++ codes "\"commits_agree\":" ++ truth agree ++ codes ",\"device\":\"" ++ kind_name kind
+    ++ codes "\"}\n"
 
-abbrev pub summary_text : (as_json : Bool) → Summary → (agree : Bool) → List ℕ
-summary_text as_json s agree = if as_json then summary_object s agree else summary_lines s agree
+abbrev pub summary_text : (as_json : Bool) → Summary → (agree : Bool) → DeviceKind → List ℕ
+summary_text as_json s agree kind = if as_json then summary_object s agree kind else summary_lines s agree kind
 
 -- why no text is printed: the store refuses, and P holds of its refusal; or it answers, as `there` says, and memory was refused or the output
 -- failed

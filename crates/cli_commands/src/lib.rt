@@ -42,7 +42,7 @@ pub use reading::{check_tables, export_table};
 pub use salvaging::salvage_table;
 pub use selecting::{print_selection, query_of};
 pub use stream::recode;
-pub use summing::print_summary;
+pub use summing::{DeviceKind, print_summary};
 pub use text_rows::append_text;
 pub use typing::print_fields;
 pub use upgrading::upgrade_store;

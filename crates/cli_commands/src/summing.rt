@@ -13,9 +13,32 @@ ghost use Rattle.cli_commands.specs.Reading.{store_ended};
 use cli_refusals::{Refusal, Side, write_whole};
 use sector_dev::SectorDevice;
 use std::alloc::{AllocError, Global};
-use std::fmt::Write as _;
+use std::fmt::{self, Write as _};
 use std::io::Write;
 use store::{Store, Summary};
+
+/// What the device of a store is.
+#[derive(Clone, Copy, PartialEq, Eq)]
+pub enum DeviceKind {
+    /// A regular file.
+    File,
+    /// A block device.
+    Block,
+}
+
+impl fmt::Display for DeviceKind {
+    ghost use Rattle.std.specs.Prelude.{Some};
+    ghost use Rattle.cli_commands.specs.Printed.{kind_name};
+
+    ghost output = { λ kind. Some (kind_name kind) };
+
+    fn fmt<W: fmt::Write>(&self, f: &mut fmt::Formatter<W>) -> fmt::Result {
+        f.write_str(match self {
+            DeviceKind::File => "file",
+            DeviceKind::Block => "block",
+        })
+    }
+}
 
 // Returns the numbers of a store by their names.
 fn numbers_of(s: &Summary) -> [(&'static str, u64); 9]
@@ -34,41 +57,52 @@ fn numbers_of(s: &Summary) -> [(&'static str, u64); 9]
     ]
 }
 
-fn lines_of(alloc: Global, s: &Summary, agree: bool) -> Result<String, AllocError>
-    ensures { IfOk result (λ text. string_bytes text ≡ summary_lines s.now agree) }
+fn lines_of(alloc: Global, s: &Summary, agree: bool, kind: DeviceKind) -> Result<String, AllocError>
+    ensures { IfOk result (λ text. string_bytes text ≡ summary_lines s.now agree kind) }
 {
     let mut text = String::new(alloc);
     for (name, number) in numbers_of(s) {
         write!(text, "{name} {number}\n")?;
     }
-    write!(text, "commits_agree {agree}\n")?;
+    write!(text, "commits_agree {agree}\ndevice {kind}\n")?;
     Ok(text)
 }
 
-fn object_of(alloc: Global, s: &Summary, agree: bool) -> Result<String, AllocError>
-    ensures { IfOk result (λ text. string_bytes text ≡ summary_object s.now agree) }
+fn object_of(
+    alloc: Global,
+    s: &Summary,
+    agree: bool,
+    kind: DeviceKind,
+) -> Result<String, AllocError>
+    ensures { IfOk result (λ text. string_bytes text ≡ summary_object s.now agree kind) }
 {
     let mut text = String::new(alloc);
     text.push_str("{")?;
     for (name, number) in numbers_of(s) {
         write!(text, "\"{name}\":{number},")?;
     }
-    write!(text, "\"commits_agree\":{agree}}}\n")?;
+    write!(text, "\"commits_agree\":{agree},\"device\":\"{kind}\"}}\n")?;
     Ok(text)
 }
 
-fn text_of(alloc: Global, s: &Summary, agree: bool, as_json: bool) -> Result<String, AllocError>
-    ensures { IfOk result (λ text. string_bytes text ≡ summary_text as_json s.now agree) }
+fn text_of(
+    alloc: Global,
+    s: &Summary,
+    agree: bool,
+    kind: DeviceKind,
+    as_json: bool,
+) -> Result<String, AllocError>
+    ensures { IfOk result (λ text. string_bytes text ≡ summary_text as_json s.now agree kind) }
 {
     if as_json {
-        object_of(alloc, s, agree)
+        object_of(alloc, s, agree, kind)
     } else {
-        lines_of(alloc, s, agree)
+        lines_of(alloc, s, agree, kind)
     }
 }
 
-/// Prints the summary of a store ([`Store::summary`]) and whether its commit sectors agree ([`Store::commits_agree`]): a line with a name and a
-/// value each, or one JSON object on one line.
+/// Prints the summary of a store ([`Store::summary`]), whether its commit sectors agree ([`Store::commits_agree`]), and what its device is
+/// said to be: a line with a name and a value each, or one JSON object on one line.
 ///
 /// # Errors
 /// `Store` with `Halted`, `OutOfMemory` or `Device`, and `OutOfMemory`: nothing is written. `Io` if a write fails: some first
@@ -77,12 +111,13 @@ pub fn print_summary<D: SectorDevice, W: Write>(
     alloc: Global,
     store: &mut Store<D>,
     as_json: bool,
+    kind: DeviceKind,
     output: &mut W,
 ) -> Result<(), Refusal>
     // What is printed is the numbers of this store and what reads show of its commit sectors, and nothing else.
     ensures written { OnOk result ((s : _) × (agree : _) × IsSummary (D.size (device_of store.old)) store.old s
         × SaysAgreement (is_halted store.old) D.tells (shown_image (now (D.story (device_of store.old)))) agree
-        × Appends (W.contents output.old) (W.contents output.new) (summary_text as_json s agree)) }
+        × Appends (W.contents output.old) (W.contents output.new) (summary_text as_json s agree kind)) }
     ensures told { IfErr result (RefusesPrinting (RefusesSummary (is_halted store.old)) (is_halted store.old ≡ false)) }
     // The store is only read.
     ensures reads { OnlyReadsStore D.size D.story D.failed D.tells (store_ended result) store.old store.new }
@@ -90,10 +125,10 @@ pub fn print_summary<D: SectorDevice, W: Write>(
     ensures silent { IfErr result (λ refusal. refusal ≢ Refusal.Io Side.Output → output.new ≡ output.old) }
     ensures front { IfErr result (IfOutput ((s : _) × (agree : _) × IsSummary (D.size (device_of store.old)) store.old s
         × SaysAgreement (is_halted store.old) D.tells (shown_image (now (D.story (device_of store.old)))) agree
-        × AppendsFront (W.contents output.old) (W.contents output.new) (summary_text as_json s agree))) }
+        × AppendsFront (W.contents output.old) (W.contents output.new) (summary_text as_json s agree kind))) }
 {
     let summary = store.summary(alloc)?;
     let agree = store.commits_agree()?;
-    let text = text_of(alloc, &summary, agree, as_json)?;
+    let text = text_of(alloc, &summary, agree, kind, as_json)?;
     write_whole(output, text.as_bytes())
 }

@@ -133,7 +133,7 @@ and of the tables. The number of kept sectors is always 0 here: only a program t
 the library keeps sectors, for its readers. The epoch grows by one with each change; each
 step of compact is a change. Segments are the pieces in which a table is stored. If
 commits_agree is false, something other than this program has changed a commit, and the
-last command may be undone.",
+last command may be undone. The device is file, or block if it is a block device.",
     },
     CommandHelp {
         name: "compact",

@@ -1,11 +1,11 @@
 //! What the program prints and how it ends: its status, what it reports of a refusal and to whom, and its own texts.
 //!
-//! [`end`] and [`report_arguments`] report on any writer how a run ended, and say which bytes are written: for a program the line of a refusal, and
-//! on a terminal also what to do. [`end_output`] does the same for a run with an output, whose reader may be gone ([`Output`], [`WatchedOutput`]), and
-//! [`end_text`] for one that only writes a text: a terminal is told why the output failed. [`ShownOutput`] gives a terminal no control character.
-//! [`tell_left_out`] and [`tell_lacking`] report what a salvage leaves out, and [`tell_notes`] what a command that is done has brought ([`Note`]) and what
-//! it leaves in doubt ([`Warning`]).
-//! [`write_own_text`] writes the version, the meaning of each refusal, or the help that lists all commands, and [`write_entry`] the meaning of one.
+//! [`end`] and [`report_arguments`] report on any writer how a run ended, and say which bytes are written: for a program the line of a
+//! refusal, and on a terminal also what to do. [`end_output`] does the same for a run with an output, whose reader may be gone ([`Output`],
+//! [`WatchedOutput`]), and [`end_text`] for one that only writes a text: a terminal is told why the output failed. [`ShownOutput`] gives a
+//! terminal no control character. [`tell_left_out`] and [`tell_lacking`] report what a salvage leaves out, and [`tell_notes`] what a
+//! command that is done has brought ([`Note`]) and what it leaves in doubt ([`Warning`]). [`write_own_text`] writes the version, the
+//! meaning of each refusal, or the help that lists all commands, and [`write_entry`] the meaning of one.
 //!
 //! ```
 //! let ended = end(Err(Refusal::BadSize), Known::unchanging(None), Audience::Program, &mut errors); // `errors` has the line `refused G2 BadSize`

@@ -9,7 +9,8 @@ use std::alloc::{AllocError, Global};
 use std::fmt::{self, Write as _};
 use std::io::Write;
 
-/// What it means that the two commits of a store do not agree. A later version of the program may have written one that this one does not know.
+/// What it means that the two commits of a store do not agree. A later version of the program may have written one that this one does not
+/// know.
 pub const COMMITS_DISAGREE: &str =
     "The two commits do not agree: something other than this version of the program has changed one, and the last change may be undone.";
 
@@ -52,7 +53,8 @@ impl fmt::Display for LiteralForm {
 pub enum Warning<'a> {
     /// A CSV text ends within quotation marks that begin on this line, counted from 1.
     OpenQuotation(u64),
-    /// No row meets the conditions of a query, and what one of them compares with has this form. It is printed if a terminal may be shown it.
+    /// No row meets the conditions of a query, and what one of them compares with has this form. It is printed if a terminal may be shown
+    /// it.
     Literal {
         text: Option<&'a str>,
         form: LiteralForm,
@@ -97,7 +99,7 @@ impl fmt::Display for Warning<'_> {
 }
 
 fn line_of(alloc: Global, warning: Warning<'_>) -> Result<String, AllocError>
-    ensures { IfOk result (λ text. string_bytes text ≡ warning_line warning) }
+    ensures { IfOk result (λ text. string_bytes text ≡ warning_line warning.entry) }
 {
     let mut text = String::new(alloc);
     writeln!(text, "{warning}")?;
@@ -106,7 +108,7 @@ fn line_of(alloc: Global, warning: Warning<'_>) -> Result<String, AllocError>
 
 #[tactic(auto, using(crate::proofs::TextLemmas::no_front))]
 fn write_warning<E: Write>(alloc: Global, warning: Warning<'_>, errors: &mut E)
-    ensures { AppendsFront (E.contents errors.old) (E.contents errors.new) (warning_line warning) }
+    ensures { AppendsFront (E.contents errors.old) (E.contents errors.new) (warning_line warning.entry) }
 {
     match line_of(alloc, warning) {
         Ok(line) => write_front(line.as_str(), errors),
@@ -114,9 +116,10 @@ fn write_warning<E: Write>(alloc: Global, warning: Warning<'_>, errors: &mut E)
     }
 }
 
-/// Tells the notes of a command that is done, on a terminal or to a script. The command stays done if memory is refused or the writer fails.
+/// Tells the notes of a command that is done, on a terminal or to a script. The command stays done if memory is refused or the writer
+/// fails.
 pub fn tell_notes<E: Write>(alloc: Global, notes: Notes<'_>, audience: Audience, errors: &mut E)
-    ensures { TellsNotes E.contents audience notes errors.old errors.new }
+    ensures { TellsNotes E.contents audience notes.entry errors.old errors.new }
 {
     tell_note(alloc, notes.note, audience, errors);
     match notes.warning {

@@ -123,7 +123,7 @@ unfolding Serves
 returns-in-Info-clause-serves g c =
     let e = c.print_summary.ensures in
     let new = c.print_summary.new in
-    serves_as g.R.Read.remaining g.W.Write.contents c.args.command (opened.Info c.in-Info.as_json) c.args.store.now new.store (channels c.args.input.now c.args.output.now c.args.hint.now)
+    serves_as g.R.Read.remaining g.W.Write.contents c.args.command (opened.Info c.in-Info.as_json c.in-Info.kind) c.args.store.now new.store (channels c.args.input.now c.args.output.now c.args.hint.now)
     (channels c.args.input.now new.output c.args.hint.now) c.print_summary.result c.in-Info.is (record { written = e.written; told = e.told; leaves = e.reads; unhinted = refl })
 
 pub returns-in-Compact-clause-serves : goal.returns-in-Compact-clause-serves

@@ -1,12 +1,13 @@
 use Rattle.std.proofs.Common.{◌≡◌, ◌++◌, ◌∙◌, List, [], ℕ, Bor, drop, length, string_bytes, append-nil, append_assoc, sym, ap, arith}
 use Rattle.std.specs.Prelude.{codes, flat_map}
 use Rattle.std.proofs.lemmas.List.{drop_all, length-map}
-use Rattle.cli_commands.specs.Printed.{summary_numbers, number_line, truth}
+use Rattle.cli_commands.specs.Printed.{summary_numbers, number_line, truth, kind_name}
 use Rattle.cli_commands.proofs.summing.lines_of.Goals as goal
 
--- three texts more, appended at once
-three_more : (text new lines a b c : List ℕ) → text ++ [] ≡ lines → new ≡ text ++ (a ++ (b ++ c)) → new ≡ lines ++ a ++ b ++ c
-three_more text new lines a b c all more = more ∙ ap (λ (t : List ℕ). t ++ (a ++ (b ++ c))) (sym (append-nil text) ∙ all) ∙ simp append_assoc
+-- five texts more, appended at once
+five_more : (text new lines a b c d e : List ℕ) → text ++ [] ≡ lines → new ≡ text ++ (a ++ (b ++ (c ++ (d ++ e)))) → new ≡ lines ++ a ++ b ++ c ++ d ++ e
+five_more text new lines a b c d e all more =
+    more ∙ ap (λ (t : List ℕ). t ++ (a ++ (b ++ (c ++ (d ++ e))))) (sym (append-nil text) ∙ all) ∙ simp append_assoc
 
 pub returns : goal.returns
 returns c =
@@ -14,5 +15,6 @@ returns c =
     let named = c.numbers_of-name-items.ensures in
     let count = length-map {B = List ℕ × ℕ} numbers (λ (n : Bor (List ℕ) × ℕ). (n.0.now, n.1)) in
     let none : drop c.loop-name.name-index numbers ≡ [] = drop_all c.loop-name.name-index numbers (omega (arith, count, ap length named, c.loop-name-test.false)) in
-    three_more (string_bytes c.loop-name.text) _ (flat_map number_line (summary_numbers c.args.s.now)) (codes "commits_agree ") (truth c.args.agree) (codes "\n") (rw (none, named) at c.loop-name.invariant)
+    five_more (string_bytes c.loop-name.text) _ (flat_map number_line (summary_numbers c.args.s.now)) (codes "commits_agree ") (truth c.args.agree) (codes "\ndevice ")
+    (kind_name c.args.kind) (codes "\n") (rw (none, named) at c.loop-name.invariant)
     c.in_ok-write-2.ensures.bytes
