@@ -103,6 +103,9 @@ few s p count segments sectors le =
     let most : s * (s * p + 1) ≤ MAX_SEGMENTS * (MAX_SEGMENTS * MOST_SECTORS + 1) = mul-le s (s * p + 1) MAX_SEGMENTS (MAX_SEGMENTS * MOST_SECTORS + 1) segments (omega (arith, inner)) in
     omega (arith, le, most)
 
+pub below_limit : {n count most limit : ℕ} → n ≡ count → count < most → most ≡ limit → n < limit
+below_limit is lt same = omega (arith, is, lt, same)
+
 listed_alike : (k j : Commit) (c d : PlainCatalogue) → rules k c ≡ rules j d → c ≡ d
 listed_alike k j c d is = cc is
 
