@@ -1,7 +1,7 @@
 -- Lines whose commands are added one by one: what they are so far, and how they are refused.
 use Rattle.std.specs.Prelude.{◌≡◌, ◌≢◌, ◌⊎◌, ◌++◌, ◌∷◌, ◌+◌, ◌<◌, ◌≤◌, ℕ, zero, suc, Bool, true, List, [], take, length, slice_get, Option, Some, None, option_map, unwrap_or, Result, Ok, Err, IfErr}
-use Rattle.std.proofs.Common.{◌∙◌, inl, inr, refl, sym, ap, subst, arith, append_assoc}
-use Rattle.std.proofs.lemmas.Bool.{cases_lt}
+use Rattle.std.proofs.Common.{◌∙◌, inl, inr, refl, sym, ap, subst, arith, append_assoc, append-nil}
+use Rattle.std.proofs.lemmas.Bool.{cases_lt, true≢false}
 use Rattle.std.proofs.lemmas.List.{length-append, take_at, take_all, take-append-le}
 use Rattle.sector_dev.specs.Disk.{Story, Image, now, shown_image}
 use Rattle.sector_dev.specs.Time.{OnlyReads}
@@ -44,9 +44,9 @@ use Rattle.cli_commands.specs.declared.applying.ListedCommand.{ListedCommand}
 use Rattle.cli_commands.specs.Applying.{FollowsList, IsOfLine, IsListedAt, AreListed, GivesLines, TextHasRows, TextIsRefused, RefusesTextAt, RefusesLines, AnswersLines, HandsLines, AnswersList}
 use Rattle.cli_commands.specs.inner.Applying.{at_line, HasOnlyRead, AddsLine, RefusesLine, EndsLine}
 
-pub follows_done : (done : Unit {0}) (result : Result (Unit {0}) Refusal) → IfErr result (λ e. e ≡ Io Output) → FollowsList (Ok done) result
-follows_done done (Ok unit) io = tt
-follows_done done (Err e) io = io
+pub follows_done : (x : Unit {0}) (result : Result (Unit {0}) Refusal) → IfErr result (λ e. e ≡ Io Output) → FollowsList (Ok x) result
+follows_done x (Ok unit) io = tt
+follows_done x (Err e) io = io
 
 -- the number of a line is one more than its place
 pub follows_at : (place : ℕ) (r : tables.Refusal) → FollowsList (Err (refusal_at place r)) (Err (at_line (place + 1) (Store r)))
@@ -249,6 +249,18 @@ module _ {D : Type 0} {g : Ghosts D} (size : D → ℕ) (story : D → Story) (f
     answers = answers;
     follows = follows;
   }
+
+  -- nothing is left behind them
+  pub lines_all : (rest all : List ListedCommand) → lines ++ rest ≡ all → length rest ≡ 0 → HasLines size story failed tells first store t all
+  lines_all rest all parts none = subst (λ (ls : List ListedCommand). HasLines size story failed tells first store t ls) (sym (append-nil lines) ∙ ap (λ (ls : List ListedCommand). lines ++ ls) (sym (no_items rest none)) ∙ parts) has
+    where
+      no_items : (xs : List ListedCommand) → length xs ≡ 0 → xs ≡ []
+      no_items [] is = refl
+      no_items (x ∷ xs) is = absurd (omega (arith, is))
+
+  -- a store that transactions are begun on is not halted
+  pub never_halted : (c : PlainCommand) (r : tables.Refusal) (new : stores.Store D g) → Applies size story tells first c (Err r) new → r ≢ reasons.Halted
+  never_halted c r new applies is = absurd (true≢false (sym (applies.halted.0 (ap Err is)) ∙ has.drafts.on))
 
 -- a list that is not begun
 pub none_answered : (tells : Bool) (image : Image) (c : PlainCatalogue) (lines : List ListedCommand) (P : List PlainCommand → Result (Unit {0}) ListRefusal → Type 0) (still : Type 0) (halted : Bool) (r : tables.Refusal) → RefusesTables halted r

@@ -1,12 +1,14 @@
 use Rattle.std.specs.Vec.Iter.{into_iter_items}
-use Rattle.std.proofs.Common.{◌≡◌, ◌++◌, ◌∷◌, [], ◌∙◌, List, length, Ok, Err, inr, refl, sym, ap, subst, arith, append_assoc, length_push}
-use Rattle.std.proofs.lemmas.List.{length-append}
+use Rattle.std.proofs.Common.{◌≡◌, ◌++◌, ◌∷◌, [], ◌∙◌, List, length, Ok, Err, inr, refl, sym, ap, subst, arith, append_assoc}
+use Rattle.std.proofs.lemmas.List.{length-append, length_push}
 use Rattle.std.proofs.lemmas.Result.{err_from_is_err_and}
 use Rattle.sector_dev.specs.Disk.{now, shown_image}
 use Rattle.store.specs.declared.applying_all.ListRefusal.TheVariants.{Whole}
+use Rattle.store_runs.specs.Calls.{counted, refused}
 use Rattle.store.specs.Fits.{listed_in}
+use Rattle.cli_refusals.specs.declared.refusal.Refusal.TheVariants.{Store}
 use Rattle.cli_commands.specs.declared.applying.ListedCommand.{ListedCommand}
-use Rattle.cli_commands.proofs.ListLemmas.{no_lines, lines_more, line_told, line_goes, all_answered, none_answered, gives_whole, follows_done}
+use Rattle.cli_commands.proofs.ListLemmas.{no_lines, lines_more, line_told, line_goes, all_answered, none_answered, gives_whole, follows_done, lines_all, never_halted}
 use Rattle.cli_commands.proofs.applying.apply_listed.Goals as goal
 
 -- ---- they are not begun
@@ -16,7 +18,7 @@ returns-in_err-transaction-clause-goes g c = λ told base m fits.
     let D = g.D.SectorDevice in
     let store = c.args.store.now in
     let p = err_from_is_err_and c.from_residual.result c.from_residual.ensures.1 in
-    rw (p.1, p.2) (inr (none_answered D.tells (shown_image (now (D.story store.device))) (listed_in store) c.args.commands.items _ _ store.halted c.in_err-transaction.field-0 c.in_err-transaction.ensures.told
+    rw (p.1, p.2) (inr (none_answered D.tells (shown_image (now (D.story store.device))) (listed_in store) c.args.commands.items _ _ store.halted c.in_err-transaction.field-0.0 c.in_err-transaction.ensures.told
     ((c.in_err-transaction.ensures.refused []).goes told base m fits)))
 
 pub returns-in_err-transaction-clause-told : goal.returns-in_err-transaction-clause-told
@@ -25,7 +27,7 @@ returns-in_err-transaction-clause-told g c =
     let store = c.args.store.now in
     let no = c.in_err-transaction.ensures.refused [] in
     let p = err_from_is_err_and c.from_residual.result c.from_residual.ensures.1 in
-    rw (p.1, p.2) (inr (none_answered D.tells (shown_image (now (D.story store.device))) (listed_in store) c.args.commands.items _ _ store.halted c.in_err-transaction.field-0 c.in_err-transaction.ensures.told
+    rw (p.1, p.2) (inr (none_answered D.tells (shown_image (now (D.story store.device))) (listed_in store) c.args.commands.items _ _ store.halted c.in_err-transaction.field-0.0 c.in_err-transaction.ensures.told
     (record { applies = no.applies; line = no.line; size_kept = no.same; count = no.count })))
 
 pub loop-command-init : goal.loop-command-init
@@ -98,3 +100,57 @@ returns-in-Err-clause-told g c =
     rw c.at_line.ensures
     (line_told D.size D.story D.failed D.tells c.args.store.now c.loop-command.store c.add_listed.new.store c.loop-command.transaction so_far was.has line rest c.args.commands.items parts _ (omega (arith, here))
     _ refl c.in-Err.refusal (c.in-Err.ensures.ends c.args.store.now was.has.given was.has.drafts))
+
+-- ---- all are accepted
+
+pub returns-in_err-commit-clause-goes : goal.returns-in_err-commit-clause-goes
+returns-in_err-commit-clause-goes g c = λ told base m fits.
+    let D = g.D.SectorDevice in
+    let first = c.args.store.now in
+    let was = c.loop-command.invariant in
+    let left = c.loop-command.command-iterator in
+    let has = lines_all D.size D.story D.failed D.tells first c.loop-command.store c.loop-command.transaction c.loop-command.yielded was.has (into_iter_items left) c.args.commands.items was.parts (sym left.rest.ok.0 ∙ c.in-None.ensures.steps.0) in
+    let r = c.in_err-commit.field-0.0 in
+    let p = err_from_is_err_and c.from_residual-in_err-commit.result c.from_residual-in_err-commit.ensures.1 in
+    rw (p.1, p.2) (inr (all_answered D.size D.story D.failed D.tells first c.loop-command.store c.loop-command.transaction c.args.commands.items has _ _ (Err (Whole r)) (Err (Store r))
+    (gives_whole _ _ r (never_halted D.size D.story D.failed D.tells first c.loop-command.store c.loop-command.transaction c.args.commands.items has _ r c.commit.new.self (c.in_err-commit.ensures.applies first has.given has.drafts)))
+    (c.in_err-commit.ensures.goes first has.given has.drafts told base m fits) refl))
+
+pub returns-in_err-commit-clause-told : goal.returns-in_err-commit-clause-told
+returns-in_err-commit-clause-told g c =
+    let D = g.D.SectorDevice in
+    let first = c.args.store.now in
+    let was = c.loop-command.invariant in
+    let left = c.loop-command.command-iterator in
+    let has = lines_all D.size D.story D.failed D.tells first c.loop-command.store c.loop-command.transaction c.loop-command.yielded was.has (into_iter_items left) c.args.commands.items was.parts (sym left.rest.ok.0 ∙ c.in-None.ensures.steps.0) in
+    let r = c.in_err-commit.field-0.0 in
+    let applies = c.in_err-commit.ensures.applies first has.given has.drafts in
+    let p = err_from_is_err_and c.from_residual-in_err-commit.result c.from_residual-in_err-commit.ensures.1 in
+    rw (p.1, p.2) (inr (all_answered D.size D.story D.failed D.tells first c.loop-command.store c.loop-command.transaction c.args.commands.items has _ _ (Err (Whole r)) (Err (Store r))
+    (gives_whole _ _ r (never_halted D.size D.story D.failed D.tells first c.loop-command.store c.loop-command.transaction c.args.commands.items has _ r c.commit.new.self applies))
+    (record { applies = applies; line = tt; size_kept = c.in_err-commit.ensures.size ∙ has.drafts.reads.device.same; count = c.in_err-commit.ensures.count ∙ ap (counted (refused r)) has.drafts.reads.device.count }) refl))
+
+pub returns-clause-goes : goal.returns-clause-goes
+returns-clause-goes g c = λ told base m fits.
+    let D = g.D.SectorDevice in
+    let first = c.args.store.now in
+    let was = c.loop-command.invariant in
+    let left = c.loop-command.command-iterator in
+    let has = lines_all D.size D.story D.failed D.tells first c.loop-command.store c.loop-command.transaction c.loop-command.yielded was.has (into_iter_items left) c.args.commands.items was.parts (sym left.rest.ok.0 ∙ c.in-None.ensures.steps.0) in
+    inr (all_answered D.size D.story D.failed D.tells first c.loop-command.store c.loop-command.transaction c.args.commands.items has _ _ (Ok tt) c.write_whole.result refl
+    (c.in_ok-commit.ensures.goes first has.given has.drafts told base m fits) (follows_done tt c.write_whole.result c.write_whole.ensures.io))
+
+pub returns-clause-told : goal.returns-clause-told
+returns-clause-told g c =
+    let D = g.D.SectorDevice in
+    let first = c.args.store.now in
+    let was = c.loop-command.invariant in
+    let left = c.loop-command.command-iterator in
+    let has = lines_all D.size D.story D.failed D.tells first c.loop-command.store c.loop-command.transaction c.loop-command.yielded was.has (into_iter_items left) c.args.commands.items was.parts (sym left.rest.ok.0 ∙ c.in-None.ensures.steps.0) in
+    inr (all_answered D.size D.story D.failed D.tells first c.loop-command.store c.loop-command.transaction c.args.commands.items has _ _ (Ok tt) c.write_whole.result refl
+    (record {
+      applies = c.in_ok-commit.ensures.applies first has.given has.drafts;
+      line = tt;
+      size_kept = c.in_ok-commit.ensures.size ∙ has.drafts.reads.device.same;
+      count = c.in_ok-commit.ensures.count ∙ has.drafts.reads.device.count;
+    }) (follows_done tt c.write_whole.result c.write_whole.ensures.io))
