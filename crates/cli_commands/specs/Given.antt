@@ -3,7 +3,7 @@ use Rattle.std.specs.Prelude.{ℕ, List, ◌≡◌, ◌+◌, ◌≤◌, length, 
 use Rattle.store.specs.Input.{HasGiven, HasGivenAtMost}
 use Rattle.cli_commands.specs.declared.input.TheConstants.{LARGEST_INPUT}
 use Rattle.cli_refusals.specs.declared.refusal.Refusal.{Refusal}
-use Rattle.cli_refusals.specs.declared.refusal.Refusal.TheVariants.{Fault, NoEnd, TooManyBytes, Io, BadSize, BadScript, Fields, NoText, Text, Query, Opening, Store, Line, OutOfMemory}
+use Rattle.cli_refusals.specs.declared.refusal.Refusal.TheVariants.{Fault, NoEnd, TooManyBytes, Io, BadSize, BadScript, Fields, NoText, Text, Query, Opening, Store, Line, TextLine, OutOfMemory}
 use Rattle.cli_refusals.specs.declared.refusal.Side.TheVariants.{Input}
 
 -- P holds, unless the answer is the refusal of too many bytes
@@ -22,6 +22,7 @@ UnlessTooManyBytes (Err (Query refusal)) P = P
 UnlessTooManyBytes (Err (Opening refusal)) P = P
 UnlessTooManyBytes (Err (Store refusal)) P = P
 UnlessTooManyBytes (Err (Line number refusal)) P = P
+UnlessTooManyBytes (Err (TextLine number refused)) P = P
 UnlessTooManyBytes (Err OutOfMemory) P = P
 
 -- why an input is not read: it is too long, a read failed, or memory was refused

@@ -6,7 +6,7 @@ use Rattle.ipc_message.specs.Header.{supported_codes}
 use Rattle.ipc_stream.specs.Meaning.{meaning}
 use Rattle.ipc_canonical.specs.Canonical.{canonical}
 use Rattle.cli_refusals.specs.declared.refusal.Refusal.{Refusal}
-use Rattle.cli_refusals.specs.declared.refusal.Refusal.TheVariants.{Fault, NoEnd, TooManyBytes, Io, BadSize, BadScript, Fields, NoText, Text, Query, Opening, Store, Line, OutOfMemory}
+use Rattle.cli_refusals.specs.declared.refusal.Refusal.TheVariants.{Fault, NoEnd, TooManyBytes, Io, BadSize, BadScript, Fields, NoText, Text, Query, Opening, Store, Line, TextLine, OutOfMemory}
 use Rattle.cli_refusals.specs.declared.refusal.Side.TheVariants.{Input, Output}
 
 -- the answer is about the whole input: it has a meaning, or a fault
@@ -25,6 +25,7 @@ IsVerdict (Err (Query refusal)) = ⊥
 IsVerdict (Err (Opening refusal)) = ⊥
 IsVerdict (Err (Store refusal)) = ⊥
 IsVerdict (Err (Line number refusal)) = ⊥
+IsVerdict (Err (TextLine number refused)) = ⊥
 IsVerdict (Err OutOfMemory) = ⊥
 
 -- the input means a table, and what was written, from `old` to `new`, is the canonical stream of that table and nothing else

@@ -84,9 +84,9 @@ fn add_text<D: SectorDevice>(
 ) -> Result<Transaction, Refusal>
     requires { IsBegun D.size D.story D.failed D.tells store.old transaction }
     ensures adds { IfOk result (λ next. WhereBegun D.size D.story D.failed D.tells store.old transaction (λ first given.
-        AddsLine D.size D.story D.failed D.tells (drafted transaction) (ListedCommand.Text name form.now text) first given next store.new)) }
+        AddsLine D.size D.story D.failed D.tells (drafted transaction) (ListedCommand.Text name.entry form.now text) first given next store.new)) }
     ensures ends { IfErr result (λ e. WhereBegun D.size D.story D.failed D.tells store.old transaction (λ first given.
-        EndsLine D.size D.story D.failed D.tells (drafted transaction) (ListedCommand.Text name form.now text) first given e store.new)) }
+        EndsLine D.size D.story D.failed D.tells (drafted transaction) (ListedCommand.Text name.entry form.now text) first given e store.new)) }
 {
     match store.schema_in(alloc, &transaction, name) {
         Ok(schema) => match take_rows(alloc, form, &schema, text, name)? {
@@ -111,9 +111,9 @@ fn add_listed<D: SectorDevice>(
 ) -> Result<Transaction, Refusal>
     requires { IsBegun D.size D.story D.failed D.tells store.old transaction }
     ensures adds { IfOk result (λ next. WhereBegun D.size D.story D.failed D.tells store.old transaction (λ first given.
-        AddsLine D.size D.story D.failed D.tells (drafted transaction) line first given next store.new)) }
+        AddsLine D.size D.story D.failed D.tells (drafted transaction) line.entry first given next store.new)) }
     ensures ends { IfErr result (λ e. WhereBegun D.size D.story D.failed D.tells store.old transaction (λ first given.
-        EndsLine D.size D.story D.failed D.tells (drafted transaction) line first given e store.new)) }
+        EndsLine D.size D.story D.failed D.tells (drafted transaction) line.entry first given e store.new)) }
 {
     match line {
         ListedCommand::Known(command) => Ok(store.add(alloc, transaction, command)?),
@@ -138,16 +138,16 @@ pub fn apply_listed<D: SectorDevice, W: Write>(
 ) -> Result<(), Refusal>
     // The answer is the store's: `Ok` only if the store has done the commands of all lines, and else its refusal. While a text is refused nothing is changed.
     ensures goes { D.tells ≡ true → (base : Tables) (m : Machine) → StoreFits D.size D.story base m store.old
-        → HandsLines D.tells (shown_image (now (D.story (device_of store.old)))) (listed_in store.old) commands.items
+        → HandsLines D.tells (shown_image (now (D.story (device_of store.old)))) (listed_in store.old) commands.entry.items
         (OnlyReads (D.story (device_of store.old)) (D.story (device_of store.new)))
         (λ given answer. GoesOn D.size D.story D.failed base m (apply_call (all_of (commands_of given))) (ended_list answer) store.old store.new)
         (λ refusal. StoreFits D.size D.story base m store.new) result }
     // On every store and every device: the store was given the commands of the lines, and its answer is reported; or a line could not be read, and nothing is
     // changed or written.
-    ensures told { HandsLines D.tells (shown_image (now (D.story (device_of store.old)))) (listed_in store.old) commands.items
+    ensures told { HandsLines D.tells (shown_image (now (D.story (device_of store.old)))) (listed_in store.old) commands.entry.items
         (D.tells ≡ true → OnlyReads (D.story (device_of store.old)) (D.story (device_of store.new)))
         (λ given answer. AnswersList D.size D.story D.failed D.tells given answer store.old store.new)
-        (λ refusal. RefusesLines D.tells (shown_image (now (D.story (device_of store.old)))) (listed_in store.old) commands.items refusal
+        (λ refusal. RefusesLines D.tells (shown_image (now (D.story (device_of store.old)))) (listed_in store.old) commands.entry.items refusal
         × OnlyReadsStore D.size D.story D.failed D.tells done store.old store.new × (output.new ≡ output.old)) result }
     ensures written { OnOk result (Appends (W.contents output.old) (W.contents output.new) (codes "ok\n")) }
     ensures silent { IfErr result (λ refusal. refusal ≢ Refusal.Io Side.Output → output.new ≡ output.old) }

@@ -13,7 +13,6 @@ use crate::Store;
 use crate::applying_all::ListRefusal;
 use crate::drafting::{add_line, heavy_line};
 use crate::listing::schema_named;
-use crate::reading::halts;
 use arrow_schema::Schema;
 use sector_dev::SectorDevice;
 use std::alloc::Global;
@@ -103,11 +102,12 @@ impl<D: SectorDevice> Store<D> {
         commands_bring_tables(&command);
         decisions_are_verdicts();
         let Transaction { draft } = transaction;
-        let next = add_line(alloc, &mut self.device, draft, command);
-        self.halted = halts(&next);
-        match next {
+        match add_line(alloc, &mut self.device, draft, command) {
             Ok(draft) => Ok(Transaction { draft }),
-            Err(refusal) => Err(refusal),
+            Err(refusal) => {
+                self.halted = fails(refusal);
+                Err(refusal)
+            }
         }
     }
 

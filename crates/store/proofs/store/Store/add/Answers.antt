@@ -1,40 +1,35 @@
 use Rattle.std.proofs.Common.{◌≡◌, ◌∙◌, Bool, refl, sym, ap, subst}
 use Rattle.std.specs.Prelude.{◌||◌}
-use Rattle.commit.specs.Standing.{is_size}
+use Rattle.segments.specs.laws.Usages.{or_false}
 use Rattle.tables.specs.View.{command_of}
-use Rattle.store_runs.specs.Calls.{is_device_reply}
-use Rattle.store_runs.specs.Reading.{ended}
+use Rattle.store_runs.specs.Calls.{is_device_reply, refused}
 use Rattle.store.proofs.Applied.{single_command}
 use Rattle.store.proofs.Begun.{shown_first, shows_old, from_old, placed_old, old_on, drafts_more, ends_behind, refuses_next}
 use Rattle.store.proofs.StillSound.{still_sound, all_placed}
 use Rattle.store.proofs.store.Store.add.Goals as goal
 
-pub add_line-next-requires-clause-draft : goal.add_line-next-requires-clause-draft
-add_line-next-requires-clause-draft g c = c.requires.drafts.draft
+pub add_line-requires-clause-draft : goal.add_line-requires-clause-draft
+add_line-requires-clause-draft g c = c.requires.drafts.draft
 
-pub add_line-next-requires-clause-begins : goal.add_line-next-requires-clause-begins
-add_line-next-requires-clause-begins g c =
+pub add_line-requires-clause-begins : goal.add_line-requires-clause-begins
+add_line-requires-clause-begins g c =
     let D = g.D.SectorDevice in let begun = c.requires in from_old D.size D.story D.failed D.tells begun.first c.args.self.now c.args.transaction begun.commands begun.drafts
 
-pub add_line-next-requires-clause-placed : goal.add_line-next-requires-clause-placed
-add_line-next-requires-clause-placed g c =
+pub add_line-requires-clause-placed : goal.add_line-requires-clause-placed
+add_line-requires-clause-placed g c =
     let D = g.D.SectorDevice in let begun = c.requires in placed_old D.size D.story D.failed D.tells begun.first c.args.self.now c.args.transaction begun.commands begun.drafts (all_placed begun.first)
 
 -- ---- it was only read
 
 pub returns-in-Ok-clause-reads : goal.returns-in-Ok-clause-reads
-returns-in-Ok-clause-reads g c =
-    let D = g.D.SectorDevice in
-    let begun = c.requires in
-    let on = old_on D.size D.story D.failed D.tells begun.first c.args.self.now c.args.transaction begun.commands begun.drafts in
-    record { device = c.in-Ok.ensures.reads; kept = refl; book = refl; halts = c.halts-self.ensures ∙ sym (ap (λ (b : Bool). b || is_device_reply (ended c.add_line-next.result)) on) }
+returns-in-Ok-clause-reads g c = record { device = c.in-Ok.ensures.reads; kept = refl; book = refl; halts = sym (or_false c.args.self.now.halted) }
 
 pub returns-in-Err-clause-reads : goal.returns-in-Err-clause-reads
 returns-in-Err-clause-reads g c =
     let D = g.D.SectorDevice in
     let begun = c.requires in
     let on = old_on D.size D.story D.failed D.tells begun.first c.args.self.now c.args.transaction begun.commands begun.drafts in
-    record { device = c.in-Err.ensures.reads; kept = refl; book = refl; halts = c.halts-self.ensures ∙ sym (ap (λ (b : Bool). b || is_device_reply (ended c.add_line-next.result)) on) }
+    record { device = c.in-Err.ensures.reads; kept = refl; book = refl; halts = c.fails-self.ensures ∙ sym (ap (λ (b : Bool). b || is_device_reply (refused c.in-Err.refusal)) on) }
 
 -- ---- one more
 
@@ -70,4 +65,4 @@ returns-in-Err-clause-refused g c = λ first commands begun.
 -- ---- the device keeps its size
 
 pub invariant_of-self : goal.invariant_of-self
-invariant_of-self g c = assumption (still_sound c.args.self.now _ _ c.add_line-next.ensures.reads.same refl)
+invariant_of-self g c = assumption (still_sound c.args.self.now _ _ c.add_line.ensures.reads.same refl)

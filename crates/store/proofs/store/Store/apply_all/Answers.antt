@@ -1,7 +1,7 @@
 use Rattle.std.specs.Vec.Iter.{into_iter_items}
-use Rattle.std.proofs.Common.{◌≡◌, ◌++◌, ◌∷◌, [], ℕ, Bool, Some, Err, List, map, length, Result, refl, sym, ap, ◌∙◌, subst, arith, append_assoc, length_push}
+use Rattle.std.proofs.Common.{◌≡◌, ◌++◌, ◌∷◌, [], ℕ, Bool, Some, Err, List, map, length, Result, refl, sym, ap, ◌∙◌, subst, arith, append_assoc, append-nil}
 use Rattle.std.proofs.lemmas.Bool.{true≢false}
-use Rattle.std.proofs.lemmas.List.{map-append, length-map}
+use Rattle.std.proofs.lemmas.List.{map-append, length-map, length_push}
 use Rattle.sector_dev.specs.Disk.{Image, now, shown_image}
 use Rattle.catalogue.specs.Entries.{PlainCatalogue}
 use Rattle.catalogue.specs.laws.Kept.{catalogue_is}
@@ -168,13 +168,20 @@ returns-in-Err-add-clause-count g c =
 
 -- ---- all are accepted
 
+none_left : {A : Type 0} (xs : List A) → length xs ≡ 0 → xs ≡ []
+none_left [] is = refl
+none_left (x ∷ xs) is = absurd (omega (arith, is))
+
+all_yielded : (front rest all : List Command) → front ++ rest ≡ all → rest ≡ [] → front ≡ all
+all_yielded front rest all parts none = sym (append-nil front) ∙ ap (λ (cs : List Command). front ++ cs) (sym none) ∙ parts
+
 pub returns-clause-goes : goal.returns-clause-goes
 returns-clause-goes g c = λ told base m fits.
     let D = g.D.SectorDevice in
     let first = c.args.self.now in
     let was = c.loop-command.invariant in
     subst (λ (r : PlainReply). GoesOn D.size D.story D.failed base m (apply_call (list_of c.args.commands.items)) r first c.commit.new.self) (sym c.as_whole.ensures.reply)
-    (subst (λ (cs : List Command). GoesOn D.size D.story D.failed base m (apply_call (list_of cs)) (ended c.commit.result) first c.commit.new.self) (all_yielded g c)
+    (subst (λ (cs : List Command). GoesOn D.size D.story D.failed base m (apply_call (list_of cs)) (ended c.commit.result) first c.commit.new.self) (all_yielded c.loop-command.yielded (into_iter_items c.loop-command.command-iterator) c.args.commands.items was.parts (none_left _ (sym c.loop-command.command-iterator.rest.ok.0 ∙ c.in-None.ensures.steps.0)))
     (c.commit.ensures.goes first (map command_of c.loop-command.yielded) was.drafts told base m fits))
 
 pub returns-clause-applies : goal.returns-clause-applies
@@ -183,7 +190,7 @@ returns-clause-applies g c =
     let first = c.args.self.now in
     let was = c.loop-command.invariant in
     subst (λ (r : Result (Unit {0}) Refusal). Applies D.size D.story D.tells first (list_of c.args.commands.items) r c.commit.new.self) (sym c.as_whole.ensures.one)
-    (subst (λ (cs : List Command). Applies D.size D.story D.tells first (list_of cs) c.commit.result c.commit.new.self) (all_yielded g c)
+    (subst (λ (cs : List Command). Applies D.size D.story D.tells first (list_of cs) c.commit.result c.commit.new.self) (all_yielded c.loop-command.yielded (into_iter_items c.loop-command.command-iterator) c.args.commands.items was.parts (none_left _ (sym c.loop-command.command-iterator.rest.ok.0 ∙ c.in-None.ensures.steps.0)))
     (c.commit.ensures.applies first (map command_of c.loop-command.yielded) was.drafts))
 
 pub returns-clause-line : goal.returns-clause-line

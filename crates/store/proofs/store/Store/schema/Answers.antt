@@ -9,6 +9,8 @@ use Rattle.arrow_schema.specs.View.{schema_of}
 use Rattle.cells.specs.Cell.{PlainTable}
 use Rattle.catalogue.specs.Entries.{PlainEntry}
 use Rattle.catalogue.specs.Edits.{entry_of}
+use Rattle.catalogue.specs.View.{catalogue_of}
+use Rattle.catalogue.specs.declared.catalogue.Catalogue.{Catalogue}
 use Rattle.tables.specs.declared.refusal.Refusal.{Refusal}
 use Rattle.tables.specs.declared.refusal.Refusal.TheVariants as refusals
 use Rattle.tables.specs.Tables.{Tables}
@@ -69,3 +71,20 @@ match_ok (Err e) P R Q f is = tt
 match_err : {A B : Type 0} (r : Result A B) (P : A → Type 0) (Q R : B → Type 0) → ((e : B) → Q e → R e) → MatchResult r P Q → IfErr r R
 match_err (Ok x) P Q R f is = tt
 match_err (Err e) P Q R f is = f e is
+
+pub returns-clause-goes : goal.returns-clause-goes
+returns-clause-goes g c =
+    let D = g.D.SectorDevice in
+    let store = c.args.self.now in
+    let name = c.args.name.now in
+    let same = ap (λ (list : Catalogue). option_map (λ e. e.schema) (entry_of (catalogue_of list) name)) c.in_ok-list.ensures.0 in
+    match_ok c.schema_named.result _ _ _ (λ s is told base m fits. schema_goes D.size D.story D.failed store c.in_ok-list.ensures.1 name (schema_of s) (sym same ∙ is) base m fits) c.schema_named.ensures.found
+
+pub returns-clause-refused : goal.returns-clause-refused
+returns-clause-refused g c =
+    let D = g.D.SectorDevice in
+    let store = c.args.self.now in
+    let name = c.args.name.now in
+    match_err c.schema_named.result _ _ _
+    (λ r is told base m fits.
+    schema_refused D.size D.story D.failed store c.in_ok-list.ensures.1 name r (subst (λ (list : Catalogue). RefusesSchema false (entry_of (catalogue_of list) name) r) c.in_ok-list.ensures.0 is) base m fits) c.schema_named.ensures.found
