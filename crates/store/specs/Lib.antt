@@ -13,7 +13,6 @@ pub mod Reading
 pub mod Input
 pub mod Exporting
 pub mod Salvaging
-pub mod SegmentStreams
 pub mod Selecting
 pub mod Places
 pub mod Answering
