@@ -59,11 +59,22 @@ fn mark_unfinished<F: OpenFile + Drop, H: Files<File = F>>(
     Ok(file)
 }
 
-fn mark_finished<F: OpenFile>(file: &F, sectors: u64) -> Result<(), Refusal>
+// Gives a new file its length, if it still is at its path: else nobody would find the copy there.
+fn mark_finished<F: OpenFile, H: Files>(
+    rt: &H,
+    path: &str,
+    made: Option<MadeFile>,
+    file: &F,
+    sectors: u64,
+) -> Result<(), Refusal>
     requires { sectors ≤ MOST_SECTORS }
     ensures { IfErr result (λ refusal. refusal ≡ Refusal.Io Side.File) }
 {
-    set_length(file, sectors * 512)
+    set_length(file, sectors * 512)?;
+    match made {
+        Some(made) if made.is_at(rt, path) => Ok(()),
+        _ => Err(Refusal::Io(Side::File)),
+    }
 }
 
 // Copies all tables into a store of the same version in a new file. On an error the file is removed, unless the system refuses that too.
@@ -85,7 +96,12 @@ fn copy_into_file<
     let mut to = format_new(rt, path, made, device, from.version())?;
     match copy_tables(rt.alloc(), from, &mut to) {
         // The commit point of the copy: from here on the file opens as a store.
-        Ok(()) => remove_on_error(rt, path, made, mark_finished(&file, sectors)),
+        Ok(()) => remove_on_error(
+            rt,
+            path,
+            made,
+            mark_finished(rt, path, made, &file, sectors),
+        ),
         Err(refusal) => remove_on_error(rt, path, made, Err(Refusal::Store(refusal))),
     }
 }
