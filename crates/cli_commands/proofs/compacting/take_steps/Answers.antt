@@ -16,16 +16,16 @@ pub returns-in-Nothing-clause-done : goal.returns-in-Nothing-clause-done
 returns-in-Nothing-clause-done g c =
     let e = c.in-Ok.ensures in
     let so =
-        ends_with_nothing c.loop-count.count c.args.store.now c.loop-count.store c.compact_step.new.self c.in-Ok.done c.in-Nothing.is c.loop-count.invariant e.goes e.step (e.still (rw c.in-Nothing.is refl))
-        e.halted e.halts e.size e.count e.book e.tables e.listed in
+    ends_with_nothing c.loop-count.count c.args.store.now c.loop-count.store c.compact_step.new.self c.in-Ok.done c.in-Nothing.is c.loop-count.invariant e.goes e.step (e.still (rw c.in-Nothing.is refl))
+    e.halted e.halts e.size e.count e.book e.tables e.listed in
     (so.0, so.1, limited c.args.limit so.0 (Ok tt) c.args.store.now c.compact_step.new.self (below_limit so.1 c.loop-count-test.true c.unwrap_or-most.ensures) so.2)
 
 pub returns-in-Err-clause-refused : goal.returns-in-Err-clause-refused
 returns-in-Err-clause-refused g c =
     let e = c.in-Err.ensures in
     let so =
-        ends_refused c.loop-count.count c.args.store.now c.loop-count.store c.compact_step.new.self c.in-Err.refusal c.loop-count.invariant e.refused
-        (record { told = e.told; kept = e.kept; reads = e.reads; writes = e.writes; each_table = e.tables }) e.halted e.same e.halts e.size e.count e.book e.listed in
+    ends_refused c.loop-count.count c.args.store.now c.loop-count.store c.compact_step.new.self c.in-Err.refusal c.loop-count.invariant e.refused
+    (record { told = e.told; kept = e.kept; reads = e.reads; writes = e.writes; each_table = e.tables }) e.halted e.same e.halts e.size e.count e.book e.listed in
     (so.0, limited c.args.limit so.0 (Err c.in-Err.refusal) c.args.store.now c.compact_step.new.self (below_limit so.1 c.loop-count-test.true c.unwrap_or-most.ensures) so.2)
 
 pub returns-clause-done : goal.returns-clause-done
