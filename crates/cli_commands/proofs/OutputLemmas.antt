@@ -1,6 +1,6 @@
 -- What is printed before an output fails.
 use Rattle.std.specs.Prelude.{Option, Some, None, option_map, unwrap_or, Result, Ok, Err, IfErr, OnErr}
-use Rattle.std.proofs.Common.{◌≡◌, ◌∙◌, ℕ, List, refl, ap, sym, subst}
+use Rattle.std.proofs.Common.{◌≡◌, ◌∙◌, ◌++◌, ℕ, List, [], append-nil, append_assoc, refl, ap, sym, subst}
 use Rattle.arrow_schema.specs.Column.{PlainSchema}
 use Rattle.catalogue.specs.Entries.{PlainEntry}
 use Rattle.query.specs.declared.errors.QueryError.{QueryError}
@@ -36,3 +36,8 @@ schema_front None s text old new is lines front = absurd cc
 schema_front (Some e) s text old new is lines front =
     let schema : e.schema ≡ s = ap (λ o. unwrap_or o s) is in
     (e, refl, subst (AppendsFront old new) (lines ∙ ap (λ (t : PlainSchema). schema_text t.columns) (sym schema)) front)
+
+-- five texts more, appended at once
+pub five_more : (text new lines a b c d e : List ℕ) → text ++ [] ≡ lines → new ≡ text ++ (a ++ (b ++ (c ++ (d ++ e)))) → new ≡ lines ++ a ++ b ++ c ++ d ++ e
+five_more text new lines a b c d e all more =
+    more ∙ ap (λ (t : List ℕ). t ++ (a ++ (b ++ (c ++ (d ++ e))))) (sym (append-nil text) ∙ all) ∙ simp append_assoc

@@ -1,13 +1,9 @@
-use Rattle.std.proofs.Common.{◌≡◌, ◌++◌, ◌∙◌, List, [], ℕ, Bor, drop, length, string_bytes, append-nil, append_assoc, sym, ap, arith}
+use Rattle.std.proofs.Common.{◌≡◌, List, [], ℕ, Bor, drop, string_bytes, length, ap, arith}
 use Rattle.std.specs.Prelude.{codes, flat_map}
 use Rattle.std.proofs.lemmas.List.{drop_all, length-map}
 use Rattle.cli_commands.specs.Printed.{summary_numbers, number_line, truth, kind_name}
+use Rattle.cli_commands.proofs.OutputLemmas.{five_more}
 use Rattle.cli_commands.proofs.summing.lines_of.Goals as goal
-
--- five texts more, appended at once
-five_more : (text new lines a b c d e : List ℕ) → text ++ [] ≡ lines → new ≡ text ++ (a ++ (b ++ (c ++ (d ++ e)))) → new ≡ lines ++ a ++ b ++ c ++ d ++ e
-five_more text new lines a b c d e all more =
-    more ∙ ap (λ (t : List ℕ). t ++ (a ++ (b ++ (c ++ (d ++ e))))) (sym (append-nil text) ∙ all) ∙ simp append_assoc
 
 pub returns : goal.returns
 returns c =
