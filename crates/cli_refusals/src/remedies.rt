@@ -81,7 +81,7 @@ pub const WHOLE_FILE: &str =
     "Give the whole file of a store. If it is the new file of a `copy` that was interrupted, copy again, to another path.";
 
 pub const UNFINISHED_COPY: &str =
-    "If this is the new file of a `copy` that was interrupted, it lacks tables: copy the old store again, to another path. If it was a store before, a byte was appended to it.";
+    "If this is the new file of a `copy` that was interrupted, copy the old store again, to another path. If it was a store, a byte was appended to it.";
 
 pub const LENGTH_OF_THE_STORE: &str =
     "Use an earlier copy of the file. Or give a copy of it the length of its store, as by `truncate -s`, and run `check` on that.";
@@ -147,7 +147,7 @@ pub const GIVE_A_VALUE: &str =
     "Give a value where the field allows no null, and only a null where its type is null. Then append the whole text again.";
 
 pub const ROW_ON_A_LINE: &str =
-    "Fix the line. If rows are over several lines, `jq -c .` makes a line of each, and `jq -c '.[]'` of one array; jq 1.6 rounds integers from 2^53 on. Then append the whole text again.";
+    "Fix the line. `jq -c .` makes a line of each row, `jq -c '.[]'` of an array; jq 1.6 rounds integers from 2^53 on. Then append the whole text again.";
 
 pub const ESCAPE_CONTROLS: &str =
     "Fix the line, which has a control character: within a string write a tab as `\\t`, and others as in `\\u001b`. Then append the whole text again.";
