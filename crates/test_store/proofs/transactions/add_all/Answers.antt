@@ -1,6 +1,6 @@
 use Rattle.std.specs.Vec.Iter.{into_iter_items}
-use Rattle.std.proofs.Common.{◌≡◌, ◌++◌, ◌∷◌, [], ◌∙◌, List, length, sym, ap, arith, append_assoc, length_push}
-use Rattle.std.proofs.lemmas.List.{length-append}
+use Rattle.std.proofs.Common.{◌++◌, ◌∷◌, [], ◌∙◌, List, length, sym, ap, arith, append_assoc}
+use Rattle.std.proofs.lemmas.List.{length-append, length_push}
 use Rattle.tables.specs.declared.command.Command.{Command}
 use Rattle.tables.specs.View.{command_of}
 use Rattle.test_store.proofs.transactions.add_all.Goals as goal
