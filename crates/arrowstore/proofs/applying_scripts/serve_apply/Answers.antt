@@ -20,7 +20,7 @@ returns-in_err-commands-clause-applies g c =
     let p = err_from_is_err_and c.from_residual-in_err-commands.result c.from_residual-in_err-commands.ensures.1 in
     let kept : c.args.output.now ≡ c.args.output.now = refl in
     rw (p.1, p.2) (record {
-      applies = inr (c.in_ok-script.script.items, c.in_ok-script.ensures.read, inl (inl (rw c.deref.ensures.value at c.in_err-commands.ensures.told), kept));
+      applies = inr (c.in_ok-script.script.items, c.in_ok-script.ensures.read, inl (inl (rw c.deref-2.ensures.value at c.in_err-commands.ensures.told), kept));
       unread = c.in_ok-script.ensures.unread;
     })
 
@@ -32,7 +32,7 @@ returns-in_err-_places-clause-applies g c =
       applies = inr (
         c.in_ok-script.script.items,
         c.in_ok-script.ensures.read,
-        inl (inr (c.in_ok-commands.commands.items, rw c.deref.ensures.value at c.in_ok-commands.ensures.commands, inl (of_file c.in_err-_places.field-0.0)), kept),
+        inl (inr (c.in_ok-commands.commands.items, rw c.deref-2.ensures.value at c.in_ok-commands.ensures.commands, inl (of_file c.in_err-_places.field-0.0)), kept),
       );
       unread = c.in_ok-script.ensures.unread;
     })
@@ -45,7 +45,7 @@ returns-in_err-store-clause-applies g c =
       applies = inr (
         c.in_ok-script.script.items,
         c.in_ok-script.ensures.read,
-        inl (inr (c.in_ok-commands.commands.items, rw c.deref.ensures.value at c.in_ok-commands.ensures.commands, c.in_err-store.ensures.refused), kept),
+        inl (inr (c.in_ok-commands.commands.items, rw c.deref-2.ensures.value at c.in_ok-commands.ensures.commands, c.in_err-store.ensures.refused), kept),
       );
       unread = c.in_ok-script.ensures.unread;
     })
@@ -57,7 +57,7 @@ returns-clause-applies g c = record {
     c.in_ok-script.ensures.read,
     inr (record {
       commands = c.in_ok-commands.commands.items;
-      of_script = rw c.deref.ensures.value at c.in_ok-commands.ensures.commands;
+      of_script = rw c.deref-2.ensures.value at c.in_ok-commands.ensures.commands;
       old = c.in_ok-store.store;
       opens = c.in_ok-store.ensures.opened;
       new = c.apply_listed.new.store;
