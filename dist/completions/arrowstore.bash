@@ -22,6 +22,7 @@ _arrowstore() {
     'query --limit') return ;;
     'query --save') return ;;
     'query --dates') COMPREPLY=($(compgen -W 'number iso' -- "$word")); return ;;
+    'compact --steps') return ;;
     'replay --sectors') return ;;
     'replay --fail') return ;;
     'replay --stop') return ;;
@@ -43,7 +44,7 @@ _arrowstore() {
     check) flags='--wait -h --help' ;;
     salvage) flags='--wait -h --help' ;;
     info) flags='--wait --json -h --help' ;;
-    compact) flags='--wait -h --help' ;;
+    compact) flags='--wait --steps -h --help' ;;
     upgrade) flags='--wait -h --help' ;;
     copy) flags='--wait -h --help' ;;
     replay) flags='--sectors --fail --stop --choice --format-version -h --help' ;;

@@ -82,6 +82,7 @@ complete -c arrowstore -n '__fish_seen_subcommand_from info' -l json -d 'Prints 
 complete -c arrowstore -n '__fish_seen_subcommand_from info' -s h -l help -d 'Print help'
 complete -c arrowstore -n '__fish_seen_subcommand_from compact; and test (count (commandline -opc)) -eq 2' -F
 complete -c arrowstore -n '__fish_seen_subcommand_from compact' -l wait -d 'Waits for other commands on the store, instead of being refused'
+complete -c arrowstore -n '__fish_seen_subcommand_from compact' -l steps -x -d 'The maximum number of steps; without it there are steps until nothing is left to do'
 complete -c arrowstore -n '__fish_seen_subcommand_from compact' -s h -l help -d 'Print help'
 complete -c arrowstore -n '__fish_seen_subcommand_from upgrade; and test (count (commandline -opc)) -eq 2' -F
 complete -c arrowstore -n '__fish_seen_subcommand_from upgrade' -l wait -d 'Waits for other commands on the store, instead of being refused'
