@@ -199,7 +199,7 @@ def has_control(facts):
 TO_DO = {
     "X2": [("Give an item for each column", is_line), ("Fix the record", lambda facts: True)],
     "X4": [("Give an integer. An empty field", is_empty_number), ("Write digits, within 64 bits.", lambda facts: True)],
-    "X10": [("Fix the line, which has a control character", has_control), ("Fix the line. If", lambda facts: True)],
+    "X10": [("Fix the line, which has a control character", has_control), ("Fix the line. `jq", lambda facts: True)],
     "X15": [("Give shorter texts", is_line), ("Fix the record", lambda facts: True)],
     "C1": [("Use a later version", lambda facts: facts.version is not None), ("Give the file of a store.", lambda facts: True)],
     "C3": [("Give 16 to 4194304 sectors.", lambda facts: facts.sectors is not None),
