@@ -13,6 +13,7 @@ pub mod Reading
 pub mod Input
 pub mod Exporting
 pub mod Salvaging
+pub mod SegmentStreams
 pub mod Selecting
 pub mod Places
 pub mod Answering
