@@ -30,3 +30,5 @@ mod Fitted
 mod KeptRuns
 mod Salvaged
 mod Heavy
+mod Streamed
+mod Sent
