@@ -31,4 +31,3 @@ mod KeptRuns
 mod Salvaged
 mod Heavy
 mod Streamed
-mod Sent

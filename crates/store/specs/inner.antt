@@ -3,4 +3,3 @@ pub mod Selecting
 pub mod Salvaging
 pub mod Taking
 pub mod Drafting
-pub mod Sending
