@@ -212,8 +212,7 @@ fn infos_of(alloc: Global, segments: &[Segment]) -> Result<Vec<SegmentInfo>, Ref
 pub fn streams_have_their_rows()
     ensures { (image : Image) (s : PlainSchema) (segments : List segments.Segment) (streams : List (List ℕ)) (rows : List (List Cell))
         → HaveStreams image s segments streams rows → rows_held s segments image ≡ Some rows }
-{
-}
+{}
 
 impl<D: SectorDevice> Store<D> {
     ghost use Rattle.std.specs.Prelude.{MatchResult};
