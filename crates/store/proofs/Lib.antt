@@ -31,3 +31,4 @@ mod Fitted
 mod KeptRuns
 mod Salvaged
 mod Heavy
+mod Streamed

@@ -1,5 +1,5 @@
 -- The streams of single segments, byte for byte.
-use Rattle.std.specs.Prelude.{◌≡◌, ℕ, Bool, true, false, List, Option, Some, None, slice_get}
+use Rattle.std.specs.Prelude.{◌≡◌, ◌++◌, ℕ, Bool, true, false, List, [], ◌∷◌, Option, Some, None, slice_get}
 use Rattle.sha2.specs.Sha256.{sha256}
 use Rattle.sector_dev.specs.Disk.{Image}
 use Rattle.arrow_schema.specs.Column.{PlainSchema}
@@ -24,25 +24,24 @@ pub record HasStream (tells : Bool) (image : Image) (schema : PlainSchema) (g : 
   pub rows : List (List Cell)
   pub means : rows_in_bytes schema g.rows (Some stream) ≡ Some rows
 
--- the stream of the segment at a place of an entry, or none past the last one
-abbrev pub IsStreamAt : (tells : Bool) → Image → PlainSchema → Option Segment → Option SegmentStream → Type 0
-IsStreamAt tells image schema None None = Unit {0}
-IsStreamAt tells image schema (Some g) (Some stream) = HasStream tells image schema g stream.digest stream.bytes.items
-IsStreamAt tells image schema _ _ = ⊥
+-- the stream of the segment at a place of an entry, if it has one there
+abbrev pub IsStreamAt : (tells : Bool) → Image → PlainSchema → Option Segment → SegmentStream → Type 0
+IsStreamAt tells image schema None stream = ⊥
+IsStreamAt tells image schema (Some g) stream = HasStream tells image schema g stream.digest stream.bytes.items
 
-abbrev pub EntryHasStream : (tells : Bool) → Image → PlainEntry → (place : ℕ) → Option SegmentStream → Type 0
-EntryHasStream tells image e place found = IsStreamAt tells image e.schema (slice_get e.segments place) found
+abbrev pub EntryHasStream : (tells : Bool) → Image → PlainEntry → (place : ℕ) → SegmentStream → Type 0
+EntryHasStream tells image e place stream = IsStreamAt tells image e.schema (slice_get e.segments place) stream
 
 -- why it is not returned
 abbrev pub RefusesAt : (tells : Bool) → Image → PlainSchema → Option Segment → (place : ℕ) → Refusal → Type 0
-RefusesAt tells image schema None place r = ⊥
+RefusesAt tells image schema None place r = r ≡ refusals.SegmentUnread place
 RefusesAt tells image schema (Some g) place r = LacksRows tells image schema g place r
 
 abbrev pub RefusesPlace : (tells : Bool) → Image → PlainEntry → (place : ℕ) → Refusal → Type 0
 RefusesPlace tells image e place r = RefusesAt tells image e.schema (slice_get e.segments place) place r
 
 -- the same for the table of a name, with this entry if there is one
-abbrev pub StreamsAt : (halted tells : Bool) → Image → Option PlainEntry → (place : ℕ) → Option SegmentStream → Type 0
+abbrev pub StreamsAt : (halted tells : Bool) → Image → Option PlainEntry → (place : ℕ) → SegmentStream → Type 0
 StreamsAt true tells image found place stream = ⊥
 StreamsAt false tells image None place stream = ⊥
 StreamsAt false tells image (Some e) place stream = EntryHasStream tells image e place stream
@@ -51,3 +50,11 @@ abbrev pub RefusesStream : (halted tells : Bool) → Image → Option PlainEntry
 RefusesStream true tells image found place r = r ≡ refusals.Halted
 RefusesStream false tells image None place r = r ≡ refusals.NoTable
 RefusesStream false tells image (Some e) place r = RefusesPlace tells image e place r
+
+-- the streams of segments, one after another, and the rows that they mean
+abbrev pub HaveStreams : Image → PlainSchema → List Segment → (streams : List (List ℕ)) → (rows : List (List Cell)) → Type 0
+HaveStreams image schema [] [] rows = rows ≡ []
+HaveStreams image schema (g ∷ gs) (stream ∷ streams) rows =
+    (digest : List ℕ) × (has : HasStream true image schema g digest stream) × (others : List (List Cell)) × HaveStreams image schema gs streams others
+    × (rows ≡ has.rows ++ others)
+HaveStreams image schema _ _ rows = ⊥

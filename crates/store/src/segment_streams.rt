@@ -1,17 +1,20 @@
 // The segments of a table, and the stream of one of them, byte for byte.
-ghost use Rattle.std.specs.Prelude.{◌≡◌, ℕ, List, Bool, true, Some, is_some, map, option_map, IfOk, IfErr, IfSome};
+ghost use Rattle.std.specs.Prelude.{◌≡◌, ℕ, List, Bool, true, false, Some, is_some, map, option_map, IfOk, IfErr, IfSome};
 ghost use Rattle.sha2.specs.Sha256.{sha256};
 ghost use Rattle.sector_dev.specs.Disk.{Image, now, shown_image};
 ghost use Rattle.arrow_schema.specs.Column.{PlainSchema};
 ghost use Rattle.arrow_schema.specs.Limits.{IsWithinLimits};
 ghost use Rattle.arrow_schema.specs.View.{schema_of};
+ghost use Rattle.cells.specs.Cell.{Cell};
 ghost use Rattle.ipc_write.specs.Written.{schema_message};
+ghost use Rattle.catalogue.specs.declared.entry.Segment as segments;
 ghost use Rattle.catalogue.specs.Entries.{is_segment, is_entry, plain_entry, runs_in_segments};
 ghost use Rattle.commit.specs.Standing.{is_size, is_on_device, all_on_device};
 ghost use Rattle.store_changes.specs.Ahead.{HasBytes};
-ghost use Rattle.store_runs.specs.Held.{is_undamaged, rows_in_bytes};
+ghost use Rattle.store_runs.specs.Calls.{is_failure};
+ghost use Rattle.store_runs.specs.Held.{is_undamaged, rows_in_bytes, rows_held};
 ghost use Rattle.store_runs.specs.Reading.{IsCopy, LacksBytes, LacksRows, OnlyReadsDevice, ended};
-ghost use Rattle.store.specs.SegmentStreams.{info_of, HasStream, EntryHasStream, RefusesPlace};
+ghost use Rattle.store.specs.SegmentStreams.{info_of, HasStream, HaveStreams, EntryHasStream, RefusesPlace};
 
 use crate::Store;
 use crate::reading::halts;
@@ -95,6 +98,17 @@ fn read_untested<D: SectorDevice>(
     }
 }
 
+fn copy_of(alloc: Global, bytes: &[u8]) -> Result<Vec<u8>, Refusal>
+    ensures copy { IfOk result (λ copy. copy.items ≡ bytes.now) }
+    ensures memory { IfErr result (λ e. e ≡ Refusal.OutOfMemory) }
+{
+    let mut copy = Vec::new(alloc);
+    match copy.extend_from_slice(bytes) {
+        Ok(()) => Ok(copy),
+        Err(_) => Err(Refusal::OutOfMemory),
+    }
+}
+
 // Returns the bytes of the segment at this place with their digest, if they are a stream of its rows.
 fn tested(
     alloc: Global,
@@ -105,6 +119,8 @@ fn tested(
 ) -> Result<SegmentStream, Refusal>
     ensures stream { IfOk result (λ stream. (tells : Bool) (image : Image) (s : PlainSchema) → front.now ≡ schema_message s
         → HasBytes tells image segment bytes.items → HasStream tells image s segment stream.digest stream.bytes.items) }
+    // Of these bytes alone: no device has failed.
+    ensures quiet { IfErr result (λ e. is_failure e ≡ false) }
     ensures told { IfErr result (λ e. (tells : Bool) (image : Image) (s : PlainSchema) → front.now ≡ schema_message s
         → HasBytes tells image segment bytes.items → LacksRows tells image s segment place e) }
 {
@@ -112,9 +128,7 @@ fn tested(
     if !has_digest(segment, &digest) {
         return Err(Refusal::SegmentDamaged(place));
     }
-    let Ok(copy) = bytes.clone() else {
-        return Err(Refusal::OutOfMemory);
-    };
+    let copy = copy_of(alloc, &bytes)?;
     match has_rows(alloc, front, segment.rows, copy) {
         Ok(true) => Ok(SegmentStream { digest, bytes }),
         Ok(false) => Err(Refusal::SegmentUnread(place)),
@@ -145,13 +159,13 @@ fn read_stream<D: SectorDevice>(
     }
 }
 
-// Reads the stream of the segment at this place of an entry, or `None` past the last one.
+// Reads the stream of the segment at this place of an entry.
 fn stream_in_entry<D: SectorDevice>(
     alloc: Global,
     device: &mut D,
     entry: &TableEntry,
     place: usize,
-) -> Result<Option<SegmentStream>, Refusal>
+) -> Result<SegmentStream, Refusal>
     requires size { is_size (D.size device.old) ≡ true }
     requires placed { all_on_device (D.size device.old) (runs_in_segments (plain_entry entry.now).segments) ≡ true }
     requires sound { is_entry (plain_entry entry.now) ≡ true }
@@ -160,15 +174,12 @@ fn stream_in_entry<D: SectorDevice>(
     ensures told { IfErr result (RefusesPlace D.tells (shown_image (now (D.story device.old))) (plain_entry entry.now) place) }
 {
     let Some(segment) = entry.segments().get(place) else {
-        return Ok(None);
+        return Err(Refusal::SegmentUnread(place));
     };
     let Ok(front) = encode_schema(alloc, entry.schema()) else {
         return Err(Refusal::OutOfMemory);
     };
-    match read_stream(alloc, device, &front, place, *segment) {
-        Ok(stream) => Ok(Some(stream)),
-        Err(refusal) => Err(refusal),
-    }
+    read_stream(alloc, device, &front, place, *segment)
 }
 
 fn info_of(segment: Segment) -> SegmentInfo
@@ -197,8 +208,14 @@ fn infos_of(alloc: Global, segments: &[Segment]) -> Result<Vec<SegmentInfo>, Ref
     Ok(infos)
 }
 
+/// The streams of the segments of a table, one after another, have its rows: those that an image holds.
+pub fn streams_have_their_rows()
+    ensures { (image : Image) (s : PlainSchema) (segments : List segments.Segment) (streams : List (List ℕ)) (rows : List (List Cell))
+        → HaveStreams image s segments streams rows → rows_held s segments image ≡ Some rows }
+{}
+
 impl<D: SectorDevice> Store<D> {
-    ghost use Rattle.std.specs.Prelude.{false, MatchResult};
+    ghost use Rattle.std.specs.Prelude.{MatchResult};
     ghost use Rattle.catalogue.specs.Edits.{entry_of};
     ghost use Rattle.store.specs.Fits.{device_of, listed_in, is_halted};
     ghost use Rattle.store.specs.Listing.{RefusesSchema};
@@ -224,19 +241,19 @@ impl<D: SectorDevice> Store<D> {
         }
     }
 
-    /// Returns the bytes of the segment at this place of the table with this name, or `None` past the last one. They are a whole stream of its rows: the
-    /// streams of all segments, one after another, have the rows of the table. Only reads.
+    /// Returns the bytes of the segment at this place of the table with this name, counted from 0. They are a whole stream of its rows: the streams of all
+    /// segments, one after another, have the rows of the table. Only reads.
     ///
     /// # Errors
-    /// `Halted` after a failure of the device; `NoTable` if no table has the name; `SegmentUnread` if the segment can't be read, or is not a stream of the
-    /// table's schema and of its number of rows, and `SegmentDamaged` if its bytes have another digest than the one in the catalogue; `Device`, after which
+    /// `Halted` after a failure of the device; `NoTable` if no table has the name; `SegmentUnread` if the table has no such segment, or it can't be read, or
+    /// is not a stream of the table's schema and of its number of rows, and `SegmentDamaged` if its bytes have another digest than the one in the catalogue; `Device`, after which
     /// the store is halted; `OutOfMemory`.
     pub fn segment_stream(
         &mut self,
         alloc: Global,
         name: &str,
         place: usize,
-    ) -> Result<Option<SegmentStream>, Refusal>
+    ) -> Result<SegmentStream, Refusal>
         ensures found { IfOk result (StreamsAt (is_halted self.old) D.tells (shown_image (now (D.story (device_of self.old))))
             (entry_of (listed_in self.old) name.now) place) }
         ensures told { IfErr result (RefusesStream (is_halted self.old) D.tells (shown_image (now (D.story (device_of self.old))))

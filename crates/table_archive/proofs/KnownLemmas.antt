@@ -3,7 +3,7 @@ use Rattle.std.proofs.Common.{◌≡◌, ◌∙◌, ◌++◌, ◌||◌, ℕ, Boo
 use Rattle.std.specs.Prelude.{if◌then◌else◌}
 use Rattle.std.specs.List.{list_any}
 use Rattle.std.specs.Str.{bytes_eq}
-use Rattle.std.proofs.Math.Bool.{or-true, or-false}
+use Rattle.std.proofs.Math.Bool.{or-true}
 use Rattle.std.proofs.lemmas.Bool.{cases_Bool, cond-true, cond-false}
 use Rattle.std.proofs.lemmas.List.Folds.{list_any-append}
 use Rattle.std.proofs.lemmas.Slice.Eq.{bytes_eq-Decides}
@@ -35,3 +35,16 @@ with_one keys d q =
 pub known_more : (keys new had : List (List ℕ)) (d : List ℕ) → new ≡ (if list_any (bytes_eq d) keys then keys else keys ++ d ∷ [])
     → ((q : List ℕ) → list_any (bytes_eq q) keys ≡ list_any (bytes_eq q) had) → (q : List ℕ) → list_any (bytes_eq q) new ≡ (bytes_eq q d || list_any (bytes_eq q) had)
 known_more keys new had d is knows q = ap (list_any (bytes_eq q)) is ∙ with_one keys d q ∙ ap (λ (b : Bool). bytes_eq q d || b) (knows q)
+
+-- one that is there is not added
+pub known_still : (keys new had : List (List ℕ)) (d : List ℕ) → new ≡ (if list_any (bytes_eq d) keys then keys else keys ++ d ∷ []) → list_any (bytes_eq d) keys ≡ true
+    → ((q : List ℕ) → list_any (bytes_eq q) keys ≡ list_any (bytes_eq q) had) → (q : List ℕ) → list_any (bytes_eq q) new ≡ list_any (bytes_eq q) had
+known_still keys new had d is there knows q = ap (list_any (bytes_eq q)) (is ∙ cond-true _ keys (keys ++ d ∷ []) there) ∙ knows q
+
+-- one more at the end of a list
+at_end : (had : List (List ℕ)) (d q : List ℕ) → list_any (bytes_eq q) (had ++ d ∷ []) ≡ (bytes_eq q d || list_any (bytes_eq q) had)
+at_end had d q = list_any-append (bytes_eq q) had (d ∷ []) ∙ swapped (list_any (bytes_eq q) had) (bytes_eq q d)
+
+pub known_next : (keys front more : List (List ℕ)) (d : List ℕ) → more ≡ front ++ d ∷ [] → ((q : List ℕ) → list_any (bytes_eq q) keys ≡ (bytes_eq q d || list_any (bytes_eq q) front))
+    → (q : List ℕ) → list_any (bytes_eq q) keys ≡ list_any (bytes_eq q) more
+known_next keys front more d is knows q = knows q ∙ sym (ap (list_any (bytes_eq q)) is ∙ at_end front d q)
