@@ -41,7 +41,8 @@ impl MadeFile {
         }
     }
 
-    /// Returns whether an open file is a regular one, and another than this.
+    /// Returns whether an open file is a regular one, and another than the one that was made. Of one that the system does not describe that is
+    /// assumed.
     pub(crate) fn is_other<F: OpenFile>(made: Option<MadeFile>, file: &F) -> bool {
         match file.metadata() {
             Ok(found) => found.is_file() && MadeFile::of(&found) != made,
