@@ -40,7 +40,8 @@ IsOfLine c (Text name form text) command =
     (rows : List (List Cell)) × TextHasRows form (entry_of c name.now) text.items rows × (command ≡ append_rows name.now rows)
 
 -- the command at this place is that of the line there, on the catalogue to which the commands before it lead
-pub record IsListedAt (tells : Bool) (image : Image) (c : PlainCatalogue) (lines : List ListedCommand) (commands : List PlainCommand) (place : ℕ) : Type 0 where
+pub record IsListedAt (tells : Bool) (image : Image) (c : PlainCatalogue) (lines : List ListedCommand) (commands : List PlainCommand)
+    (place : ℕ) : Type 0 where
   pub line : ListedCommand
   pub at : slice_get lines place ≡ Some line
   pub command : PlainCommand
@@ -97,7 +98,8 @@ HandsLines tells image c lines unwritten P before result = IsErrAnd result befor
 -- a text is refused so, for the schema that its table has in this catalogue
 abbrev pub TextIsRefused : PlainCatalogue → ListedCommand → Refused → Type 0
 TextIsRefused c (Known known) refused = ⊥
-TextIsRefused c (Text name form text) refused = (entry : PlainEntry) × (entry_of c name.now ≡ Some entry) × (rows_of_text form entry.schema text.items ≡ Err refused)
+TextIsRefused c (Text name form text) refused =
+    (entry : PlainEntry) × (entry_of c name.now ≡ Some entry) × (rows_of_text form entry.schema text.items ≡ Err refused)
 
 -- the text of the line at this place is refused, for the schema that its table has in the catalogue to which the commands of the lines before it lead
 pub record RefusesTextAt (tells : Bool) (image : Image) (c : PlainCatalogue) (lines : List ListedCommand) (place : ℕ) (refused : Refused) : Type 0 where

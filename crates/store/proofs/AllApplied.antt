@@ -19,10 +19,9 @@ use Rattle.tables.specs.View.{command_of}
 use Rattle.store.specs.declared.store.Store.{Store}
 use Rattle.store_runs.specs.Machine.{Machine, tables_now}
 use Rattle.store_runs.specs.Steps.{IsNoList, RefusesLine}
-use Rattle.store_runs.specs.Calls.{apply_call, PlainReply, done, refused, refused_at, is_failure, is_device_reply, counted}
+use Rattle.store_runs.specs.Calls.{apply_call, PlainReply, done, refused, refused_at, is_failure, is_device_reply}
 use Rattle.store_runs.specs.Changes.{PlainChange}
 use Rattle.store_runs.specs.Deciding.{reads_device, IsDecided, IsAnswered}
-use Rattle.store_runs.specs.Reading.{OnlyReadsDevice, ended}
 use Rattle.store_changes.specs.Verdicts.{IsRefusedAt}
 use Rattle.store_changes.specs.laws.Leading.{refusal_answered}
 use Rattle.store.specs.declared.applying_all.ListRefusal.{ListRefusal}

@@ -1,7 +1,7 @@
 -- Commands that are accepted one by one: one more, how they are refused, and what they are together.
-use Rattle.std.specs.Prelude.{◌≢◌, ◌⊎◌, ◌||◌, IfErr}
+use Rattle.std.specs.Prelude.{◌≢◌, ◌⊎◌, ◌||◌}
 use Rattle.std.specs.List.{AllByRecursion}
-use Rattle.std.proofs.Common.{◌≡◌, ◌++◌, ◌∙◌, ℕ, Bool, true, false, List, [], ◌∷◌, length, Some, Ok, Err, inl, inr, refl, sym, ap, subst}
+use Rattle.std.proofs.Common.{◌≡◌, ◌++◌, ◌∙◌, ℕ, Bool, true, false, List, [], ◌∷◌, length, Some, Ok, Err, inl, refl, sym, ap, subst}
 use Rattle.facts.specs.laws.Lists.{all_more}
 use Rattle.sector_dev.specs.Disk.{Disk, Story, Image, now, shown_image}
 use Rattle.sector_dev.specs.laws.Time.{stays}
@@ -13,16 +13,15 @@ use Rattle.catalogue.specs.laws.Kept.{catalogue_is}
 use Rattle.commit.specs.Standing.{all_on_device}
 use Rattle.tables.specs.declared.refusal.Refusal.{Refusal}
 use Rattle.tables.specs.declared.refusal.Refusal.TheVariants as refusals
-use Rattle.tables.specs.Commands.{PlainCommand, PlainCommands, all_of, commands_of, BringsTables, EachBringsTables}
+use Rattle.tables.specs.Commands.{PlainCommand, all_of, commands_of, BringsTables, EachBringsTables}
 use Rattle.tables.specs.Refusals.{origin_of}
 use Rattle.tables.specs.Tables.{Tables}
 use Rattle.store_runs.specs.Calls.{PlainReply, done, refused, is_device_reply}
 use Rattle.store_runs.specs.Changes.{PlainChange}
-use Rattle.store_runs.specs.Deciding.{reads_device, any_reads_device, IsWhole, IsDecided}
+use Rattle.store_runs.specs.Deciding.{reads_device, IsWhole, IsDecided}
 use Rattle.store_runs.specs.Held.{tables_held}
 use Rattle.store_runs.specs.Machine.{tables_now}
 use Rattle.store_runs.specs.Steps.{IsNoList, RefusesLine}
-use Rattle.store_changes.specs.declared.drafting.Draft.{Draft}
 use Rattle.store_changes.specs.Draft.{laid, streams_of, IsDraft}
 use Rattle.store_changes.specs.Verdicts.{EndsAtLine, IsRefusedAt}
 use Rattle.store_changes.specs.laws.Leading.{leads_on, leads_to_change, refusal_answered}

@@ -167,8 +167,8 @@ impl<D: SectorDevice> Store<D> {
     /// changes are safe: no later stop undoes any of them.
     ///
     /// # Errors
-    /// `TooMany(Epochs)`, `NoRoom`, `Device`; `OutOfMemory` at any time. After `Device` the store is halted, and only opening the device again shows whether the
-    /// commands were applied. After any other error nothing has changed.
+    /// `TooMany(Epochs)`, `NoRoom`, `Device`; `OutOfMemory` at any time. After `Device` the store is halted, and only opening the device again shows whether
+    /// the commands were applied. After any other error nothing has changed.
     pub fn commit(&mut self, alloc: Global, transaction: Transaction) -> Result<(), Refusal>
         requires { IsBegun D.size D.story D.failed D.tells self.old transaction }
         // All of this is said of the store that the transaction was begun on, and of the commands that were accepted: it is what `apply_all` does with them.

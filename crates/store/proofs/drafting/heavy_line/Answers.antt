@@ -1,6 +1,5 @@
-use Rattle.std.proofs.Common.{rules, ◌≡◌, Some, None, refl, sym, ap, ◌∙◌, map, subst}
+use Rattle.std.proofs.Common.{rules, refl, sym, map, subst}
 use Rattle.sector_dev.specs.Disk.{now, shown_image}
-use Rattle.catalogue.specs.Edits.{entry_of}
 use Rattle.catalogue.specs.Entries.{is_entry, plain_entry}
 use Rattle.catalogue.specs.View.{catalogue_of}
 use Rattle.catalogue.specs.laws.Changed.{found_passes}

@@ -1,4 +1,4 @@
-use Rattle.std.proofs.Common.{◌≡◌, ◌∙◌, Bool, refl, sym, ap, subst}
+use Rattle.std.proofs.Common.{◌∙◌, Bool, refl, sym, ap}
 use Rattle.std.specs.Prelude.{◌||◌}
 use Rattle.segments.specs.laws.Usages.{or_false}
 use Rattle.tables.specs.View.{command_of}

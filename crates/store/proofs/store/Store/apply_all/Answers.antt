@@ -20,8 +20,7 @@ use Rattle.store.specs.declared.applying_all.ListRefusal.{ListRefusal}
 use Rattle.store.specs.Answering.{Applies}
 use Rattle.store.specs.Applying.{GoesOn}
 use Rattle.store.specs.Fits.{setting_of, listed_in}
-use Rattle.store.specs.Lists.{refusal_at, ended_by, refusal_of, ended_list, NamesLine}
-use Rattle.store.specs.Reading.{OnlyReadsStore}
+use Rattle.store.specs.Lists.{refusal_at, ended_by, refusal_of, NamesLine}
 use Rattle.store.specs.Transactions.{Drafts}
 use Rattle.store.proofs.AllApplied.{reads_alike, applies_first, names_line, whole_line, single_commands, goes_refused}
 use Rattle.store.proofs.Asked.{is_running}

@@ -1,7 +1,6 @@
-use Rattle.std.proofs.Common.{◌≡◌, ℕ, List, refl, sym, ap, ◌∙◌, subst}
+use Rattle.std.proofs.Common.{ℕ, List, refl, sym, ap, ◌∙◌, subst}
 use Rattle.sector_dev.specs.Disk.{now, shown_image}
 use Rattle.catalogue.specs.Entries.{runs_of}
-use Rattle.catalogue.specs.View.{catalogue_of}
 use Rattle.store_runs.specs.Calls.{done}
 use Rattle.store_runs.specs.Deciding.{AreBefore}
 use Rattle.store_changes.specs.Draft.{laid, end_of}

@@ -10,7 +10,7 @@ use Rattle.tables.specs.declared.refusal.Refusal.{Refusal}
 use Rattle.tables.specs.declared.refusal.Refusal.TheVariants as refusals
 use Rattle.tables.specs.Commands.{all_of, commands_of}
 use Rattle.tables.specs.Verdict.{verdict}
-use Rattle.store_runs.specs.Calls.{done, refused, counted}
+use Rattle.store_runs.specs.Calls.{done, refused}
 use Rattle.store_runs.specs.Changes.{PlainChange, CanChange}
 use Rattle.store_runs.specs.Deciding.{IsDecided}
 use Rattle.store_runs.specs.Held.{tables_held}

@@ -1,5 +1,5 @@
 use Rattle.std.specs.Prelude.{◌||◌}
-use Rattle.std.proofs.Common.{◌≡◌, ◌∙◌, Bool, inl, refl, sym, ap}
+use Rattle.std.proofs.Common.{◌∙◌, Bool, inl, refl, sym, ap}
 use Rattle.std.proofs.lemmas.Bool.{true≢false}
 use Rattle.tables.specs.Commands.{append_rows}
 use Rattle.store_runs.specs.Calls.{is_device_reply, refused}

@@ -1,5 +1,5 @@
 use Rattle.std.specs.Prelude.{ℕ, Bool, false, List, Some, Ok, Err, IfErr, MatchResult, Result, option_map}
-use Rattle.std.proofs.Common.{◌≡◌, ◌≢◌, true, inl, inr, refl, sym, ap, ◌∙◌, subst}
+use Rattle.std.proofs.Common.{◌≡◌, ◌≢◌, inl, refl, sym, ◌∙◌, subst}
 use Rattle.std.proofs.lemmas.Bool.{true≢false}
 use Rattle.arrow_schema.specs.View.{schema_of}
 use Rattle.sector_dev.specs.Disk.{Image}
