@@ -3,7 +3,7 @@ use std::alloc::Global;
 use strsim::levenshtein;
 
 // Names of types in other systems, and what is held in their place.
-const OTHER_NAMES: [(&str, &str); 20] = [
+const OTHER_NAMES: [(&str, &str); 22] = [
     ("string", "utf8"),
     ("str", "utf8"),
     ("text", "utf8"),
@@ -13,6 +13,8 @@ const OTHER_NAMES: [(&str, &str); 20] = [
     ("long", "int64"),
     ("bigint", "int64"),
     ("uint", "uint64"),
+    ("int128", "int64"),
+    ("uint128", "uint64"),
     ("short", "int16"),
     ("smallint", "int16"),
     ("tinyint", "int8"),

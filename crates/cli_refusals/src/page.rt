@@ -496,7 +496,8 @@ another length. Use an earlier copy of the file. If there is none, try this on a
 named `copy`, and run `check` on that after it:
 
 - DeviceSize: give the copy its length again, 512 bytes for each sector that `format` was given, with
-  `truncate -s`. A terminal shows this length, also after G2 if the file begins as a store does. A file with
+  `truncate -s`. A terminal shows this length, also after G2 if the file begins as a store does. If `check`
+  answers `ok`, `copy` it: what `truncate` adds are holes, and a file with holes may lack room later. A file with
   one byte more may be the new file of a `copy` that was interrupted, which lacks tables: if so, copy again,
   to another path. If it was a store at this path before, something has appended a byte to it (`echo >> store`
   does): cut the byte off in the copy, and look whether all tables are there.

@@ -84,7 +84,7 @@ pub const UNFINISHED_COPY: &str =
     "If this is the new file of a `copy` that was interrupted, copy the old store again, to another path. If it was a store, a byte was appended to it.";
 
 pub const LENGTH_OF_THE_STORE: &str =
-    "Use an earlier copy of the file. Or give a copy of it the length of its store, as by `truncate -s`, and run `check` on that.";
+    "Use an earlier copy of the file. Or give a copy of it the length of its store, as by `truncate -s`, `check` that, and `copy` it, since it has holes.";
 
 pub const SIZE_OF_THE_DEVICE: &str =
     "Leave the number of sectors out, or give that of the device. If it does not have 16 to 4194304, make a partition or a volume of a size that fits.";
@@ -222,7 +222,7 @@ pub const NEW_STORE: &str = "Use `copy`: the new store counts from the beginning
 pub const CLOSE_AN_EXPORT: &str = "Close an export first.";
 
 pub const MORE_ROOM: &str =
-    "Drop tables, use `compact`, or `copy` the store: the copy has longer free runs. If that does not help, or a `copy` is refused, give it more sectors.";
+    "Drop tables, or `copy` the store: the copy has longer free runs. `compact` helps if one step of it has room. If neither does, `copy` with more sectors.";
 
 pub const LOOK_AGAIN: &str =
     "Check the disk, then run `check` as a user that may write the file: what it reads stays. `tables`, or `info` after a `compact`, then shows what is done.";
