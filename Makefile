@@ -38,10 +38,10 @@ dist:
 	@cat dist/manifest
 
 install: bin/arrowstore
-	@tools/install_program $(DESTDIR)$(PREFIX)
+	@tools/install_program '$(DESTDIR)$(PREFIX)'
 
 uninstall:
-	@tools/install_program --remove $(DESTDIR)$(PREFIX)
+	@tools/install_program --remove '$(DESTDIR)$(PREFIX)'
 
 $(TESTS): crates/%_tests: $(SOURCES)
 	@echo "Proving, building and running the tests of $(notdir $*)."
