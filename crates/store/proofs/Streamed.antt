@@ -1,6 +1,6 @@
 -- The stream of a single segment.
 use Rattle.std.specs.Prelude.{slice_get, is_some}
-use Rattle.std.proofs.Common.{◌≡◌, ◌∙◌, ℕ, Bool, true, false, true≢false, List, Option, Some, None, refl, sym, ap, subst}
+use Rattle.std.proofs.Common.{◌≡◌, ◌∙◌, ℕ, Bool, true, false, true≢false, List, [], ◌∷◌, Option, Some, None, refl, sym, ap, subst}
 use Rattle.std.specs.List.{list_all}
 use Rattle.std.proofs.lemmas.Option.{slice_get_within, get_or_from_slice_get}
 use Rattle.sha2.specs.Sha256.{sha256}
@@ -10,13 +10,14 @@ use Rattle.catalogue.specs.declared.entry.Segment.{Segment}
 use Rattle.catalogue.specs.Entries.{PlainEntry, is_segment}
 use Rattle.tables.specs.declared.refusal.Refusal.{Refusal}
 use Rattle.tables.specs.declared.refusal.Refusal.TheVariants as refusals
-use Rattle.store_runs.specs.Held.{is_undamaged, rows_in_bytes}
+use Rattle.cells.specs.Cell.{Cell}
+use Rattle.store_runs.specs.Held.{is_undamaged, rows_in_bytes, segment_rows, joined_rows, rows_held}
 use Rattle.store_runs.specs.Reading.{IsCopy, LacksRows}
 use Rattle.store_changes.specs.Ahead.{HasBytes}
 use Rattle.store_changes.specs.laws.Digests.{copy_rows, copy_undamaged}
 use Rattle.store_changes.specs.laws.ReadTables.{no_segment, sound_at}
 use Rattle.store.specs.declared.segment_streams.SegmentStream.{SegmentStream}
-use Rattle.store.specs.SegmentStreams.{HasStream, IsStreamAt, EntryHasStream, StreamsAt, RefusesAt, RefusesPlace, RefusesStream}
+use Rattle.store.specs.SegmentStreams.{HasStream, HaveStreams, IsStreamAt, EntryHasStream, StreamsAt, RefusesAt, RefusesPlace, RefusesStream}
 
 some_of : {X : Type 0} (o : Option X) → is_some o ≡ true → (x : X) × (o ≡ Some x)
 some_of None is = absurd (true≢false (sym is))
@@ -78,5 +79,17 @@ module _ (halted : Bool) (found : Option PlainEntry) (tells : Bool) (image : Ima
 -- the segment at a place may be in a catalogue
 pub sound_here : (segments : List Segment) (place : ℕ) (g : Segment) → list_all is_segment segments ≡ true → slice_get segments place ≡ Some g → is_segment g ≡ true
 sound_here segments place g sound at =
-    subst (λ (x : Segment). is_segment x ≡ true) (get_or_from_slice_get segments place no_segment g at)
+    subst (λ (x : Segment). is_segment x ≡ true) (get_or_from_slice_get segments place g no_segment at)
     (sound_at segments place (slice_get_within segments place g at) sound)
+
+-- ---- the rows of a table
+
+pub streams_hold : (image : Image) (s : PlainSchema) (gs : List Segment) (xs : List (List ℕ)) (rows : List (List Cell)) → HaveStreams image s gs xs rows → rows_held s gs image ≡ Some rows
+unfolding rows_held
+streams_hold image s [] [] rows is = ap Some (sym is)
+streams_hold image s (g ∷ gs) (x ∷ xs) rows (digest, has, others, later, is) =
+    let own : segment_rows s g image ≡ Some has.rows = copy_rows true image s g x has.copy refl ∙ has.means in
+    let rest : rows_held s gs image ≡ Some others = streams_hold image s gs xs others later in
+    (λ i. joined_rows (own i) (rest i)) ∙ ap Some (sym is)
+streams_hold image s [] (x ∷ xs) rows have = absurd have
+streams_hold image s (g ∷ gs) [] rows have = absurd have

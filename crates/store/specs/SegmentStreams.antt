@@ -1,5 +1,5 @@
 -- The streams of single segments, byte for byte.
-use Rattle.std.specs.Prelude.{◌≡◌, ℕ, Bool, true, false, List, Option, Some, None, slice_get}
+use Rattle.std.specs.Prelude.{◌≡◌, ◌++◌, ℕ, Bool, true, false, List, [], ◌∷◌, Option, Some, None, slice_get}
 use Rattle.sha2.specs.Sha256.{sha256}
 use Rattle.sector_dev.specs.Disk.{Image}
 use Rattle.arrow_schema.specs.Column.{PlainSchema}
@@ -50,3 +50,11 @@ abbrev pub RefusesStream : (halted tells : Bool) → Image → Option PlainEntry
 RefusesStream true tells image found place r = r ≡ refusals.Halted
 RefusesStream false tells image None place r = r ≡ refusals.NoTable
 RefusesStream false tells image (Some e) place r = RefusesPlace tells image e place r
+
+-- the streams of segments, one after another, and the rows that they mean
+abbrev pub HaveStreams : Image → PlainSchema → List Segment → (streams : List (List ℕ)) → (rows : List (List Cell)) → Type 0
+HaveStreams image schema [] [] rows = rows ≡ []
+HaveStreams image schema (g ∷ gs) (stream ∷ streams) rows =
+    (digest : List ℕ) × (has : HasStream true image schema g digest stream) × (others : List (List Cell)) × HaveStreams image schema gs streams others
+    × (rows ≡ has.rows ++ others)
+HaveStreams image schema _ _ rows = ⊥

@@ -50,7 +50,7 @@ pub use laws::{segments_have_digests, used_runs_are_named};
 pub use pages::StoredCatalogue;
 pub use running::{answer, run};
 pub use salvaging::LeftOut;
-pub use segment_streams::{SegmentInfo, SegmentStream};
+pub use segment_streams::{SegmentInfo, SegmentStream, streams_have_their_rows};
 pub use store::Store;
 pub use store_changes::{
     compactions_end, decisions_are_verdicts, rows_have_their_digest, what_is_done_is_the_verdict,

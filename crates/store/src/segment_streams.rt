@@ -5,14 +5,16 @@ ghost use Rattle.sector_dev.specs.Disk.{Image, now, shown_image};
 ghost use Rattle.arrow_schema.specs.Column.{PlainSchema};
 ghost use Rattle.arrow_schema.specs.Limits.{IsWithinLimits};
 ghost use Rattle.arrow_schema.specs.View.{schema_of};
+ghost use Rattle.cells.specs.Cell.{Cell};
 ghost use Rattle.ipc_write.specs.Written.{schema_message};
+ghost use Rattle.catalogue.specs.declared.entry.Segment as segments;
 ghost use Rattle.catalogue.specs.Entries.{is_segment, is_entry, plain_entry, runs_in_segments};
 ghost use Rattle.commit.specs.Standing.{is_size, is_on_device, all_on_device};
 ghost use Rattle.store_changes.specs.Ahead.{HasBytes};
 ghost use Rattle.store_runs.specs.Calls.{is_failure};
-ghost use Rattle.store_runs.specs.Held.{is_undamaged, rows_in_bytes};
+ghost use Rattle.store_runs.specs.Held.{is_undamaged, rows_in_bytes, rows_held};
 ghost use Rattle.store_runs.specs.Reading.{IsCopy, LacksBytes, LacksRows, OnlyReadsDevice, ended};
-ghost use Rattle.store.specs.SegmentStreams.{info_of, HasStream, EntryHasStream, RefusesPlace};
+ghost use Rattle.store.specs.SegmentStreams.{info_of, HasStream, HaveStreams, EntryHasStream, RefusesPlace};
 
 use crate::Store;
 use crate::reading::halts;
@@ -204,6 +206,13 @@ fn infos_of(alloc: Global, segments: &[Segment]) -> Result<Vec<SegmentInfo>, Ref
         }
     }
     Ok(infos)
+}
+
+/// The streams of the segments of a table, one after another, have its rows: those that an image holds.
+pub fn streams_have_their_rows()
+    ensures { (image : Image) (s : PlainSchema) (segments : List segments.Segment) (streams : List (List ℕ)) (rows : List (List Cell))
+        → HaveStreams image s segments streams rows → rows_held s segments image ≡ Some rows }
+{
 }
 
 impl<D: SectorDevice> Store<D> {

@@ -35,11 +35,11 @@ fn push_items<'a>(items: &mut Vec<Item<'a>>, table: &'a ListedTable) -> Result<(
     ensures memory { IfErr result (λ e. e ≡ Refusal.OutOfMemory) }
 {
     let name = table.name.as_str();
-    for (place, segment) in table.segments.iter().enumerate() {
+    for place in 0..table.segments.len() {
         items.push(Item {
             name,
             place,
-            digest: segment.digest,
+            digest: table.segments[place].digest,
         })?;
     }
     Ok(())

@@ -1,5 +1,4 @@
-use Rattle.std.proofs.Common.{take, refl, sym, subst, arith, take_all}
-use Rattle.std.specs.Prelude.{ℕ, List}
+use Rattle.std.proofs.Common.{take, subst, arith, take_all}
 use Rattle.facts.specs.laws.Lists.{take-item}
 use Rattle.table_archive.specs.Wanted.{Knows}
 use Rattle.table_archive.proofs.KnownLemmas.{known_next}
@@ -13,4 +12,5 @@ loop-digest-preserved c =
     (c.in_ok-take.ensures.known (take c.loop-digest.digest-index c.args.had.now) c.loop-digest.invariant)
 
 pub returns : goal.returns
-returns c = ?
+returns c =
+    subst (Knows c.loop-digest.wanted) (take_all c.loop-digest.digest-index c.args.had.now (omega (arith, c.loop-digest-test.false))) c.loop-digest.invariant
