@@ -1,6 +1,6 @@
 -- Texts of columns, one after another.
 use Rattle.std.proofs.Common.{◌≡◌, ◌∙◌, ◌+◌, ◌<◌, ◌++◌, ℕ, zero, suc, List, [], ◌∷◌, arith, get_or, length, map, take, refl, sym, ap, subst, string_bytes}
-use Rattle.std.specs.Prelude.{Option, Some, None, String, slice_get}
+use Rattle.std.specs.Prelude.{Some, None, String, slice_get}
 use Rattle.std.specs.Global.{Global}
 use Rattle.std.proofs.lemmas.List.{length-map, map-append, get_or-map, take_more}
 use Rattle.arrow_schema.specs.Column.{Column}

@@ -1,16 +1,15 @@
 use Rattle.std.specs.Prelude.{slice_get}
-use Rattle.std.proofs.Common.{◌≡◌, ◌∙◌, ℕ, true, List, Some, None, get_or, refl, sym, subst}
+use Rattle.std.proofs.Common.{◌≡◌, ◌∙◌, List, Some, None, refl, sym, subst}
 use Rattle.std.proofs.lemmas.Result.{IfOk-weaker, IfErr-weaker}
-use Rattle.std.proofs.lemmas.Option.{slice_get_read, slice_get_past, slice_get_within, get_or_from_slice_get}
+use Rattle.std.proofs.lemmas.Option.{slice_get_read, slice_get_past}
 use Rattle.sector_dev.specs.Disk.{now, shown_image}
 use Rattle.arrow_schema.specs.Limits.{IsWithinLimits}
 use Rattle.arrow_schema.specs.View.{schema_of}
 use Rattle.catalogue.specs.declared.entry.Segment.{Segment}
-use Rattle.catalogue.specs.Entries.{plain_entry, is_segment}
+use Rattle.catalogue.specs.Entries.{plain_entry}
 use Rattle.catalogue.specs.laws.Kept.{entry_is}
 use Rattle.tables.specs.declared.refusal.Refusal.TheVariants.{OutOfMemory}
 use Rattle.store_changes.specs.laws.StepParts.{segment_placed}
-use Rattle.store_changes.specs.laws.ReadTables.{sound_at, no_segment}
 use Rattle.store.proofs.Streamed.{stream_at, refuses_at_place, refuses_past, sound_here}
 use Rattle.store.proofs.segment_streams.stream_in_entry.Goals as goal
 

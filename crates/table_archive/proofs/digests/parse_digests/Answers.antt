@@ -1,7 +1,4 @@
-use Rattle.std.proofs.Common.{true≢false, ◌≡◌, ◌∙◌, ◌+◌, ◌<◌, ◌==◌, ℕ, List, [], true, false, arith, get_or, length, sym, ap, subst, eqb-true}
-use Rattle.std.specs.Borrow.{Bor}
-use Rattle.std.proofs.lemmas.Bool.{eqb-false}
-use Rattle.table_archive.specs.Digests.{StateDigests}
+use Rattle.std.proofs.Common.{true≢false, ◌∙◌, ◌==◌, ℕ, List, arith, length, sym, ap}
 use Rattle.table_archive.proofs.LineLemmas.{next_digest, bad_line}
 use Rattle.table_archive.proofs.digests.parse_digests.Goals.{else-is_empty-via-then-is_empty+else-place-len, else-is_empty-via-else-is_empty}
 use Rattle.table_archive.proofs.digests.parse_digests.Goals as goal
