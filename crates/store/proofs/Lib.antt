@@ -32,3 +32,4 @@ mod KeptRuns
 mod Salvaged
 mod Heavy
 mod Streamed
+mod Sent

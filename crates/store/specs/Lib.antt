@@ -14,6 +14,7 @@ pub mod Input
 pub mod Exporting
 pub mod Salvaging
 pub mod SegmentStreams
+pub mod Sending
 pub mod Selecting
 pub mod Places
 pub mod Answering

@@ -3,3 +3,4 @@ pub mod Selecting
 pub mod Salvaging
 pub mod Taking
 pub mod Drafting
+pub mod Sending

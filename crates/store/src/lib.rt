@@ -35,6 +35,7 @@ mod salvaging;
 mod saving;
 mod segment_streams;
 mod selecting;
+mod sending;
 mod store;
 mod summary;
 mod taking;

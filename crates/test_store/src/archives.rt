@@ -1,0 +1,79 @@
+// Archives of a store, by the SHA-256 of the whole archive. An archive with these bytes was made by hand from the page of the definition and a store of the
+// same tables, and `tar` lists its members.
+use crate::inputs::{Cell, INT};
+use crate::made::{NotMade, assert_no_row};
+use crate::playing::{Slot, Way, new_slot, play};
+use crate::steps::{Step, Steps};
+use Cell::Number;
+use Step::{Create, Format, Give};
+use hex::FromHex;
+use sha2::{Digest, Sha256};
+use std::alloc::Global;
+use store::StoreOrDevice;
+
+// Two tables with a column `a:int32?`: `t` has the rows 7 and 8 in one segment, and `u` has no rows. The epoch is 4.
+const TABLES: Steps = &[
+    (Format, "ok"),
+    (Create("t", INT), "ok"),
+    (Create("u", INT), "ok"),
+    (Give("t", &[&[Number(7)], &[Number(8)]]), "ok"),
+];
+
+const SEGMENT: &str = "781f262941d3ee71fcb4ea29fe5cc11704133ebe336a5d717ffadb3be18cc080";
+const OTHER: &str = "44c34489281c48be8b5c256fe77131aa0de1fa0a6eb9074740284ea57665390d";
+
+// With the segment, and without it.
+const WHOLE: &str = "fde745d64903bbbaecdee1778941307ee797726dc845e136154b6bc56ecf7024";
+const LESS: &str = "48cb9f536d71a8651df5ec286307ecfffd4b69908782bdfac664c94d03f9cac5";
+
+// How steps are taken, which digests the receiver has, and the digest of the archive.
+type Row = (Way, &'static [&'static str], &'static str);
+
+const ARCHIVES: &[Row] = &[
+    (Way::EachCall, &[], WHOLE),
+    (Way::VersionOne, &[], WHOLE),
+    (Way::EachCall, &[OTHER], WHOLE),
+    (Way::EachCall, &[OTHER, SEGMENT, SEGMENT], LESS),
+    (Way::VersionOne, &[SEGMENT], LESS),
+];
+
+fn digest_of(text: &str) -> Result<[u8; 32], NotMade> {
+    <[u8; 32] as FromHex>::from_hex(text).map_err(|_| NotMade)
+}
+
+fn digests_of(alloc: Global, texts: &[&str]) -> Result<Vec<[u8; 32]>, NotMade> {
+    let mut digests = Vec::new(alloc);
+    for text in texts {
+        digests.push(digest_of(text)?)?;
+    }
+    Ok(digests)
+}
+
+fn is_archived(alloc: Global, slot: &mut Slot, row: &Row) -> Result<bool, NotMade> {
+    let (way, had, want) = *row;
+    if play(alloc, slot, TABLES, way)?.is_some() {
+        return Ok(false);
+    }
+    let Some(StoreOrDevice::Open(store)) = slot else {
+        return Err(NotMade);
+    };
+    let mut archive = Vec::new(alloc);
+    store
+        .send(alloc, &digests_of(alloc, had)?, &mut archive)
+        .map_err(|_| NotMade)?;
+    Ok(Sha256::digest(&archive) == digest_of(want)?)
+}
+
+fn wrong_archive(alloc: Global, rows: &[Row]) -> Result<Option<usize>, NotMade> {
+    for (place, row) in rows.iter().enumerate() {
+        if !is_archived(alloc, &mut new_slot(alloc, 64)?, row)? {
+            return Ok(Some(place));
+        }
+    }
+    Ok(None)
+}
+
+#[test]
+fn archives_are_as_defined(rt: HostRuntime) {
+    assert_no_row(&rt, wrong_archive(rt.alloc(), ARCHIVES));
+}
