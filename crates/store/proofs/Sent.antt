@@ -2,11 +2,11 @@
 use Rattle.std.specs.Prelude.{◌||◌, not, flat_map, slice_get, Option, option_map, if◌then◌else◌, ◌≢◌}
 use Rattle.std.specs.Io.KnownBytes.{Appends}
 use Rattle.std.proofs.Common.{◌≡◌, ◌+◌, ◌<◌, ◌∙◌, ◌++◌, ℕ, Bool, true, false, List, [], ◌∷◌, Some, None, arith, get_or, length, map, take, drop, append_assoc, append-nil, refl, sym, ap, subst}
-use Rattle.std.proofs.KnownBytes.{Appends-nil, Appends-trans}
-use Rattle.std.proofs.lemmas.Bool.{true≢false, cond-true, cond-false, not-false, not-true}
+use Rattle.std.proofs.KnownBytes.{Appends-trans}
+use Rattle.std.proofs.lemmas.Bool.{true≢false, cond-true, cond-false}
 use Rattle.std.proofs.lemmas.Grind.{flat_map-append}
-use Rattle.std.proofs.lemmas.List.{map-append, take_more, get_or-map, length-map}
-use Rattle.std.proofs.lemmas.Option.{same_Some, slice_get-get_or}
+use Rattle.std.proofs.lemmas.List.{map-append, get_or-map, length-map}
+use Rattle.std.proofs.lemmas.Option.{same_Some}
 use Rattle.facts.specs.laws.Lists.{drop-item, take-item}
 use Rattle.sector_dev.specs.Disk.{Image, Story, now, shown_image}
 use Rattle.sector_dev.specs.declared.device.SectorDevice.{Ghosts}
@@ -34,7 +34,7 @@ use Rattle.store.specs.Reading.{OnlyReadsStore}
 use Rattle.store.specs.declared.segment_streams.SegmentInfo.{SegmentInfo}
 use Rattle.store.specs.Listing.{RefusesTables, RefusesSchema}
 use Rattle.store.specs.SegmentStreams.{HasStream, RefusesAt, RefusesStream, info_of}
-use Rattle.store.specs.Sending.{HasListedDigest, ListsSegment, ListsSegments, ListsEntry, ListsTable, ListsTables, Located, located_in, located_from, IsSent, AreSent, Sends, SaysHalted, digests_of}
+use Rattle.store.specs.Sending.{HasListedDigest, ListsSegment, ListsSegments, ListsTable, ListsTables, Located, located_in, located_from, IsSent, AreSent, Sends, SaysHalted, digests_of}
 use Rattle.store.specs.inner.Sending.{plain_item, FailsMaking, FailsSending}
 
 -- ---- a store that was only read
@@ -80,7 +80,8 @@ stream_at_awake : (tells : Bool) (image : Image) (found : Option PlainEntry) (pl
 stream_at_awake tells image None place is = absurd (cc is)
 stream_at_awake tells image (Some e) place is = at_place_awake tells image e.schema (slice_get e.segments place) place is
 
-pub stream_awake : (h tells : Bool) (image : Image) (found : Option PlainEntry) (place : ℕ) (r : Refusal) → h ≡ false → RefusesStream h tells image found place r → r ≢ refusals.Halted
+pub stream_awake : (h tells : Bool) (image : Image) (found : Option PlainEntry) (place : ℕ) (r : Refusal) → h ≡ false
+    → RefusesStream h tells image found place r → r ≢ refusals.Halted
 stream_awake h tells image found place r on is = λ halted.
     stream_at_awake tells image found place
     (subst (RefusesStream false tells image found place) halted (subst (λ (b : Bool). RefusesStream b tells image found place r) on is))
@@ -112,7 +113,8 @@ module _ (tells : Bool) (a b : Image) (same : tells ≡ true → b ≡ a) where
   pub stream_then : (s : PlainSchema) (g : Segment) (digest stream : List ℕ) → HasStream tells b s g digest stream → HasStream tells a s g digest stream
   stream_then s g digest stream has = record { copy = copy_then tells a b same g stream has.copy; digested = has.digested; rows = has.rows; means = has.means }
 
-  digest_then : (s : PlainSchema) (g : Segment) (own : Option (List ℕ)) (digest : List ℕ) → HasListedDigest tells b s g own digest → HasListedDigest tells a s g own digest
+  digest_then : (s : PlainSchema) (g : Segment) (own : Option (List ℕ)) (digest : List ℕ) → HasListedDigest tells b s g own digest
+      → HasListedDigest tells a s g own digest
   digest_then s g None digest has = (has.0, stream_then s g digest has.0 has.1)
   digest_then s g (Some own) digest has = has
 
@@ -179,7 +181,8 @@ module _ {D : Type 0} {g : Ghosts D} (size : D → ℕ) (story : D → Story) (f
 
 -- ---- one more
 
-lists_last : (tells : Bool) (image : Image) (s : PlainSchema) (gs : List Segment) (ls : List ListedSegment) (g : Segment) (l : ListedSegment) → ListsSegments tells image s gs ls
+lists_last : (tells : Bool) (image : Image) (s : PlainSchema) (gs : List Segment) (ls : List ListedSegment) (g : Segment) (l : ListedSegment)
+    → ListsSegments tells image s gs ls
     → ListsSegment tells image s g l → ListsSegments tells image s (gs ++ g ∷ []) (ls ++ l ∷ [])
 lists_last tells image s [] [] g l all one = (one, tt)
 lists_last tells image s (x ∷ gs) (y ∷ ls) g l all one = (all.0, lists_last tells image s gs ls g l all.1 one)
@@ -193,7 +196,8 @@ lists_more tells image s segments place g ls more l lt at longer all one =
     subst (ListsSegments tells image s (take (place + 1) segments)) (sym longer)
     (subst (λ (gs : List Segment). ListsSegments tells image s gs (ls ++ l ∷ [])) (sym (take-item segments place g lt at)) (lists_last tells image s (take place segments) ls g l all one))
 
-tables_last : (tells : Bool) (image : Image) (c : PlainCatalogue) (ns : List (List ℕ × ℕ)) (ts : List PlainListed) (n : List ℕ × ℕ) (t : PlainListed) → ListsTables tells image c ns ts
+tables_last : (tells : Bool) (image : Image) (c : PlainCatalogue) (ns : List (List ℕ × ℕ)) (ts : List PlainListed) (n : List ℕ × ℕ) (t : PlainListed)
+    → ListsTables tells image c ns ts
     → ListsTable tells image c n.0 t → ListsTables tells image c (ns ++ n ∷ []) (ts ++ t ∷ [])
 tables_last tells image c [] [] n t all one = (one, tt)
 tables_last tells image c (x ∷ ns) (y ∷ ts) n t all one = (all.0, tables_last tells image c ns ts n t all.1 one)
@@ -202,7 +206,8 @@ tables_last tells image c (x ∷ ns) [] n t all one = absurd all
 
 -- of names that are given as others
 pub tables_more : {X Y : Type 0} (f : X → List ℕ × ℕ) (of : Y → PlainListed) (tells : Bool) (image : Image) (c : PlainCatalogue) (names : List X) (i : ℕ) (x : X) (ts more : List Y) (t : Y)
-    → i < length names → x ≡ get_or names i x → more ≡ ts ++ t ∷ [] → ListsTables tells image c (take i (map f names)) (map of ts) → ListsTable tells image c (f x).0 (of t)
+    → i < length names → x ≡ get_or names i x → more ≡ ts ++ t ∷ [] → ListsTables tells image c (take i (map f names)) (map of ts)
+    → ListsTable tells image c (f x).0 (of t)
     → ListsTables tells image c (take (i + 1) (map f names)) (map of more)
 tables_more f of tells image c names i x ts more t lt at longer all one =
     let among : i < length (map f names) = omega (arith, lt, length-map names f) in
@@ -212,15 +217,18 @@ tables_more f of tells image c names i x ts more t lt at longer all one =
     (subst (λ (ns : List (List ℕ × ℕ)). ListsTables tells image c ns (map of ts ++ of t ∷ [])) (sym (take-item (map f names) i (f x) among is))
     (tables_last tells image c (take i (map f names)) (map of ts) (f x) (of t) all one)))
 
-sent_last : (tells : Bool) (image : Image) (c : PlainCatalogue) (xs : List Located) (ss : List (List ℕ)) (x : Located) (s : List ℕ) → AreSent tells image c xs ss → IsSent tells image c x s
+sent_last : (tells : Bool) (image : Image) (c : PlainCatalogue) (xs : List Located) (ss : List (List ℕ)) (x : Located) (s : List ℕ)
+    → AreSent tells image c xs ss → IsSent tells image c x s
     → AreSent tells image c (xs ++ x ∷ []) (ss ++ s ∷ [])
 sent_last tells image c [] [] x s all one = (one, tt)
 sent_last tells image c (y ∷ xs) (z ∷ ss) x s all one = (all.0, sent_last tells image c xs ss x s all.1 one)
 sent_last tells image c [] (z ∷ ss) x s all one = absurd all
 sent_last tells image c (y ∷ xs) [] x s all one = absurd all
 
-pub sent_more : (tells : Bool) (image : Image) (c : PlainCatalogue) (items : List Item) (i : ℕ) (item : Item) (ss : List (List ℕ)) (s : List ℕ) → i < length items → item ≡ get_or items i item
-    → AreSent tells image c (take i (map plain_item items)) ss → IsSent tells image c (plain_item item) s → AreSent tells image c (take (i + 1) (map plain_item items)) (ss ++ s ∷ [])
+pub sent_more : (tells : Bool) (image : Image) (c : PlainCatalogue) (items : List Item) (i : ℕ) (item : Item) (ss : List (List ℕ)) (s : List ℕ)
+    → i < length items → item ≡ get_or items i item
+    → AreSent tells image c (take i (map plain_item items)) ss → IsSent tells image c (plain_item item) s
+    → AreSent tells image c (take (i + 1) (map plain_item items)) (ss ++ s ∷ [])
 sent_more tells image c items i item ss s lt at all one =
     let among : i < length (map plain_item items) = omega (arith, lt, length-map items plain_item) in
     let is : plain_item item ≡ get_or (map plain_item items) i (plain_item item) =
@@ -238,7 +246,8 @@ written_more a b d ss s all one =
 
 pub items_more : (items more : List Item) (item : Item) (name : List ℕ) (segments : List ListedSegment) (place : ℕ) (l : ListedSegment) (all : List Located) → more ≡ items ++ item ∷ []
     → plain_item item ≡ record { name = name; place = place; digest = l.digest } → place < length segments → l ≡ get_or segments place l
-    → map plain_item items ++ located_from name place (drop place segments) ≡ all → map plain_item more ++ located_from name (place + 1) (drop (place + 1) segments) ≡ all
+    → map plain_item items ++ located_from name place (drop place segments) ≡ all
+    → map plain_item more ++ located_from name (place + 1) (drop (place + 1) segments) ≡ all
 items_more items more item name segments place l all longer is lt at so_far =
     let rest = located_from name (place + 1) (drop (place + 1) segments) in
     ap (λ (xs : List Item). map plain_item xs ++ rest) longer
@@ -278,7 +287,8 @@ lacked_digests : {A : Type 0} (f : A → List ℕ) (had : List (List ℕ)) (xs :
 lacked_digests f had [] = refl
 lacked_digests f had (x ∷ xs) = map_if f (is_among (f x) had) x _ _ _ _ (lacked_digests f had xs) (lacked_digests f (f x ∷ had) xs)
 
-located_digests : (name : List ℕ) (place : ℕ) (ls : List ListedSegment) → map (λ (x : Located). x.digest) (located_from name place ls) ≡ map (λ (l : ListedSegment). l.digest) ls
+located_digests : (name : List ℕ) (place : ℕ) (ls : List ListedSegment)
+    → map (λ (x : Located). x.digest) (located_from name place ls) ≡ map (λ (l : ListedSegment). l.digest) ls
 located_digests name place [] = refl
 located_digests name place (l ∷ ls) = ap (λ (zs : List (List ℕ)). l.digest ∷ zs) (located_digests name (place + 1) ls)
 
@@ -301,13 +311,15 @@ item_digests [] = refl
 item_digests (x ∷ xs) = ap (λ (zs : List (List ℕ)). x.digest ∷ zs) (item_digests xs)
 
 pub digests_listed : (items all : List Item) (digests : List (List ℕ)) (ts : List PlainListed) → digests ≡ map (λ (x : Item). x.digest) items
-    → map plain_item items ≡ lacked_by (λ (x : Located). x.digest) [] (map plain_item all) → map plain_item all ≡ flat_map located_in ts → digests ≡ digests_of ts
+    → map plain_item items ≡ lacked_by (λ (x : Located). x.digest) [] (map plain_item all) → map plain_item all ≡ flat_map located_in ts
+    → digests ≡ digests_of ts
 digests_listed items all digests ts are lacked listed =
     are ∙ item_digests items
     ∙ ap (map (λ (x : Located). x.digest)) (lacked ∙ ap (lacked_by (λ (x : Located). x.digest) []) listed)
     ∙ same_digests ts
 
-pub digests_more : (items : List Item) (i : ℕ) (item : Item) (digests more : List (List ℕ)) → i < length items → item ≡ get_or items i item → more ≡ digests ++ item.digest ∷ []
+pub digests_more : (items : List Item) (i : ℕ) (item : Item) (digests more : List (List ℕ)) → i < length items → item ≡ get_or items i item
+    → more ≡ digests ++ item.digest ∷ []
     → digests ≡ map (λ (x : Item). x.digest) (take i items) → more ≡ map (λ (x : Item). x.digest) (take (i + 1) items)
 digests_more items i item digests more lt at longer are =
     longer ∙ ap (λ (ds : List (List ℕ)). ds ++ item.digest ∷ []) are ∙ sym (map-append (λ (x : Item). x.digest) (take i items) (item ∷ []))
@@ -315,8 +327,10 @@ digests_more items i item digests more lt at longer are =
 
 -- ---- a table
 
-pub table_listed : (tells : Bool) (image : Image) (c : PlainCatalogue) (name : List ℕ) (e : PlainEntry) (t : PlainListed) → option_map (λ (x : PlainEntry). x.schema) (entry_of c name) ≡ Some t.schema
-    → entry_of c name ≡ Some e → t.name ≡ name → HasTexts t.schema t.fields → ListsSegments tells image e.schema e.segments t.segments → ListsTable tells image c name t
+pub table_listed : (tells : Bool) (image : Image) (c : PlainCatalogue) (name : List ℕ) (e : PlainEntry) (t : PlainListed)
+    → option_map (λ (x : PlainEntry). x.schema) (entry_of c name) ≡ Some t.schema
+    → entry_of c name ≡ Some e → t.name ≡ name → HasTexts t.schema t.fields → ListsSegments tells image e.schema e.segments t.segments
+    → ListsTable tells image c name t
 table_listed tells image c name e t found there named fields segments =
     let same : t.schema ≡ e.schema = same_Some t.schema e.schema (sym found ∙ ap (option_map (λ (x : PlainEntry). x.schema)) there) in
     record {
@@ -332,7 +346,8 @@ some_entry f (Some e) x is = (e, refl)
 
 -- of the segments of an entry, that at a place
 pub info_at : (c : PlainCatalogue) (name : List ℕ) (infos : List SegmentInfo) (place : ℕ) (info : SegmentInfo) (e : PlainEntry)
-    → option_map (λ (x : PlainEntry). map info_of x.segments) (entry_of c name) ≡ Some infos → entry_of c name ≡ Some e → place < length infos → info ≡ get_or infos place info
+    → option_map (λ (x : PlainEntry). map info_of x.segments) (entry_of c name) ≡ Some infos → entry_of c name ≡ Some e → place < length infos
+    → info ≡ get_or infos place info
     → (place < length e.segments) × ((g : Segment) → g ≡ get_or e.segments place g → info ≡ info_of g)
 info_at c name infos place info e found there lt at =
     let same : infos ≡ map info_of e.segments = same_Some infos (map info_of e.segments) (sym found ∙ ap (option_map (λ (x : PlainEntry). map info_of x.segments)) there) in

@@ -11,5 +11,7 @@ pub returns-clause-digests : goal.returns-clause-digests
 returns-clause-digests c =
     let items = c.in_ok-items.items.items in
     digests_listed items c.in_ok-items_of.field-0.items c.loop-item.digests.items (map plain_listed c.args.tables.now)
-    (c.loop-item.invariant ∙ ap (map (λ (x : Item). x.digest)) (take_all c.loop-item.item-index _ (omega (arith, c.loop-item-test.false)) ∙ c.deref-item-items.ensures.value))
-    (c.in_ok-items.ensures.lacked ∙ ap (λ (xs : List Item). lacked_by (λ (x : Located). x.digest) [] (map plain_item xs)) c.deref.ensures.value) c.in_ok-items_of.ensures.items
+    (c.loop-item.invariant
+    ∙ ap (map (λ (x : Item). x.digest)) (take_all c.loop-item.item-index _ (omega (arith, c.loop-item-test.false)) ∙ c.deref-item-items.ensures.value))
+    (c.in_ok-items.ensures.lacked
+    ∙ ap (λ (xs : List Item). lacked_by (λ (x : Located). x.digest) [] (map plain_item xs)) c.deref.ensures.value) c.in_ok-items_of.ensures.items

@@ -1,4 +1,4 @@
-use Rattle.std.proofs.Common.{◌≡◌, ◌∙◌, ◌++◌, ◌+◌, List, Vec, Global, map, drop, ap, sym}
+use Rattle.std.proofs.Common.{◌∙◌, ◌++◌, ◌+◌, List, Vec, Global, map, drop, ap, sym}
 use Rattle.std.proofs.lemmas.Bool.{not-false, not-true}
 use Rattle.std.proofs.lemmas.List.{get_or_default}
 use Rattle.table_archive.specs.Archive.{lacked_by}
@@ -40,7 +40,9 @@ loop-item-preserved c =
             had = was.had;
             known = c.in_ok-take.ensures.still w.if-branch.false was.had was.known;
             left =
-                ap (λ (v : Vec Item Global). map plain_item v.items ++ lacked_by (λ (x : Located). x.digest) was.had (map plain_item (drop (i + 1) items))) w.lacked-is
-                ∙ one_had items i _ lt (get_or_default items i _ _ lt) was.had c.loop-item.lacked.items _ was.left (not-false _ (sym lacks ∙ w.if-branch.false));
+                ap (λ (v : Vec Item Global). map plain_item v.items ++ lacked_by (λ (x : Located). x.digest) was.had (map plain_item (drop (i + 1) items)))
+                w.lacked-is
+                ∙ one_had items i _ lt (get_or_default items i _ _ lt) was.had c.loop-item.lacked.items _ was.left
+                (not-false _ (sym lacks ∙ w.if-branch.false));
           }
     ]

@@ -1,8 +1,7 @@
-use Rattle.std.proofs.Common.{◌≡◌, ◌<◌, ◌∙◌, List, Err, arith, get_or, length, refl, ap, subst, take_all}
+use Rattle.std.proofs.Common.{◌∙◌, List, Err, arith, get_or, refl, ap, subst, take_all}
 use Rattle.std.specs.Prelude.{map}
-use Rattle.std.proofs.lemmas.List.{get_or_default, length-map}
-use Rattle.std.proofs.lemmas.Option.{slice_get-get_or, same_Some}
-use Rattle.std.proofs.lemmas.Result.{IfErr-weaker, err_from_is_err_and}
+use Rattle.std.proofs.lemmas.Option.{slice_get-get_or}
+use Rattle.std.proofs.lemmas.Result.{err_from_is_err_and}
 use Rattle.sector_dev.specs.Disk.{now, shown_image}
 use Rattle.catalogue.specs.Entries.{PlainCatalogue, PlainEntry}
 use Rattle.catalogue.specs.Edits.{entry_of}
@@ -54,7 +53,8 @@ loop-place-preserved g c =
           lists_more D.tells (shown_image (now (D.story first.device))) e.schema e.segments place segment c.loop-place.listed.items c.push.new.self.items
           c.in-Ok.segment here.0 at c.in_ok-push-in-Ok.ensures.items (was.listed e there)
           (first_segment D.size D.story D.failed D.tells first mid was.reads e.schema segment c.in-Ok.segment
-          (c.in-Ok.ensures.listed e segment (ap (λ (l : PlainCatalogue). entry_of l name) (same_list D.size D.story D.failed D.tells first mid was.reads) ∙ there)
+          (c.in-Ok.ensures.listed e segment
+          (ap (λ (l : PlainCatalogue). entry_of l name) (same_list D.size D.story D.failed D.tells first mid was.reads) ∙ there)
           (slice_get-get_or e.segments place no_segment here.0) (here.1 segment at)));
     }
 
@@ -63,11 +63,13 @@ returns-clause-listed g c =
     let D = g.D.SectorDevice in
     let first = c.args.self.now in
     let name = c.args.name.now in
-    let found = some_entry (λ (x : PlainEntry). map info_of x.segments) (entry_of (listed_in first) name) c.in_ok-infos.infos.items c.in_ok-infos.ensures.1 in
+    let found = some_entry (λ (x : PlainEntry). map info_of x.segments) (entry_of (listed_in first) name) c.in_ok-infos.infos.items
+    c.in_ok-infos.ensures.1 in
     let e = found.0 in
     let count = count_at (listed_in first) name c.in_ok-infos.infos.items e c.in_ok-infos.ensures.1 found.1 in (
       e,
       found.1,
       subst (λ (gs : List Segment). ListsSegments D.tells (shown_image (now (D.story first.device))) e.schema gs c.loop-place.listed.items)
-          (take_all c.loop-place.place e.segments (omega (arith, c.loop-place-test.false, count, c.len-place-end.ensures))) (c.loop-place.invariant.listed e found.1),
+          (take_all c.loop-place.place e.segments (omega (arith, c.loop-place-test.false, count, c.len-place-end.ensures)))
+          (c.loop-place.invariant.listed e found.1),
     )

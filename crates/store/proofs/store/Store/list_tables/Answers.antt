@@ -24,7 +24,8 @@ returns-in_err-push-in-Ok-clause-reads g c =
     let D = g.D.SectorDevice in
     let first = c.args.self.now in
     let p = err_from_is_err_and c.from_residual.result c.from_residual.ensures.1 in
-    reads_but D.size D.story D.failed D.tells (ended c.from_residual.result) first c.list_table.new.self (ap (λ r. is_device_reply (ended r)) (p.1 ∙ ap Err p.2))
+    reads_but D.size D.story D.failed D.tells (ended c.from_residual.result) first c.list_table.new.self
+    (ap (λ r. is_device_reply (ended r)) (p.1 ∙ ap Err p.2))
     (reads_then D.size D.story D.failed D.tells done first c.loop-name.self c.list_table.new.self c.loop-name.invariant.reads c.in-Ok.ensures.reads)
 
 pub returns-in-Err-clause-reads : goal.returns-in-Err-clause-reads
@@ -45,7 +46,8 @@ loop-name-preserved g c =
     record {
       reads = reads_then D.size D.story D.failed D.tells done first mid c.list_table.new.self was.reads c.in-Ok.ensures.reads;
       listed =
-          tables_more (λ (t : String Global × ℕ). (string_bytes t.0, t.1)) plain_listed D.tells image (listed_in first) c.args.names.now c.loop-name.name-index name
+          tables_more (λ (t : String Global × ℕ). (string_bytes t.0, t.1)) plain_listed D.tells image (listed_in first) c.args.names.now
+          c.loop-name.name-index name
           c.loop-name.tables.items c.push.new.self.items table c.loop-name-test.true c.name-item.is c.in_ok-push-in-Ok.ensures.items was.listed
           (subst (λ (bytes : List ℕ). ListsTable D.tells image (listed_in first) bytes (plain_listed table)) c.as_str.ensures.value
           (first_table D.size D.story D.failed D.tells first mid was.reads c.as_str.result.now (plain_listed table) c.in-Ok.ensures.listed));

@@ -27,10 +27,12 @@ returns-clause-sent g c =
     let new = W.contents c.send_tables.new.writer in
     let tables = c.deref-2.result.now in
     let listed =
-        subst (λ (ts : List ListedTable). ListsTables D.tells image (listed_in first) (tables_of (listed_in first)) (map plain_listed ts)) (sym c.deref-2.ensures.value)
-        (subst (λ (ns : List (List ℕ × ℕ)). ListsTables D.tells image (listed_in first) ns (map plain_listed c.in_ok-tables.tables.items))
-        (ap (map (λ (t : String Global × ℕ). (string_bytes t.0, t.1))) c.deref.ensures.value ∙ c.in_ok-names.ensures.listed.1) c.in_ok-tables.ensures.listed) in
+    subst (λ (ts : List ListedTable). ListsTables D.tells image (listed_in first) (tables_of (listed_in first)) (map plain_listed ts))
+    (sym c.deref-2.ensures.value)
+    (subst (λ (ns : List (List ℕ × ℕ)). ListsTables D.tells image (listed_in first) ns (map plain_listed c.in_ok-tables.tables.items))
+    (ap (map (λ (t : String Global × ℕ). (string_bytes t.0, t.1))) c.deref.ensures.value ∙ c.in_ok-names.ensures.listed.1) c.in_ok-tables.ensures.listed) in
     on_ok_weaker c.send_tables.result
     (λ sent. subst (λ (h : Bool). SendsAt h D.tells image (listed_in first) (commit_of first).epoch c.args.had.now old new) (sym c.in_ok-names.ensures.listed.0)
-    (sends_tables D.size D.story D.failed D.tells first c.list_tables.new.self c.in_ok-tables.ensures.reads c.args.had.now (map plain_listed tables) old new listed
+    (sends_tables D.size D.story D.failed D.tells first c.list_tables.new.self c.in_ok-tables.ensures.reads c.args.had.now (map plain_listed tables)
+    old new listed
     sent.0 sent.1 sent.2)) c.send_tables.ensures.sent
