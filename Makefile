@@ -8,6 +8,9 @@ TESTS := $(foreach crate,$(REFUSING),crates/$(crate)/out/$(crate)_tests)
 
 PREFIX ?= /usr/local
 
+# Where this is set, the program says more than the tests expect.
+unexport ARROWSTORE_ADVICE
+
 .PHONY: all proved dist install uninstall test gate-cost gate wrong-bodies memory vectors bench bench-recode bench-dictionaries bench-shapes bench-texts bench-store bench-commits bench-device bench-bitmap
 .DELETE_ON_ERROR:
 

@@ -1,4 +1,5 @@
 """Runs the built program as a user does, and compares its exit status, its lines and its bytes with what is wanted."""
+import os
 import re
 import resource
 import subprocess
@@ -12,6 +13,10 @@ _, status, used = os.wait4(os.posix_spawn(sys.argv[1], sys.argv[1:], os.environ)
 sys.stderr.write(f"peak {used.ru_maxrss}\\n")
 sys.exit(os.waitstatus_to_exitcode(status))
 """
+
+
+# Where this is set, the program says more. A test that wants that sets it for its own runs.
+os.environ.pop("ARROWSTORE_ADVICE", None)
 
 
 class Answers:
