@@ -135,10 +135,10 @@ pub const GIVE_A_NUMBER: &str =
     "Give an integer. An empty field is a null only if the column allows nulls and `--null` names no other text. Then append the whole text again.";
 
 pub const WITHIN_THE_RANGE: &str =
-    "Give an integer within the range of its type, as -128 to 127 for int8 and 0 to 255 for uint8. Then append the whole text again.";
+    "Give a value within its type: -128 to 127 for int8, with `--dates iso` 1677-09-21 to 2262-04-11 for timestamp_ns. Then append the whole text again.";
 
 pub const WRITE_A_BOOLEAN: &str =
-    "Write `true` or `false` in lower case, in JSON without quotation marks. Then append the whole text again.";
+    "Write `true` or `false` in lower case, in JSON without quotation marks. With `--null` an empty field is no null. Then append the whole text again.";
 
 pub const WRITE_HEXADECIMAL: &str =
     "Write bytes as pairs of hexadecimal digits, as in `00ff`. Then append the whole text again.";
@@ -177,7 +177,7 @@ pub const OFFSET_OF_THE_ZONE: &str =
     "Write an offset, as in 2026-11-30T12:34:56Z or +01:00, if the column has a time zone but UTC, and none if it has no zone. Then append the whole text again.";
 
 pub const NAMES_FIRST: &str =
-    "Begin the text with the names of the columns, in the order that `schema` prints.";
+    "Begin the text with the names of the columns, in the order that `schema` prints, and give the fields of each record in that order.";
 
 pub const GIVE_JSON_LINES: &str = "Give the rows as JSON Lines.";
 
