@@ -138,7 +138,7 @@ pub const WITHIN_THE_RANGE: &str =
     "Give a value within its type: -128 to 127 for int8, with `--dates iso` 1677-09-21 to 2262-04-11 for timestamp_ns. Then append the whole text again.";
 
 pub const WRITE_A_BOOLEAN: &str =
-    "Write `true` or `false` in lower case, in JSON without quotation marks. With `--null` an empty field is no null. Then append the whole text again.";
+    "Write `true` or `false` in lower case, in JSON without quotation marks. Empty is null only if `--null` names no other text. Then append the whole text again.";
 
 pub const WRITE_HEXADECIMAL: &str =
     "Write bytes as pairs of hexadecimal digits, as in `00ff`. Then append the whole text again.";
