@@ -1,6 +1,6 @@
 -- Scripts: one command on each line (`docs/using.md`).
-use Rattle.std.specs.Prelude.{◌≡◌, ◌≢◌, ◌⊎◌, ◌<◌, ◌+◌, ℕ, Bool, true, false, if◌then◌else◌, List, [], ◌∷◌, length, take, get_or, codes, Option, Some, None, is_some, option_map, Result, Ok, Err}
-use Rattle.std.specs.List.{list_all}
+use Rattle.std.specs.Prelude.{◌≡◌, ◌≢◌, ◌⊎◌, ◌||◌, ◌<◌, ◌+◌, ℕ, Bool, true, false, if◌then◌else◌, List, [], ◌∷◌, length, take, get_or, codes, nat_eq, Option, Some, None, is_some, option_map, Result, Ok, Err}
+use Rattle.std.specs.List.{list_all, starts_with}
 use Rattle.std.specs.Option.{option_and_then}
 use Rattle.std.specs.Str.{bytes_eq}
 use Rattle.std.specs.Str.Parse.{digits_value}
@@ -119,9 +119,38 @@ save_of [] = None
 unfoldable pub save_or_other : List ℕ → List (List ℕ) → Option PlainLine
 save_or_other word arguments = if bytes_eq (codes "save") word then save_of arguments else append_or_other word arguments
 
+unfoldable pub command_of : List ℕ → List (List ℕ) → Option PlainLine
+command_of word arguments = if bytes_eq (codes "create") word then create_of arguments else save_or_other word arguments
+
+-- ---- the names of tables: a word that looks like an option is none, as on a command line, unless `--` stands before the names (POSIX.1, Base Definitions
+-- 12.2, guideline 10)
+
+-- two hyphens (45), and whatever is after them
+abbrev pub is_long_option : List ℕ → Bool
+is_long_option word = starts_with nat_eq word (45 ∷ 45 ∷ [])
+
+-- the line has such a word for the name of a table
+unfoldable pub names_option : PlainLine → Bool
+names_option (create name texts) = is_long_option name
+names_option (import_file name file) = is_long_option name
+names_option (append_file name file) = is_long_option name
+names_option (append_text name file form) = is_long_option name
+names_option (save from to rows) = is_long_option from || is_long_option to
+names_option (rename from to) = is_long_option from || is_long_option to
+names_option (drop name) = is_long_option name
+names_option _ = false
+
+unfoldable pub without_options : PlainLine → Option PlainLine
+without_options line = if names_option line then None else Some line
+
+unfoldable pub named_line : List ℕ → List (List ℕ) → Option PlainLine
+named_line word [] = command_of word []
+named_line word (first ∷ names) =
+    if bytes_eq (codes "--") first then command_of word names else option_and_then without_options (command_of word (first ∷ names))
+
 unfoldable pub line_of : List (List ℕ) → Option PlainLine
 line_of [] = None
-line_of (word ∷ arguments) = if bytes_eq (codes "create") word then create_of arguments else save_or_other word arguments
+line_of (word ∷ arguments) = named_line word arguments
 
 -- ---- the texts of fields and conditions
 

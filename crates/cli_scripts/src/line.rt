@@ -1,9 +1,10 @@
 // The commands that the words of a line ask for.
 ghost use Rattle.std.specs.Prelude.{◌≡◌, IfOk, option_map};
-ghost use Rattle.std.specs.Option.{option_copied};
+ghost use Rattle.std.specs.Option.{option_and_then, option_copied};
 ghost use Rattle.facts.specs.Texts.{text_list};
 ghost use Rattle.cli_scripts.specs.Plain.{plain_form, plain_line, plain_rows};
-ghost use Rattle.cli_scripts.specs.Script.{list_bound, alone, with_name, with_two, other_of, append_as, append_of, append_or_other, create_of, option_at, option_or_at, limit_of, after_dashes, rows_of, save_of, save_or_other, line_of};
+ghost use Rattle.cli_scripts.specs.Script.{list_bound, alone, with_name, with_two, other_of, append_as, append_of, append_or_other, create_of, option_at, option_or_at, limit_of, after_dashes, rows_of, save_of, save_or_other};
+ghost use Rattle.cli_scripts.specs.Script.{command_of, is_long_option, names_option, without_options, named_line, line_of};
 
 use crate::append_options::{form_of, options_of};
 use cli_requests::number_of;
@@ -286,6 +287,81 @@ fn save_or_other<'a>(
     }
 }
 
+#[tactic(auto, unfolding(crate::specs::Script::command_of))]
+fn command_of<'a>(
+    alloc: Global,
+    word: &str,
+    arguments: &[&'a str],
+) -> Result<Option<ScriptLine<'a>>, AllocError>
+    ensures { IfOk result (λ line. option_map plain_line line ≡ command_of word.now (text_list arguments.now)) }
+{
+    if word == "create" {
+        create_of(alloc, arguments)
+    } else {
+        save_or_other(alloc, word, arguments)
+    }
+}
+
+fn is_long_option(word: &str) -> bool
+    ensures { result ≡ is_long_option word.now }
+{
+    word.as_bytes().starts_with(b"--")
+}
+
+#[tactic(auto, unfolding(crate::specs::Script::names_option))]
+fn names_option(line: &ScriptLine<'_>) -> bool
+    ensures { result ≡ names_option (plain_line line.now) }
+{
+    match line {
+        ScriptLine::Create { name, .. }
+        | ScriptLine::Import { name, .. }
+        | ScriptLine::Append { name, .. }
+        | ScriptLine::AppendText { name, .. }
+        | ScriptLine::Drop { name } => is_long_option(name),
+        ScriptLine::Save { from, to, .. } | ScriptLine::Rename { from, to } => is_long_option(from)
+            || is_long_option(to),
+        ScriptLine::Compact
+        | ScriptLine::Upgrade
+        | ScriptLine::Reopen
+        | ScriptLine::Begin
+        | ScriptLine::Commit => false,
+    }
+}
+
+// Returns the line, unless an option stands in place of the name of a table.
+#[tactic(auto, unfolding(crate::specs::Script::without_options))]
+fn without_options<'a>(line: Option<ScriptLine<'a>>) -> Option<ScriptLine<'a>>
+    ensures { option_map plain_line result ≡ option_and_then without_options (option_map plain_line line.entry) }
+{
+    let line = line?;
+    if names_option(&line) {
+        None
+    } else {
+        Some(line)
+    }
+}
+
+// Behind `--` the name of a table may look like an option.
+#[tactic(auto, unfolding(crate::specs::Script::named_line))]
+fn named_line<'a>(
+    alloc: Global,
+    word: &str,
+    arguments: &[&'a str],
+) -> Result<Option<ScriptLine<'a>>, AllocError>
+    ensures { IfOk result (λ line. option_map plain_line line ≡ named_line word.now (text_list arguments.now)) }
+{
+    match arguments {
+        [first, names @ ..] => {
+            if *first == "--" {
+                command_of(alloc, word, names)
+            } else {
+                Ok(without_options(command_of(alloc, word, arguments)?))
+            }
+        }
+        [] => command_of(alloc, word, arguments),
+    }
+}
+
 /// Returns the command that the words of a line ask for, whatever the texts of its fields or conditions are.
 ///
 /// # Errors
@@ -295,13 +371,7 @@ pub fn line_of<'a>(alloc: Global, words: &[&'a str]) -> Result<Option<ScriptLine
     ensures { IfOk result (λ line. option_map plain_line line ≡ line_of (text_list words.now)) }
 {
     match words {
-        [word, arguments @ ..] => {
-            if *word == "create" {
-                create_of(alloc, arguments)
-            } else {
-                save_or_other(alloc, word, arguments)
-            }
-        }
+        [word, arguments @ ..] => named_line(alloc, word, arguments),
         [] => Ok(None),
     }
 }
