@@ -3,8 +3,10 @@ use crate::about_words::about_line;
 use crate::asking_again::{AskedAgain, Served};
 use crate::kept_start::MOST_KEPT;
 use crate::streams_again::FoundOfStreams;
+use cli_commands::lacks_end;
 use cli_refusals::{FailedFile, FileReason};
 use cli_requests::StoreRequest;
+use cli_scripts::{ScriptLine, line_of, script_words};
 use std::alloc::Global;
 use std::fs;
 use std::rt::Files;
@@ -108,4 +110,63 @@ pub(crate) fn found_in_script<H: Files + AllocGlobal>(
         return Some(AskedAgain::File(file));
     }
     line_at(rt.alloc(), &script, number, is_applied, false)
+}
+
+// Returns the script that the request names, if all of it is there once more.
+fn whole_script<H: Files + AllocGlobal>(
+    rt: &H,
+    request: &StoreRequest<'_>,
+    served: Served<'_>,
+) -> Option<Vec<u8>> {
+    if !is_input(request) {
+        return read_again(rt, script_of(request)?);
+    }
+    if served.start.len() == MOST_KEPT {
+        return None;
+    }
+    Vec::from_slice(rt.alloc(), served.start).ok()
+}
+
+// Returns the file of a line whose stream is to be complete.
+fn complete_file<'a>(line: &ScriptLine<'a>) -> Option<&'a str> {
+    match line {
+        ScriptLine::Import {
+            file,
+            is_complete: true,
+            ..
+        }
+        | ScriptLine::Append {
+            file,
+            is_complete: true,
+            ..
+        } => Some(file),
+        _ => None,
+    }
+}
+
+// Returns whether these words name a stream that is to be complete, and that lacks its end.
+fn names_unended_stream<H: Files + AllocGlobal>(rt: &H, words: &[String]) -> Option<bool> {
+    let alloc = rt.alloc();
+    let texts: Vec<&str> = words.iter().map(|word| word.as_str()).collect(alloc).ok()?;
+    match complete_file(&line_of(alloc, &texts).ok()??) {
+        Some(path) => Some(lacks_end(&read_again(rt, path)?)),
+        None => Some(false),
+    }
+}
+
+/// Returns the first line of the script that the request names whose stream is to be complete and lacks its end.
+pub(crate) fn line_without_end<H: Files + AllocGlobal>(
+    rt: &H,
+    request: &StoreRequest<'_>,
+    served: Served<'_>,
+) -> Option<AskedAgain> {
+    let script = whole_script(rt, request, served)?;
+    let lines = script_words(rt.alloc(), &script).ok()?;
+    for (place, line) in lines.iter().enumerate() {
+        let words = line.as_ref()?;
+        if names_unended_stream(rt, words)? {
+            return found_in_script(rt, request, served, place as u64 + 1);
+        }
+    }
+    None
 }

@@ -3,7 +3,7 @@ ghost use Rattle.std.specs.Prelude.{◌≡◌, IfOk, option_map};
 ghost use Rattle.std.specs.Option.{option_and_then, option_copied};
 ghost use Rattle.facts.specs.Texts.{text_list};
 ghost use Rattle.cli_scripts.specs.Plain.{plain_form, plain_line, plain_rows};
-ghost use Rattle.cli_scripts.specs.Script.{list_bound, alone, with_name, with_two, other_of, append_as, append_of, append_or_other, create_of, option_at, option_or_at, limit_of, after_dashes, rows_of, save_of, save_or_other};
+ghost use Rattle.cli_scripts.specs.Script.{list_bound, alone, with_name, with_two, with_option, other_of, append_as, is_complete, append_of, append_or_other, create_of, option_at, option_or_at, limit_of, after_dashes, rows_of, save_of, save_or_other};
 ghost use Rattle.cli_scripts.specs.Script.{command_of, is_long_option, names_option, without_options, named_line, line_of};
 
 use crate::append_options::{form_of, options_of};
@@ -30,15 +30,17 @@ pub enum ScriptLine<'a> {
         name: &'a str,
         fields: Vec<&'a str>,
     },
-    /// Makes the table of the stream in a file, in place of one of this name.
+    /// Makes the table of the stream in a file, in place of one of this name. A stream that is to be complete must have its end.
     Import {
         name: &'a str,
         file: &'a str,
+        is_complete: bool,
     },
-    /// Appends the rows of the stream in a file to the table.
+    /// Appends the rows of the stream in a file to the table. A stream that is to be complete must have its end.
     Append {
         name: &'a str,
         file: &'a str,
+        is_complete: bool,
     },
     /// Appends the rows of the text in a file to the table.
     AppendText {
@@ -114,11 +116,30 @@ fn with_two<'a>(word: &str, name: &'a str, other: &'a str) -> Option<ScriptLine<
     ensures { option_map plain_line result ≡ with_two word.now name.now other.now }
 {
     if word == "import" {
-        Some(ScriptLine::Import { name, file: other })
+        Some(ScriptLine::Import {
+            name,
+            file: other,
+            is_complete: false,
+        })
     } else if word == "rename" {
         Some(ScriptLine::Rename {
             from: name,
             to: other,
+        })
+    } else {
+        None
+    }
+}
+
+#[tactic(auto, unfolding(crate::specs::Script::with_option))]
+fn with_option<'a>(word: &str, name: &'a str, file: &'a str, option: &str) -> Option<ScriptLine<'a>>
+    ensures { option_map plain_line result ≡ with_option word.now name.now file.now option.now }
+{
+    if word == "import" && option == "--complete" {
+        Some(ScriptLine::Import {
+            name,
+            file,
+            is_complete: true,
         })
     } else {
         None
@@ -133,6 +154,7 @@ fn other_of<'a>(word: &str, arguments: &[&'a str]) -> Option<ScriptLine<'a>>
         [] => alone(word),
         [name] => with_name(word, name),
         [name, other] => with_two(word, name, other),
+        [name, file, option] => with_option(word, name, file, option),
         _ => None,
     }
 }
@@ -142,7 +164,22 @@ fn append_as<'a>(name: &'a str, file: &'a str, form: Option<TextForm<'a>>) -> Sc
 {
     match form {
         Some(form) => ScriptLine::AppendText { name, file, form },
-        None => ScriptLine::Append { name, file },
+        None => ScriptLine::Append {
+            name,
+            file,
+            is_complete: false,
+        },
+    }
+}
+
+#[tactic(auto, unfolding(crate::specs::Script::is_complete))]
+fn is_complete(words: &[&str]) -> bool
+    ensures { result ≡ is_complete (text_list words.now) }
+{
+    match words {
+        [] => false,
+        [word] => *word == "--complete",
+        [_, _, ..] => false,
     }
 }
 
@@ -152,6 +189,13 @@ fn append_of<'a>(arguments: &[&'a str]) -> Option<ScriptLine<'a>>
 {
     match arguments {
         [name, file, words @ ..] => {
+            if is_complete(words) {
+                return Some(ScriptLine::Append {
+                    name: *name,
+                    file: *file,
+                    is_complete: true,
+                });
+            }
             let form = form_of(options_of(words)?)?;
             Some(append_as(name, file, form))
         }
