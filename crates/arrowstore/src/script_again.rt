@@ -148,7 +148,8 @@ fn complete_file<'a>(line: &ScriptLine<'a>) -> Option<&'a str> {
 fn names_unended_stream<H: Files + AllocGlobal>(rt: &H, words: &[String]) -> Option<bool> {
     let alloc = rt.alloc();
     let texts: Vec<&str> = words.iter().map(|word| word.as_str()).collect(alloc).ok()?;
-    match complete_file(&line_of(alloc, &texts).ok()??) {
+    let line = line_of(alloc, &texts).ok()??;
+    match complete_file(&line) {
         Some(path) => Some(lacks_end(&read_again(rt, path)?)),
         None => Some(false),
     }

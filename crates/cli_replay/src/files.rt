@@ -65,7 +65,10 @@ fn stream_of_file<F: Read + OpenFile + Drop, H: Files<File = F> + AllocGlobal>(
     ensures told { IfErr result IsOfStreams }
 {
     let bytes = front_of_file(rt, path)?;
-    if is_complete && lacks_end(&bytes) {
+    if !is_complete {
+        return Ok(bytes);
+    }
+    if lacks_end(&bytes) {
         return Err(Refusal::NoEnd);
     }
     Ok(bytes)

@@ -59,15 +59,15 @@ with_two word first second =
     if bytes_eq (codes "import") word then Some (import_file first second false)
     else if bytes_eq (codes "rename") word then Some (rename first second) else None
 
-unfoldable pub with_option : (word first second option : List ℕ) → Option PlainLine
-with_option word first second option =
+unfoldable pub complete_import : (word first second option : List ℕ) → Option PlainLine
+complete_import word first second option =
     if bytes_eq (codes "import") word && bytes_eq (codes "--complete") option then Some (import_file first second true) else None
 
 unfoldable pub other_of : List ℕ → List (List ℕ) → Option PlainLine
 other_of word [] = alone word
 other_of word (name ∷ []) = with_name word name
 other_of word (first ∷ second ∷ []) = with_two word first second
-other_of word (first ∷ second ∷ option ∷ []) = with_option word first second option
+other_of word (first ∷ second ∷ option ∷ []) = complete_import word first second option
 other_of word (first ∷ second ∷ third ∷ fourth ∷ more) = None
 
 -- rows are appended from a stream, or from a text in this form

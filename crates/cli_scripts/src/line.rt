@@ -3,7 +3,7 @@ ghost use Rattle.std.specs.Prelude.{◌≡◌, IfOk, option_map};
 ghost use Rattle.std.specs.Option.{option_and_then, option_copied};
 ghost use Rattle.facts.specs.Texts.{text_list};
 ghost use Rattle.cli_scripts.specs.Plain.{plain_form, plain_line, plain_rows};
-ghost use Rattle.cli_scripts.specs.Script.{list_bound, alone, with_name, with_two, with_option, other_of, append_as, is_complete, append_of, append_or_other, create_of, option_at, option_or_at, limit_of, after_dashes, rows_of, save_of, save_or_other};
+ghost use Rattle.cli_scripts.specs.Script.{list_bound, alone, with_name, with_two, complete_import, other_of, append_as, is_complete, append_of, append_or_other, create_of, option_at, option_or_at, limit_of, after_dashes, rows_of, save_of, save_or_other};
 ghost use Rattle.cli_scripts.specs.Script.{command_of, is_long_option, names_option, without_options, named_line, line_of};
 
 use crate::append_options::{form_of, options_of};
@@ -131,9 +131,14 @@ fn with_two<'a>(word: &str, name: &'a str, other: &'a str) -> Option<ScriptLine<
     }
 }
 
-#[tactic(auto, unfolding(crate::specs::Script::with_option))]
-fn with_option<'a>(word: &str, name: &'a str, file: &'a str, option: &str) -> Option<ScriptLine<'a>>
-    ensures { option_map plain_line result ≡ with_option word.now name.now file.now option.now }
+#[tactic(auto, unfolding(crate::specs::Script::complete_import))]
+fn complete_import<'a>(
+    word: &str,
+    name: &'a str,
+    file: &'a str,
+    option: &str,
+) -> Option<ScriptLine<'a>>
+    ensures { option_map plain_line result ≡ complete_import word.now name.now file.now option.now }
 {
     if word == "import" && option == "--complete" {
         Some(ScriptLine::Import {
@@ -154,7 +159,7 @@ fn other_of<'a>(word: &str, arguments: &[&'a str]) -> Option<ScriptLine<'a>>
         [] => alone(word),
         [name] => with_name(word, name),
         [name, other] => with_two(word, name, other),
-        [name, file, option] => with_option(word, name, file, option),
+        [name, file, option] => complete_import(word, name, file, option),
         _ => None,
     }
 }
