@@ -72,7 +72,8 @@ reading_refused remaining sectors OutOfMemory within why = tt
 reading_refused remaining sectors _ within why = absurd why
 
 -- a file can't be read, or lacks the end that it is to have, or memory is refused
-pub streams_refused : {F : Type 0} (remaining : F → Option (List ℕ)) (sectors : ℕ) (r : Refusal) → is_size sectors ≡ true → IsOfStreams r → RefusesReplay remaining sectors r
+pub streams_refused : {F : Type 0} (remaining : F → Option (List ℕ)) (sectors : ℕ) (r : Refusal) → is_size sectors ≡ true → IsOfStreams r
+    → RefusesReplay remaining sectors r
 streams_refused remaining sectors NoEnd within why = within
 streams_refused remaining sectors (Io File) within why = within
 streams_refused remaining sectors OutOfMemory within why = tt
