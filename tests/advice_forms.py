@@ -89,6 +89,11 @@ def is_made_with(facts, path, length, sectors, whole):
     return is_size and path == facts.path and int(length) == os.stat(path).st_size and int(sectors) == facts.made_with
 
 
+def is_bound(facts):
+    """Whether a line begins or ends a list of lines."""
+    return facts.line in (b"begin", b"commit")
+
+
 def refused_as(role):
     return lambda facts, text: facts.role == role and text == facts.word
 
@@ -148,7 +153,10 @@ FORMS = {
     "line_gzip": (r"The line begins as a file that gzip has compressed: `gzip -dc` gives its text\. ", lambda facts: (facts.line or b"").startswith(GZIP)),
     "line_mark": (r"The line begins with a byte order mark\. ", lambda facts: (facts.line or b"").startswith(MARK)),
     "line_utf_16": (r"The line begins with the byte order mark of UTF-16, but must be UTF-8\. ", lambda facts: (facts.line or b"").startswith(UTF_16)),
-    "line_return": (r"The line ends with a carriage return\. ", lambda facts: (facts.line or b"").endswith(b"\r")),
+    "line_return": (r"The line ends with a carriage return: `tr -d '\\r'` removes those of the script\. ", lambda facts: (facts.line or b"").endswith(b"\r")),
+    "option_name": (r"An option stands in place of the name of a table: if it is a name, write `--` before the names\. ", lambda facts: facts.is_option_name is True),
+    "list": (r"Each `begin` needs its `commit` behind it, before another `begin` and the end of the script\. ", lambda facts: is_bound(facts) and not facts.is_applied),
+    "one_commit": (r"Leave `begin` and `commit` out: all lines of the script are one commit\. ", lambda facts: is_bound(facts) and facts.is_applied is True),
     "record_of_file": (r"Record (\d+) of the file of the line is refused\. ", lambda facts, number: int(number) == facts.number),
     "whole_file": (r"The file of the line is refused as a whole\. ", lambda facts: facts.number == 0),
     "line_cut": (r"The last line has no line feed at its end: the script may be cut off\. ", lambda facts: facts.is_cut_off is True),
@@ -166,6 +174,9 @@ FORMS = {
     "unread_input": (r"The input cannot be read: (.*)\. ", lambda facts, reason: reason == facts.unread),
     "unwritten_output": (r"The output cannot be written: (.*)\. ", lambda facts, reason: reason == facts.unwritten),
     # Files and tables.
+    "empty_script": (r"The file `(.*)` is empty\. ", lambda facts, path: path == facts.path and os.stat(path).st_size == 0),
+    "named_with_return": (r"The file `(.*)` is named with a carriage return at its end: `tr -d '\\r'` removes those of the script\. ",
+                          lambda facts, path: path == facts.path and facts.has_return is True),
     "locked": (r"The file `(.*)` is locked by another program\. ", lambda facts, path: path == facts.path and facts.is_locked is True),
     "exists": (r"The file `(.*)` exists already\. ", lambda facts, path: path == facts.path and os.path.lexists(path)),
     "folder": (r"The file `(.*)` is a folder\. ", lambda facts, path: path == facts.path and os.path.isdir(path)),

@@ -12,6 +12,10 @@ MISSING, NO_FOLDER = os.strerror(errno.ENOENT), os.strerror(errno.ENOTDIR)
 WRONG_LINES = ("drop  t", "drop t u", "", "dorp t", "compact x", "rename a", "import t", "compact\r", "\ufeffcompact", "\ufeffx\r", " compact",
                "COMPACT", "create", "tables", "append t", "drop\tt", "x" * 100, "x" * 101, "é", "query t a = 1", "`", "reopen ", "# drop",
                "import a b c", "append t f --as xml", "append t f --as", "append t f --null a --null b", "append t f --as csv")
+# Lines that are refused for a reason of their own, with the form that says it.
+TOLD_LINES = {"begin": "list", "commit": "list", "drop --x": "option_name", "save t --columns": "option_name", "rename --t u": "option_name", "import --new f": "option_name",
+              "create --like a:int8": "option_name", "append --as f --as csv": "option_name", "save t --limit 5": "option_name", "drop --": None,
+              "save -- t": None}
 RIGHT_LINES = ("create t a:int32", "compact", "reopen", "drop t", "rename t u", "upgrade")
 
 
@@ -164,6 +168,10 @@ def draw_script(pick, stores):
         facts.also(code="G3", role="field", word=text)
         if " " in text or text.startswith('"'):
             return draw_script(pick, stores)
+    elif pick.random() < 0.3:
+        line = pick.choice(list(TOLD_LINES))
+        about = [form] if (form := TOLD_LINES[line]) else []
+        facts.also(is_option_name=form == "option_name")
     else:
         line = pick.choice(WRONG_LINES)
     facts.also(line=line.encode())
@@ -182,15 +190,29 @@ def draw_cut_script(pick, stores):
     return Draw(["apply", stores.path, script], b"", f"G3 BadScript {len(lines) + 1}", facts, (["line"] if shown(line) is not None else []) + ["line_cut"])
 
 
+def draw_applied_script(pick, stores):
+    """A script to be applied that is empty, in a file or on the input, or has a line that only `replay` takes."""
+    choice = pick.random()
+    if choice < 0.3:
+        return Draw(["apply", stores.path, "-"], b"", "G3 BadScript 1", Facts("G3", given=b""), ["empty"])
+    if choice < 0.6:
+        script = put(stores.fresh(), b"")
+        return Draw(["apply", stores.path, script], b"", "G3 BadScript 1", Facts("G3", path=script), ["empty_script"])
+    line = pick.choice(("begin", "commit"))
+    script = put(stores.fresh(), f"drop t\n{line}\ndrop u\n".encode())
+    return Draw(["apply", stores.path, script], b"", "G3 BadScript 2", Facts("G3", line=line.encode(), is_applied=True), ["line", "one_commit"])
+
+
 def draw_unread_in_script(pick, stores):
-    path = os.path.join(stores.room, pick.choice(("none", "é", "esc\x1b", "n" * 120, "")))
+    path = os.path.join(stores.room, pick.choice(("none", "é", "esc\x1b", "n" * 120, "", "none\r", "é\r", "\r")))
     script = put(stores.fresh(), f"create t a:int8\n{pick.choice(('import', 'append'))} t {path}\n".encode())
     if len(path.encode()) > 100:
         return Draw(["replay", script, "--sectors", "64"], b"", "G1 Io", Facts("G1"), [], "missing")
     if os.path.isdir(path):
         facts, due = of_file(Facts("G1", unread=os.strerror(errno.EISDIR)), path, "unread_file")
         return Draw(["replay", script, "--sectors", "64"], b"", "G1 Io", facts, due, "other")
-    facts, due = of_file(Facts("G1", unopened=MISSING), path, "unopened")
+    form = "named_with_return" if path.endswith("\r") else "unopened"
+    facts, due = of_file(Facts("G1", unopened=MISSING, has_return=form == "named_with_return"), path.removesuffix("\r"), form)
     return Draw(["replay", script, "--sectors", "64"], b"", "G1 Io", facts, due, "missing")
 
 

@@ -108,11 +108,49 @@ fn about_conditions(alloc: Global, texts: &[&str]) -> Option<String> {
     None
 }
 
-fn about_texts(alloc: Global, words: &[String]) -> Option<String> {
+// Returns that an option stands in place of a name, if the words are a line once `--` stands before the names.
+fn about_option(alloc: Global, words: &[&str]) -> Option<String> {
+    let (command, names) = words.split_first()?;
+    let (first, _) = names.split_first()?;
+    if *first == "--" {
+        return None;
+    }
+    let mut line = Vec::new(alloc);
+    line.push(*command).ok()?;
+    line.push("--").ok()?;
+    for name in names {
+        line.push(*name).ok()?;
+    }
+    line_of(alloc, &line).ok()??;
+    String::from_str(
+        alloc,
+        "An option stands in place of the name of a table: if it is a name, write `--` before the names. ",
+    )
+    .ok()
+}
+
+// Returns where `begin` and `commit` may stand.
+fn about_list(alloc: Global, is_applied: bool) -> Option<String> {
+    String::from_str(
+        alloc,
+        if is_applied {
+            "Leave `begin` and `commit` out: all lines of the script are one commit. "
+        } else {
+            "Each `begin` needs its `commit` behind it, before another `begin` and the end of the script. "
+        },
+    )
+    .ok()
+}
+
+fn about_texts(alloc: Global, words: &[String], is_applied: bool) -> Option<String> {
     let texts: Vec<&str> = words.iter().map(|word| word.as_str()).collect(alloc).ok()?;
-    match line_of(alloc, &texts).ok()?? {
+    let Some(line) = line_of(alloc, &texts).ok()? else {
+        return about_option(alloc, &texts);
+    };
+    match line {
         ScriptLine::Create { fields, .. } => about_fields(alloc, &fields),
         ScriptLine::Save { rows, .. } => about_conditions(alloc, &rows.conditions),
+        ScriptLine::Begin | ScriptLine::Commit => about_list(alloc, is_applied),
         _ => None,
     }
 }
@@ -127,11 +165,12 @@ fn about_marks(alloc: Global, line: &[u8]) -> Option<String> {
     .ok()
 }
 
-/// Returns which text of a field or condition of a line of a script is refused, and what is wrong with it; or that its quotation marks are wrong.
-pub(crate) fn about_line(alloc: Global, line: &[u8]) -> Option<String> {
+/// Returns what is wrong with a line of a script: a text of a field or condition, an option in place of a name, the place of a `begin` or `commit`, or
+/// its quotation marks.
+pub(crate) fn about_line(alloc: Global, line: &[u8], is_applied: bool) -> Option<String> {
     let lines = script_words(alloc, line).ok()?;
     match lines.first()? {
-        Some(words) => about_texts(alloc, words),
+        Some(words) => about_texts(alloc, words, is_applied),
         None => about_marks(alloc, line),
     }
 }

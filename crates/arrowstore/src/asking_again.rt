@@ -10,7 +10,7 @@ use crate::in_place_of_store::{
 use crate::input_again::{FoundField, field_of_no_table};
 use crate::later_version::file_of_later_version;
 use crate::noted::Failure;
-use crate::script_again::{RefusedLine, line_of_script};
+use crate::script_again::{RefusedLine, found_in_script, line_without_end};
 use crate::streams_again::{FoundOfStreams, found_in_stream};
 use crate::unread_tables::unread_table;
 use cli_refusals::{FailedFile, Refusal, Side};
@@ -139,9 +139,9 @@ fn found_of<F: Read + Write + Seek + OpenFile + LockFile + Drop, H: Files<File =
             Some(AskedAgain::Listed(about_tables(rt.alloc(), &tables)?))
         }
         Refusal::BadScript(number) | Refusal::Line(number, _) | Refusal::TextLine(number, _) => {
-            let line = line_of_script(rt, request, served.start, *number)?;
-            Some(AskedAgain::Line(line))
+            found_in_script(rt, request, served, *number)
         }
+        Refusal::NoEnd => line_without_end(rt, request, served),
         Refusal::Query(_) | Refusal::Store(tables::Refusal::Query(_)) => {
             let table = queried_table(rt, request)?;
             Some(AskedAgain::Queried(table))

@@ -39,15 +39,32 @@ pub(crate) fn cause_of(failure: &Option<Failure>) -> FileCause {
     }
 }
 
-// A long path that a script names is not shown: it could hide the rest of the line.
-fn may_be_shown(request: &StoreRequest<'_>, path: &str) -> bool {
+// Returns whether a script names the file at `path`, and not the command line.
+fn is_of_script(request: &StoreRequest<'_>, path: &str) -> bool {
     match request {
-        StoreRequest::Replay(words) => path == words.script || path.len() <= MOST_SHOWN,
+        StoreRequest::Replay(words) => path != words.script,
         StoreRequest::Apply {
             path: store,
             script,
-        } => path == *store || path == *script || path.len() <= MOST_SHOWN,
-        _ => true,
+        } => path != *store && path != *script,
+        _ => false,
+    }
+}
+
+// A long path that a script names is not shown: it could hide the rest of the line.
+fn may_be_shown(request: &StoreRequest<'_>, path: &str) -> bool {
+    !is_of_script(request, path) || path.len() <= MOST_SHOWN
+}
+
+// Returns the path of a missing file as a script names it, without the carriage return at its end: the lines of the script may end with one.
+fn path_before_return<'a>(request: &StoreRequest<'_>, failure: &'a Failure) -> Option<&'a str> {
+    let path = failure.path.as_str();
+    let before = path.strip_suffix('\r')?;
+    let is_missing = failure.error.kind() == ErrorKind::NotFound;
+    if matches!(failure.call, FileCall::Open) && is_missing && is_of_script(request, path) {
+        Some(before)
+    } else {
+        None
     }
 }
 
@@ -158,6 +175,9 @@ fn failed_file<H: Files + AllocGlobal>(
     let path = failure.path.as_str();
     if !may_be_shown(request, path) {
         return None;
+    }
+    if let Some(before) = path_before_return(request, failure) {
+        return FailedFile::new(rt.alloc(), before, FileReason::NamedWithReturn);
     }
     let reason = reason_of(rt, request, path, failure.call, &failure.error)?;
     FailedFile::new(rt.alloc(), path, reason)

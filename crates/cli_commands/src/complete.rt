@@ -38,8 +38,8 @@ fn message_length(bytes: &[u8]) -> Option<usize>
     }
 }
 
-// Returns whether the bytes are whole messages, one after another, and nothing is after them.
-fn lacks_end(bytes: &[u8]) -> bool
+/// Returns whether the bytes are whole messages, one after another, and nothing is after them: a stream without its end.
+pub fn lacks_end(bytes: &[u8]) -> bool
     ensures { IsTrue result ↔ LacksEnd bytes.now }
 {
     next_message_is_framed();

@@ -33,7 +33,7 @@ mod upgrading;
 pub use applying::{ListedCommand, apply_listed};
 pub use changing::{append_input, apply_command, create_like, import_input, import_new};
 pub use compacting::compact_tables;
-pub use complete::{append_complete, import_complete};
+pub use complete::{append_complete, import_complete, lacks_end};
 pub use copying::copy_tables;
 pub use creating::{drop_table, new_table, rename_table};
 pub use input::{LARGEST_INPUT, read_input};

@@ -24,6 +24,8 @@ other_length_text other =
 abbrev pub reason_text : FileReason → List ℕ
 reason_text reasons.Locked = codes "is locked by another program"
 reason_text reasons.Exists = codes "exists already"
+reason_text reasons.NamedWithReturn = codes "is named with a carriage return at its end: `tr -d '\\r'` removes those of the script"
+reason_text reasons.Empty = codes "is empty"
 reason_text reasons.Folder = codes "is a folder"
 reason_text reasons.NotRegular = codes "is not a regular file"
 reason_text (reasons.Length bytes) = codes "has " ++ decimal bytes ++ codes " bytes"
@@ -57,6 +59,8 @@ unwritten_remedy refusal = remedy refusal
 abbrev pub reason_remedy : FileReason → Refusal → List ℕ
 reason_remedy reasons.Locked refusal = remedies.WAIT.now
 reason_remedy reasons.Exists refusal = remedies.NEW_PATH.now
+reason_remedy reasons.NamedWithReturn refusal = remedies.PATH_AND_RIGHTS.now
+reason_remedy reasons.Empty refusal = remedy refusal
 reason_remedy reasons.Folder refusal = remedies.NO_FOLDER.now
 reason_remedy reasons.NotRegular refusal = remedies.NO_FOLDER.now
 reason_remedy (reasons.Length bytes) refusal = remedies.FILE_OF_A_STORE.now

@@ -26,7 +26,9 @@ line_form line =
 
 -- a line of a script, by its last byte too
 abbrev pub script_line_form : List ℕ → List ℕ
-script_line_form line = if ends_with nat_eq line (13 ∷ []) then codes "The line ends with a carriage return. " else line_form line
+script_line_form line =
+    if ends_with nat_eq line (13 ∷ []) then codes "The line ends with a carriage return: `tr -d '\\r'` removes those of the script. "
+    else line_form line
 
 -- a name in a header, where another one is expected
 abbrev pub name_form : List ℕ → List ℕ

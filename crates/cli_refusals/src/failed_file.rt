@@ -59,6 +59,10 @@ pub enum FileReason {
     Locked,
     /// It was to be made, but something is at its path.
     Exists,
+    /// A script names it with a carriage return at the end, and no file has that name.
+    NamedWithReturn,
+    /// It is a script without lines.
+    Empty,
     /// It is a folder.
     Folder,
     /// It is a named pipe or something else without stored bytes.
@@ -116,6 +120,8 @@ impl FileReason {
         match self {
             FileReason::Locked => WAIT,
             FileReason::Exists => NEW_PATH,
+            FileReason::NamedWithReturn => PATH_AND_RIGHTS,
+            FileReason::Empty => refusal.remedy(),
             FileReason::Folder | FileReason::NotRegular => NO_FOLDER,
             FileReason::Length(_) => FILE_OF_A_STORE,
             FileReason::OtherLength(other) => other.remedy(),
@@ -141,6 +147,10 @@ impl fmt::Display for FileReason {
         match self {
             FileReason::Locked => f.write_str("is locked by another program"),
             FileReason::Exists => f.write_str("exists already"),
+            FileReason::NamedWithReturn => f.write_str(
+                "is named with a carriage return at its end: `tr -d '\\r'` removes those of the script",
+            ),
+            FileReason::Empty => f.write_str("is empty"),
             FileReason::Folder => f.write_str("is a folder"),
             FileReason::NotRegular => f.write_str("is not a regular file"),
             FileReason::Length(bytes) => write!(f, "has {bytes} bytes"),

@@ -55,7 +55,7 @@ pub(crate) fn script_line_form(line: &[u8]) -> &'static str
     ensures { result.now ≡ script_line_form line.now }
 {
     if line.ends_with(b"\r") {
-        "The line ends with a carriage return. "
+        "The line ends with a carriage return: `tr -d '\\r'` removes those of the script. "
     } else {
         line_form(line)
     }

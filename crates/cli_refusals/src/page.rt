@@ -146,7 +146,8 @@ or appended. If no advice follows a fault, the cause is the program that wrote t
   ",
     NEW_OUTPUT,
     "
-  For a file that is locked: ",
+  For a file that is locked:
+  ",
     WAIT,
     "
   For a file to be made that exists: ",
@@ -216,7 +217,8 @@ or appended. If no advice follows a fault, the cause is the program that wrote t
   a command of a script, or the text of a field (P), the form of a condition (Q2) or the number of a `--limit`
   is refused. `apply` takes only commands on tables, and so does `replay` between `begin` and `commit`; each
   `begin` has its `commit`. `replay` takes no `append` with `--as csv` or `--as jsonl`. A script of `apply`
-  has a line, and its last one a line feed: if not, it may be cut off, or what should write it failed.
+  has a line, and its last one a line feed: if not, it may be cut off, or what should write it failed. No name
+  of a table begins with `--`, unless `--` stands before the names: so a forgotten name is noticed.
   ",
     LINES_OF_A_SCRIPT,
     "

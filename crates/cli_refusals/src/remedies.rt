@@ -57,7 +57,7 @@ pub const DONE_ALREADY: &str = "The command is done: do not run it again.";
 pub const NEW_OUTPUT: &str = "Check the output, and run the command again: it changes nothing.";
 
 pub const WAIT: &str =
-    "Wait until the other program is done with it, and try again; with `--wait` the command does so.";
+    "Wait until the other program is done with it, or give `--wait`. If this command runs under `flock` on the store's own file, lock another file.";
 
 pub const NEW_PATH: &str =
     "Give a path where nothing is: no file is overwritten. A file there may be what an interrupted `format` or `copy` has left.";
@@ -189,7 +189,7 @@ pub const NAMES_OF_COLUMNS: &str =
     "Give names as `schema` prints them, without quotation marks, in `--columns` each once. A name that two columns have can't be used, nor can `--objects` then.";
 
 pub const FORM_OF_A_CONDITION: &str =
-    "Write `NAME OP LITERAL`, `NAME is null` or `NAME is not null`. OP: = != < <= > or >=. LITERAL has the column's type: dates are integers unless `--dates iso`.";
+    "Write `NAME OP LITERAL`, `NAME is null` or `NAME is not null`. OP: = != < <= > >=. LITERAL: the column's type; dates as integers, but in `query --dates iso`.";
 
 pub const TEST_FOR_NULL: &str = "Use `is null` or `is not null` for such a column.";
 

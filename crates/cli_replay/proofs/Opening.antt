@@ -3,7 +3,7 @@ use Rattle.std.proofs.Common.{◌≡◌, Bool, true, false, inl, inr, refl, subs
 use Rattle.commit.specs.declared.opening_refusal.OpeningRefusal.{OpeningRefusal}
 use Rattle.commit.specs.declared.opening_refusal.OpeningRefusal.TheVariants as openings
 use Rattle.cli_refusals.specs.declared.refusal.Refusal.{Refusal}
-use Rattle.cli_refusals.specs.declared.refusal.Refusal.TheVariants.{TooManyBytes, Io, Opening, OutOfMemory}
+use Rattle.cli_refusals.specs.declared.refusal.Refusal.TheVariants.{NoEnd, TooManyBytes, Io, Opening, OutOfMemory}
 use Rattle.cli_refusals.specs.declared.refusal.Side.TheVariants.{File}
 use Rattle.sector_dev.specs.declared.device.SectorDevice.{Ghosts}
 use Rattle.tables.specs.Tables.{no_tables}
@@ -20,7 +20,7 @@ use Rattle.store.specs.declared.call.Reply.TheVariants as replies_in
 use Rattle.commit.specs.Standing.{is_size}
 use Rattle.store_runs.specs.Steps.{Step, StepOpen}
 use Rattle.std.specs.Prelude.{◌⊎◌, ℕ, List, Option}
-use Rattle.cli_replay.specs.Replay.{IsOfPlaying, IsOfReading, RefusesReplay}
+use Rattle.cli_replay.specs.Replay.{IsOfPlaying, IsOfReading, IsOfStreams, RefusesReplay}
 use Rattle.cli_replay.specs.Playing.{AreOfListing, IsOfListing, IsOfOpening}
 use Rattle.sector_dev.specs.Disk.{Story}
 use Rattle.sector_dev.specs.declared.model.ModelDevice.{ModelDevice}
@@ -70,6 +70,14 @@ pub reading_refused : {F : Type 0} (remaining : F → Option (List ℕ)) (sector
 reading_refused remaining sectors (Io File) within why = within
 reading_refused remaining sectors OutOfMemory within why = tt
 reading_refused remaining sectors _ within why = absurd why
+
+-- a file can't be read, or lacks the end that it is to have, or memory is refused
+pub streams_refused : {F : Type 0} (remaining : F → Option (List ℕ)) (sectors : ℕ) (r : Refusal) → is_size sectors ≡ true → IsOfStreams r
+    → RefusesReplay remaining sectors r
+streams_refused remaining sectors NoEnd within why = within
+streams_refused remaining sectors (Io File) within why = within
+streams_refused remaining sectors OutOfMemory within why = tt
+streams_refused remaining sectors _ within why = absurd why
 
 -- a script is too long, or can't be read
 pub script_unread : {F : Type 0} (remaining : F → Option (List ℕ)) (sectors : ℕ) (r : Refusal) → is_size sectors ≡ true → (r ≡ TooManyBytes) ⊎ IsOfReading r → RefusesReplay remaining sectors r

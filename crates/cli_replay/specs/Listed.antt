@@ -5,14 +5,14 @@ use Rattle.tables.specs.View.{command_of}
 use Rattle.cli_commands.specs.declared.applying.ListedCommand.{ListedCommand}
 use Rattle.cli_commands.specs.declared.applying.ListedCommand.TheVariants.{Known, Text}
 use Rattle.cli_refusals.specs.declared.refusal.Refusal.{Refusal}
-use Rattle.cli_refusals.specs.declared.refusal.Refusal.TheVariants.{Io, BadScript, TooManyBytes, OutOfMemory}
+use Rattle.cli_refusals.specs.declared.refusal.Refusal.TheVariants.{Io, BadScript, NoEnd, TooManyBytes, OutOfMemory}
 use Rattle.cli_refusals.specs.declared.refusal.Side.TheVariants.{File}
 use Rattle.cli_scripts.specs.declared.script.ScriptError.TheVariants.{BadLine}
 use Rattle.cli_scripts.specs.Items.{PlainItem, one, listed, is_alone, is_known_change}
 use Rattle.cli_scripts.specs.Plain.{plain_form}
 use Rattle.cli_scripts.specs.Words.{is_ended}
 use Rattle.cli_scripts.specs.Script.{IsScriptOfChanges, PlainLine, append_text, AreTested, changes_tables}
-use Rattle.cli_replay.specs.Replay.{IsCommandOfLine, IsOfFile, IsOfReading}
+use Rattle.cli_replay.specs.Replay.{IsCommandOfLine, IsOfFile, IsOfStreams}
 
 -- the texts of a line can be parsed
 abbrev pub IsTested : PlainLine → Type 0
@@ -54,18 +54,20 @@ pub record HasCommands {F : Type 0} (remaining : F → Option (List ℕ)) (scrip
   pub ended : is_ended script ≡ true
   pub are : AreListedOfLines remaining lines commands
 
--- why the files of lines are not read: one can't be read, or memory is refused, or a text is too long
+-- why the files of lines are not read: one can't be read, or memory is refused, or a text is too long, or a stream lacks the end that it is to have
 abbrev pub IsOfFiles : Refusal → Type 0
 IsOfFiles TooManyBytes = Unit {0}
-IsOfFiles refusal = IsOfReading refusal
+IsOfFiles refusal = IsOfStreams refusal
 
 -- why a script has none: the line of this number is the first that is no command or changes no tables; or all lines are right, and the last one lacks its line
--- feed, or there is no first line, or a file that one of them names can't be read, or has a text that is too long; or memory is refused
+-- feed, or there is no first line, or a file that one of them names can't be read, or has a text that is too long, or a stream without the end that it is to
+-- have; or memory is refused
 abbrev pub RefusesCommands : (script : List ℕ) → Refusal → Type 0
 RefusesCommands script (BadScript number) =
     IsScriptOfChanges script (Err (BadLine number))
     ⊎ ((lines : List PlainLine) × IsScriptOfChanges script (Ok lines) × (is_ended script ≡ false) × (number ≡ max (length lines) 1))
 RefusesCommands script (Io File) = (lines : List PlainLine) × IsScriptOfChanges script (Ok lines)
 RefusesCommands script TooManyBytes = (lines : List PlainLine) × IsScriptOfChanges script (Ok lines)
+RefusesCommands script NoEnd = (lines : List PlainLine) × IsScriptOfChanges script (Ok lines)
 RefusesCommands script OutOfMemory = Unit {0}
 RefusesCommands script _ = ⊥

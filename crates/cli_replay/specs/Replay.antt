@@ -1,5 +1,5 @@
 -- The replay of a script: on which device, what was answered, what a crash left of it, and what is printed.
-use Rattle.std.specs.Prelude.{◌≡◌, ◌+◌, ◌-◌, ◌^◌, ◌++◌, ℕ, zero, suc, min, true, false, List, [], ◌∷◌, map, take, length, codes, Option, Some, IfSome, Ok, Err}
+use Rattle.std.specs.Prelude.{◌≡◌, ◌+◌, ◌-◌, ◌^◌, ◌++◌, ℕ, Bool, zero, suc, min, true, false, List, [], ◌∷◌, map, take, length, codes, Option, Some, IfSome, Ok, Err}
 use Rattle.sector_dev.specs.Disk.{now, shown_image}
 use Rattle.sector_dev.specs.Chosen.{IsChosen}
 use Rattle.sector_dev.specs.Faults.{no_faults}
@@ -31,10 +31,11 @@ use Rattle.commit.specs.declared.opening_refusal.OpeningRefusal.{OpeningRefusal}
 use Rattle.commit.specs.declared.sector.FormatVersion.{FormatVersion}
 use Rattle.commit.specs.declared.opening_refusal.OpeningRefusal.TheVariants as openings
 use Rattle.cli_refusals.specs.declared.refusal.Refusal.{Refusal}
-use Rattle.cli_refusals.specs.declared.refusal.Refusal.TheVariants.{TooManyBytes, Io, BadScript, Opening, OutOfMemory}
+use Rattle.cli_refusals.specs.declared.refusal.Refusal.TheVariants.{NoEnd, TooManyBytes, Io, BadScript, Opening, OutOfMemory}
 use Rattle.cli_refusals.specs.declared.refusal.Side.TheVariants.{File, Output}
 use Rattle.cli_commands.specs.declared.input.TheConstants.{LARGEST_INPUT}
 use Rattle.cli_commands.specs.Changing.{StateSchema}
+use Rattle.cli_commands.specs.Complete.{LacksEnd}
 use Rattle.civil_days.specs.declared.date_form.DateForm.TheVariants.{Numbers}
 use Rattle.cli_commands.specs.Selecting.{stated_query}
 use Rattle.query.specs.Query.{PlainQuery}
@@ -54,6 +55,14 @@ IsOfFile {F} remaining bytes = (file : F) × IfSome (remaining file) (λ all. by
 abbrev pub IsFrontOfFile : {F : Type 0} → (remaining : F → Option (List ℕ)) → List ℕ → Type 0
 IsFrontOfFile {F} remaining bytes = (file : F) × IfSome (remaining file) (λ all. bytes ≡ take (LARGEST_INPUT + 1) all)
 
+-- a stream that is to be complete does not lack its end
+abbrev pub HasItsEnd : (complete : Bool) → List ℕ → Type 0
+HasItsEnd complete bytes = complete ≡ true → ¬ LacksEnd bytes
+
+-- the stream of a line: the first bytes of some file, with its end if it is to be complete
+abbrev pub IsStreamOfLine : {F : Type 0} → (remaining : F → Option (List ℕ)) → (complete : Bool) → List ℕ → Type 0
+IsStreamOfLine remaining complete bytes = IsFrontOfFile remaining bytes × HasItsEnd complete bytes
+
 -- the command saves these rows
 abbrev pub SavesRows : (from to : List ℕ) → PlainRows → PlainCommand → Type 0
 SavesRows from to rows command = (query : PlainQuery) × (stated_query rows.conditions rows.columns rows.limit Numbers ≡ Some query) × (command ≡ commands.save_as from to query)
@@ -61,8 +70,10 @@ SavesRows from to rows command = (query : PlainQuery) × (stated_query rows.cond
 -- the command of a line that changes tables
 abbrev pub IsCommandOfLine : {F : Type 0} → (remaining : F → Option (List ℕ)) → PlainLine → PlainCommand → Type 0
 IsCommandOfLine remaining (create name texts) command = (s : PlainSchema) × StateSchema texts s × (command ≡ commands.create name s)
-IsCommandOfLine remaining (import_file name path) command = (bytes : List ℕ) × IsFrontOfFile remaining bytes × (command ≡ commands.import_stream name bytes)
-IsCommandOfLine remaining (append_file name path) command = (bytes : List ℕ) × IsFrontOfFile remaining bytes × (command ≡ commands.append_stream name bytes)
+IsCommandOfLine remaining (import_file name path complete) command =
+    (bytes : List ℕ) × IsStreamOfLine remaining complete bytes × (command ≡ commands.import_stream name bytes)
+IsCommandOfLine remaining (append_file name path complete) command =
+    (bytes : List ℕ) × IsStreamOfLine remaining complete bytes × (command ≡ commands.append_stream name bytes)
 IsCommandOfLine remaining (save from to rows) command = SavesRows from to rows command
 IsCommandOfLine remaining (rename from to) command = command ≡ commands.rename from to
 IsCommandOfLine remaining (drop name) command = command ≡ commands.drop_table name
@@ -177,6 +188,11 @@ IsOfReading (Io File) = Unit {0}
 IsOfReading OutOfMemory = Unit {0}
 IsOfReading _ = ⊥
 
+-- why the files of lines that are played are not read: one can't be, or lacks the end that it is to have, or memory is refused
+abbrev pub IsOfStreams : Refusal → Type 0
+IsOfStreams NoEnd = Unit {0}
+IsOfStreams refusal = IsOfReading refusal
+
 -- why a new device, on which no store is, does not get one: no store has its size, or memory is refused, to the device too
 abbrev pub IsOfNewDevice : (sectors : ℕ) → OpeningRefusal → Type 0
 IsOfNewDevice sectors (openings.Damaged cause) = (cause ≡ DeviceSize) × (is_size sectors ≡ false)
@@ -203,7 +219,7 @@ RefusesScript script OutOfMemory = Unit {0}
 RefusesScript script _ = ⊥
 
 -- why a script is not replayed: no store has this number of sectors, which is reported first; the line of this number is the first invalid one of
--- the script in some file; a file can't be read, or the output can't be written; or memory is refused
+-- the script in some file; a file can't be read, or lacks the end that it is to have, or the output can't be written; or memory is refused
 abbrev pub RefusesReplay : {F : Type 0} → (remaining : F → Option (List ℕ)) → (sectors : ℕ) → Refusal → Type 0
 RefusesReplay remaining sectors (Opening refusal) = IsOfNewDevice sectors refusal
 RefusesReplay remaining sectors (BadScript number) = (is_size sectors ≡ true)
@@ -211,5 +227,6 @@ RefusesReplay remaining sectors (BadScript number) = (is_size sectors ≡ true)
 RefusesReplay remaining sectors (Io File) = is_size sectors ≡ true
 RefusesReplay remaining sectors (Io Output) = is_size sectors ≡ true
 RefusesReplay remaining sectors TooManyBytes = is_size sectors ≡ true
+RefusesReplay remaining sectors NoEnd = is_size sectors ≡ true
 RefusesReplay remaining sectors OutOfMemory = Unit {0}
 RefusesReplay remaining sectors _ = ⊥

@@ -4,7 +4,7 @@ ghost use Rattle.std.specs.List.{AllByRecursion};
 ghost use Rattle.cli_scripts.specs.Items.{is_alone, number_of};
 ghost use Rattle.cli_scripts.specs.Plain.{plain_item, plain_items, plain_line};
 ghost use Rattle.cli_replay.specs.Listed.{IsPlayable, IsTested};
-ghost use Rattle.cli_replay.specs.Replay.{IsCallOfItem, IsCallOfLine, AreCallsOfItems, IsOfReading};
+ghost use Rattle.cli_replay.specs.Replay.{IsCallOfItem, IsCallOfLine, AreCallsOfItems, IsOfStreams};
 
 use crate::commands::{command_of, commands_of};
 use cli_refusals::Refusal;
@@ -22,7 +22,7 @@ fn call_of_line<F: Read + OpenFile + Drop, H: Files<File = F> + AllocGlobal>(
     requires tested { IsTested (plain_line line.now) }
     requires alone { is_alone (plain_line line.now) ≡ true }
     ensures call { IfOk result (IsCallOfLine F.remaining (plain_line line.now)) }
-    ensures told { IfErr result IsOfReading }
+    ensures told { IfErr result IsOfStreams }
 {
     match line {
         ScriptLine::Compact => Ok(Call::Compact),
@@ -44,7 +44,7 @@ fn call_of<F: Read + OpenFile + Drop, H: Files<File = F> + AllocGlobal>(
 ) -> Result<Call, Refusal>
     requires { IsPlayable (plain_item item.now) }
     ensures call { IfOk result (IsCallOfItem F.remaining (plain_item item.now)) }
-    ensures told { IfErr result IsOfReading }
+    ensures told { IfErr result IsOfStreams }
 {
     match item {
         ScriptItem::Line { line, .. } => call_of_line(rt, line),
@@ -59,7 +59,7 @@ pub(crate) fn calls_of<F: Read + OpenFile + Drop, H: Files<File = F> + AllocGlob
 ) -> Result<Vec<Call>, Refusal>
     requires { AllByRecursion IsPlayable (plain_items items.now) }
     ensures calls { IfOk result (λ calls. AreCallsOfItems F.remaining (plain_items items.now) calls.items) }
-    ensures told { IfErr result IsOfReading }
+    ensures told { IfErr result IsOfStreams }
 {
     let mut calls = Vec::with_capacity(rt.alloc(), items.len())?;
     for item in items {

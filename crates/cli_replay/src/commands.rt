@@ -8,7 +8,7 @@ ghost use Rattle.tables.specs.View.{command_of};
 ghost use Rattle.cli_scripts.specs.Plain.{plain_line, plain_lines, plain_rows};
 ghost use Rattle.cli_scripts.specs.Script.{StateFields, are_conditions};
 ghost use Rattle.cli_replay.specs.Listed.{IsKnownChange};
-ghost use Rattle.cli_replay.specs.Replay.{AreCommandsOfLines, IsCommandOfLine, IsOfReading, SavesRows};
+ghost use Rattle.cli_replay.specs.Replay.{AreCommandsOfLines, IsCommandOfLine, IsOfStreams, SavesRows};
 
 use crate::files::named_input;
 use civil_days::DateForm;
@@ -68,16 +68,24 @@ pub(crate) fn command_of<F: Read + OpenFile + Drop, H: Files<File = F> + AllocGl
 ) -> Result<Command, Refusal>
     requires { IsKnownChange (plain_line line.now) }
     ensures command { IfOk result (λ c. IsCommandOfLine F.remaining (plain_line line.now) (command_of c)) }
-    ensures told { IfErr result IsOfReading }
+    ensures told { IfErr result IsOfStreams }
 {
     let command = match line {
         ScriptLine::Create { name, fields } => create(rt.alloc(), name, fields)?,
-        ScriptLine::Import { name, file } => {
-            let (name, bytes) = named_input(rt, name, file)?;
+        ScriptLine::Import {
+            name,
+            file,
+            is_complete,
+        } => {
+            let (name, bytes) = named_input(rt, name, file, *is_complete)?;
             Command::ImportStream { name, bytes }
         }
-        ScriptLine::Append { name, file } => {
-            let (name, bytes) = named_input(rt, name, file)?;
+        ScriptLine::Append {
+            name,
+            file,
+            is_complete,
+        } => {
+            let (name, bytes) = named_input(rt, name, file, *is_complete)?;
             Command::AppendStream { name, bytes }
         }
         ScriptLine::Save { from, to, rows } => save(rt.alloc(), from, to, rows)?,
@@ -100,7 +108,7 @@ pub(crate) fn commands_of<F: Read + OpenFile + Drop, H: Files<File = F> + AllocG
 ) -> Result<Vec<Command>, Refusal>
     requires { AllByRecursion IsKnownChange (plain_lines lines.now) }
     ensures commands { IfOk result (λ commands. AreCommandsOfLines F.remaining (plain_lines lines.now) commands.items) }
-    ensures told { IfErr result IsOfReading }
+    ensures told { IfErr result IsOfStreams }
 {
     let mut commands = Vec::with_capacity(rt.alloc(), lines.len())?;
     for line in lines {

@@ -1,8 +1,8 @@
 // Reads the files that a script needs.
 ghost use Rattle.std.specs.Prelude.{◌≡◌, ◌≢◌, ◌⊎◌, string_bytes, IfOk, IfErr};
-ghost use Rattle.cli_replay.specs.Replay.{IsOfFile, IsFrontOfFile, IsOfReading};
+ghost use Rattle.cli_replay.specs.Replay.{IsOfFile, IsFrontOfFile, HasItsEnd, IsStreamOfLine, IsOfReading, IsOfStreams};
 
-use cli_commands::LARGEST_INPUT;
+use cli_commands::{LARGEST_INPUT, lacks_end};
 use cli_refusals::{Refusal, Side};
 use std::fs::{self, OpenFile};
 use std::io::{self, ErrorKind, Read};
@@ -54,15 +54,36 @@ pub fn read_whole_file<F: Read + OpenFile + Drop, H: Files<File = F> + AllocGlob
     Ok(bytes)
 }
 
-/// Returns an owned name and the contents of a file, for a command.
+// Reads a file with a stream, which must have its end if it is to be complete.
+fn stream_of_file<F: Read + OpenFile + Drop, H: Files<File = F> + AllocGlobal>(
+    rt: &H,
+    path: &str,
+    is_complete: bool,
+) -> Result<Vec<u8>, Refusal>
+    ensures front { IfOk result (λ bytes. IsFrontOfFile F.remaining bytes.items) }
+    ensures ended { IfOk result (λ bytes. HasItsEnd is_complete bytes.items) }
+    ensures told { IfErr result IsOfStreams }
+{
+    let bytes = front_of_file(rt, path)?;
+    if !is_complete {
+        return Ok(bytes);
+    }
+    if lacks_end(&bytes) {
+        return Err(Refusal::NoEnd);
+    }
+    Ok(bytes)
+}
+
+/// Returns an owned name and the stream in a file, for a command.
 pub(crate) fn named_input<F: Read + OpenFile + Drop, H: Files<File = F> + AllocGlobal>(
     rt: &H,
     name: &str,
     path: &str,
+    is_complete: bool,
 ) -> Result<(String, Vec<u8>), Refusal>
-    ensures named { IfOk result (λ r. (string_bytes r.0 ≡ name.now) × IsFrontOfFile F.remaining r.1.items) }
-    ensures told { IfErr result IsOfReading }
+    ensures named { IfOk result (λ r. (string_bytes r.0 ≡ name.now) × IsStreamOfLine F.remaining is_complete r.1.items) }
+    ensures told { IfErr result IsOfStreams }
 {
-    let bytes = front_of_file(rt, path)?;
+    let bytes = stream_of_file(rt, path, is_complete)?;
     Ok((String::from_str(rt.alloc(), name)?, bytes))
 }

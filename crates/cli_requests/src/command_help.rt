@@ -85,7 +85,8 @@ since 1970-01-01; with --dates iso they are as in 2026-11-30 or
         about: abouts::APPLY,
         example: "Example: arrowstore apply store script
 where each line of script is one of these, with single spaces between the words:
-create NAME FIELD .., import NAME FILE, rename NAME NEW, drop NAME,
+create NAME FIELD .., rename NAME NEW, drop NAME,
+import NAME FILE [--complete], append NAME FILE [--complete],
 append NAME FILE [--as stream|csv|jsonl] [--null TEXT] [--dates number|iso] or
 save NAME NEW [--columns A,B] [--limit N] [--] CONDITION ..
 A word with spaces stands in quotation marks, and a mark in it is written twice.
@@ -172,7 +173,8 @@ copy again.",
         about: abouts::REPLAY,
         example: "Example: arrowstore replay script --sectors 16 --stop 8 --choice new
 where each line of script is one of these, with single spaces between the words:
-create NAME FIELD .., import NAME FILE, append NAME FILE, rename NAME NEW, drop NAME,
+create NAME FIELD .., import NAME FILE [--complete], append NAME FILE [--complete],
+rename NAME NEW, drop NAME,
 save NAME NEW [--columns A,B] [--limit N] [--] CONDITION .., compact (one step), upgrade,
 reopen, begin or commit. A word with spaces stands in quotation marks, and a mark in it
 is written twice. The lines between begin and commit are one commit, as a script of

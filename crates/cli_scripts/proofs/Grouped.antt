@@ -67,8 +67,8 @@ StandsAlone line = (line ≢ Begin) × (line ≢ Commit) × ((name file : Bor (L
 
 not_bound : (line : ScriptLine) → StandsAlone line → is_alone (plain_line line) ≡ true
 not_bound (Create name fields) other = refl
-not_bound (Import name file) other = refl
-not_bound (Append name file) other = refl
+not_bound (Import name file complete) other = refl
+not_bound (Append name file complete) other = refl
 not_bound (Save from to rows) other = refl
 not_bound (Rename from to) other = refl
 not_bound (Drop name) other = refl

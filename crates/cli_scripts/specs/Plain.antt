@@ -34,8 +34,8 @@ plain_form (JsonLines dates) = json_lines dates
 
 abbrev pub plain_line : ScriptLine → PlainLine
 plain_line (Create name fields) = create name.now (text_list fields.items)
-plain_line (Import name file) = import_file name.now file.now
-plain_line (Append name file) = append_file name.now file.now
+plain_line (Import name file is_complete) = import_file name.now file.now is_complete
+plain_line (Append name file is_complete) = append_file name.now file.now is_complete
 plain_line (AppendText name file form) = append_text name.now file.now (plain_form form)
 plain_line (Save from to rows) = save from.now to.now (plain_rows rows)
 plain_line (Rename from to) = rename from.now to.now

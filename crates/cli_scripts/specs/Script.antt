@@ -1,6 +1,6 @@
 -- Scripts: one command on each line (`docs/using.md`).
-use Rattle.std.specs.Prelude.{◌≡◌, ◌≢◌, ◌⊎◌, ◌<◌, ◌+◌, ℕ, Bool, true, false, if◌then◌else◌, List, [], ◌∷◌, length, take, get_or, codes, Option, Some, None, is_some, option_map, Result, Ok, Err}
-use Rattle.std.specs.List.{list_all}
+use Rattle.std.specs.Prelude.{◌≡◌, ◌≢◌, ◌⊎◌, ◌||◌, ◌&&◌, ◌<◌, ◌+◌, ℕ, Bool, true, false, if◌then◌else◌, List, [], ◌∷◌, length, take, get_or, codes, nat_eq, Option, Some, None, is_some, option_map, Result, Ok, Err}
+use Rattle.std.specs.List.{list_all, starts_with}
 use Rattle.std.specs.Option.{option_and_then}
 use Rattle.std.specs.Str.{bytes_eq}
 use Rattle.std.specs.Str.Parse.{digits_value}
@@ -24,8 +24,9 @@ pub record PlainRows : Type 0 where
 -- a command of a script; `create` has the texts of its fields
 pub data PlainLine : Type 0 where
   create : (name : List ℕ) → (texts : List (List ℕ)) → PlainLine
-  import_file : (name file : List ℕ) → PlainLine
-  append_file : (name file : List ℕ) → PlainLine
+  -- the file has a stream, which must have its end if it is to be complete
+  import_file : (name file : List ℕ) → (complete : Bool) → PlainLine
+  append_file : (name file : List ℕ) → (complete : Bool) → PlainLine
   -- the file has a text of rows in this form
   append_text : (name file : List ℕ) → (form : PlainForm) → PlainLine
   save : (from to : List ℕ) → (rows : PlainRows) → PlainLine
@@ -55,22 +56,34 @@ with_name word name = if bytes_eq (codes "drop") word then Some (drop name) else
 
 unfoldable pub with_two : List ℕ → List ℕ → List ℕ → Option PlainLine
 with_two word first second =
-    if bytes_eq (codes "import") word then Some (import_file first second)
+    if bytes_eq (codes "import") word then Some (import_file first second false)
     else if bytes_eq (codes "rename") word then Some (rename first second) else None
+
+unfoldable pub complete_import : (word first second option : List ℕ) → Option PlainLine
+complete_import word first second option =
+    if bytes_eq (codes "import") word && bytes_eq (codes "--complete") option then Some (import_file first second true) else None
 
 unfoldable pub other_of : List ℕ → List (List ℕ) → Option PlainLine
 other_of word [] = alone word
 other_of word (name ∷ []) = with_name word name
 other_of word (first ∷ second ∷ []) = with_two word first second
-other_of word (first ∷ second ∷ third ∷ more) = None
+other_of word (first ∷ second ∷ option ∷ []) = complete_import word first second option
+other_of word (first ∷ second ∷ third ∷ fourth ∷ more) = None
 
 -- rows are appended from a stream, or from a text in this form
 abbrev pub append_as : (name file : List ℕ) → Option PlainForm → PlainLine
-append_as name file None = append_file name file
+append_as name file None = append_file name file false
 append_as name file (Some form) = append_text name file form
 
+-- `--complete` stands alone behind the file
+unfoldable pub is_complete : List (List ℕ) → Bool
+is_complete [] = false
+is_complete (word ∷ []) = bytes_eq (codes "--complete") word
+is_complete (word ∷ next ∷ more) = false
+
 unfoldable pub append_of : List (List ℕ) → Option PlainLine
-append_of (name ∷ file ∷ words) = option_map (append_as name file) (option_and_then form_of (options_of words))
+append_of (name ∷ file ∷ words) =
+    if is_complete words then Some (append_file name file true) else option_map (append_as name file) (option_and_then form_of (options_of words))
 append_of (word ∷ []) = None
 append_of [] = None
 
@@ -119,9 +132,38 @@ save_of [] = None
 unfoldable pub save_or_other : List ℕ → List (List ℕ) → Option PlainLine
 save_or_other word arguments = if bytes_eq (codes "save") word then save_of arguments else append_or_other word arguments
 
+unfoldable pub command_of : List ℕ → List (List ℕ) → Option PlainLine
+command_of word arguments = if bytes_eq (codes "create") word then create_of arguments else save_or_other word arguments
+
+-- ---- the names of tables: a word that looks like an option is none, as on a command line, unless `--` stands before the names (POSIX.1, Base Definitions
+-- 12.2, guideline 10)
+
+-- two hyphens (45), and whatever is after them
+abbrev pub is_long_option : List ℕ → Bool
+is_long_option word = starts_with nat_eq word (45 ∷ 45 ∷ [])
+
+-- the line has such a word for the name of a table
+unfoldable pub names_option : PlainLine → Bool
+names_option (create name texts) = is_long_option name
+names_option (import_file name file complete) = is_long_option name
+names_option (append_file name file complete) = is_long_option name
+names_option (append_text name file form) = is_long_option name
+names_option (save from to rows) = is_long_option from || is_long_option to
+names_option (rename from to) = is_long_option from || is_long_option to
+names_option (drop name) = is_long_option name
+names_option _ = false
+
+unfoldable pub without_options : PlainLine → Option PlainLine
+without_options line = if names_option line then None else Some line
+
+unfoldable pub named_line : List ℕ → List (List ℕ) → Option PlainLine
+named_line word [] = command_of word []
+named_line word (first ∷ names) =
+    if bytes_eq (codes "--") first then command_of word names else option_and_then without_options (command_of word (first ∷ names))
+
 unfoldable pub line_of : List (List ℕ) → Option PlainLine
 line_of [] = None
-line_of (word ∷ arguments) = if bytes_eq (codes "create") word then create_of arguments else save_or_other word arguments
+line_of (word ∷ arguments) = named_line word arguments
 
 -- ---- the texts of fields and conditions
 

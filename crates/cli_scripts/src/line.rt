@@ -1,9 +1,10 @@
 // The commands that the words of a line ask for.
 ghost use Rattle.std.specs.Prelude.{◌≡◌, IfOk, option_map};
-ghost use Rattle.std.specs.Option.{option_copied};
+ghost use Rattle.std.specs.Option.{option_and_then, option_copied};
 ghost use Rattle.facts.specs.Texts.{text_list};
 ghost use Rattle.cli_scripts.specs.Plain.{plain_form, plain_line, plain_rows};
-ghost use Rattle.cli_scripts.specs.Script.{list_bound, alone, with_name, with_two, other_of, append_as, append_of, append_or_other, create_of, option_at, option_or_at, limit_of, after_dashes, rows_of, save_of, save_or_other, line_of};
+ghost use Rattle.cli_scripts.specs.Script.{list_bound, alone, with_name, with_two, complete_import, other_of, append_as, is_complete, append_of, append_or_other, create_of, option_at, option_or_at, limit_of, after_dashes, rows_of, save_of, save_or_other};
+ghost use Rattle.cli_scripts.specs.Script.{command_of, is_long_option, names_option, without_options, named_line, line_of};
 
 use crate::append_options::{form_of, options_of};
 use cli_requests::number_of;
@@ -29,15 +30,17 @@ pub enum ScriptLine<'a> {
         name: &'a str,
         fields: Vec<&'a str>,
     },
-    /// Makes the table of the stream in a file, in place of one of this name.
+    /// Makes the table of the stream in a file, in place of one of this name. A stream that is to be complete must have its end.
     Import {
         name: &'a str,
         file: &'a str,
+        is_complete: bool,
     },
-    /// Appends the rows of the stream in a file to the table.
+    /// Appends the rows of the stream in a file to the table. A stream that is to be complete must have its end.
     Append {
         name: &'a str,
         file: &'a str,
+        is_complete: bool,
     },
     /// Appends the rows of the text in a file to the table.
     AppendText {
@@ -113,11 +116,35 @@ fn with_two<'a>(word: &str, name: &'a str, other: &'a str) -> Option<ScriptLine<
     ensures { option_map plain_line result ≡ with_two word.now name.now other.now }
 {
     if word == "import" {
-        Some(ScriptLine::Import { name, file: other })
+        Some(ScriptLine::Import {
+            name,
+            file: other,
+            is_complete: false,
+        })
     } else if word == "rename" {
         Some(ScriptLine::Rename {
             from: name,
             to: other,
+        })
+    } else {
+        None
+    }
+}
+
+#[tactic(auto, unfolding(crate::specs::Script::complete_import))]
+fn complete_import<'a>(
+    word: &str,
+    name: &'a str,
+    file: &'a str,
+    option: &str,
+) -> Option<ScriptLine<'a>>
+    ensures { option_map plain_line result ≡ complete_import word.now name.now file.now option.now }
+{
+    if word == "import" && option == "--complete" {
+        Some(ScriptLine::Import {
+            name,
+            file,
+            is_complete: true,
         })
     } else {
         None
@@ -132,6 +159,7 @@ fn other_of<'a>(word: &str, arguments: &[&'a str]) -> Option<ScriptLine<'a>>
         [] => alone(word),
         [name] => with_name(word, name),
         [name, other] => with_two(word, name, other),
+        [name, file, option] => complete_import(word, name, file, option),
         _ => None,
     }
 }
@@ -141,7 +169,22 @@ fn append_as<'a>(name: &'a str, file: &'a str, form: Option<TextForm<'a>>) -> Sc
 {
     match form {
         Some(form) => ScriptLine::AppendText { name, file, form },
-        None => ScriptLine::Append { name, file },
+        None => ScriptLine::Append {
+            name,
+            file,
+            is_complete: false,
+        },
+    }
+}
+
+#[tactic(auto, unfolding(crate::specs::Script::is_complete))]
+fn is_complete(words: &[&str]) -> bool
+    ensures { result ≡ is_complete (text_list words.now) }
+{
+    match words {
+        [] => false,
+        [word] => *word == "--complete",
+        [_, _, ..] => false,
     }
 }
 
@@ -151,6 +194,13 @@ fn append_of<'a>(arguments: &[&'a str]) -> Option<ScriptLine<'a>>
 {
     match arguments {
         [name, file, words @ ..] => {
+            if is_complete(words) {
+                return Some(ScriptLine::Append {
+                    name: *name,
+                    file: *file,
+                    is_complete: true,
+                });
+            }
             let form = form_of(options_of(words)?)?;
             Some(append_as(name, file, form))
         }
@@ -286,6 +336,81 @@ fn save_or_other<'a>(
     }
 }
 
+#[tactic(auto, unfolding(crate::specs::Script::command_of))]
+fn command_of<'a>(
+    alloc: Global,
+    word: &str,
+    arguments: &[&'a str],
+) -> Result<Option<ScriptLine<'a>>, AllocError>
+    ensures { IfOk result (λ line. option_map plain_line line ≡ command_of word.now (text_list arguments.now)) }
+{
+    if word == "create" {
+        create_of(alloc, arguments)
+    } else {
+        save_or_other(alloc, word, arguments)
+    }
+}
+
+fn is_long_option(word: &str) -> bool
+    ensures { result ≡ is_long_option word.now }
+{
+    word.as_bytes().starts_with(b"--")
+}
+
+#[tactic(auto, unfolding(crate::specs::Script::names_option))]
+fn names_option(line: &ScriptLine<'_>) -> bool
+    ensures { result ≡ names_option (plain_line line.now) }
+{
+    match line {
+        ScriptLine::Create { name, .. }
+        | ScriptLine::Import { name, .. }
+        | ScriptLine::Append { name, .. }
+        | ScriptLine::AppendText { name, .. }
+        | ScriptLine::Drop { name } => is_long_option(name),
+        ScriptLine::Save { from, to, .. } | ScriptLine::Rename { from, to } => is_long_option(from)
+            || is_long_option(to),
+        ScriptLine::Compact
+        | ScriptLine::Upgrade
+        | ScriptLine::Reopen
+        | ScriptLine::Begin
+        | ScriptLine::Commit => false,
+    }
+}
+
+// Returns the line, unless an option stands in place of the name of a table.
+#[tactic(auto, unfolding(crate::specs::Script::without_options))]
+fn without_options<'a>(line: Option<ScriptLine<'a>>) -> Option<ScriptLine<'a>>
+    ensures { option_map plain_line result ≡ option_and_then without_options (option_map plain_line line.entry) }
+{
+    let line = line?;
+    if names_option(&line) {
+        None
+    } else {
+        Some(line)
+    }
+}
+
+// Behind `--` the name of a table may look like an option.
+#[tactic(auto, unfolding(crate::specs::Script::named_line))]
+fn named_line<'a>(
+    alloc: Global,
+    word: &str,
+    arguments: &[&'a str],
+) -> Result<Option<ScriptLine<'a>>, AllocError>
+    ensures { IfOk result (λ line. option_map plain_line line ≡ named_line word.now (text_list arguments.now)) }
+{
+    match arguments {
+        [first, names @ ..] => {
+            if *first == "--" {
+                command_of(alloc, word, names)
+            } else {
+                Ok(without_options(command_of(alloc, word, arguments)?))
+            }
+        }
+        [] => command_of(alloc, word, arguments),
+    }
+}
+
 /// Returns the command that the words of a line ask for, whatever the texts of its fields or conditions are.
 ///
 /// # Errors
@@ -295,13 +420,7 @@ pub fn line_of<'a>(alloc: Global, words: &[&'a str]) -> Result<Option<ScriptLine
     ensures { IfOk result (λ line. option_map plain_line line ≡ line_of (text_list words.now)) }
 {
     match words {
-        [word, arguments @ ..] => {
-            if *word == "create" {
-                create_of(alloc, arguments)
-            } else {
-                save_or_other(alloc, word, arguments)
-            }
-        }
+        [word, arguments @ ..] => named_line(alloc, word, arguments),
         [] => Ok(None),
     }
 }

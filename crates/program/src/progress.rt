@@ -24,7 +24,7 @@ const TYPED_INPUT: &str =
 
 // Said once, if a command waits for the lock of its store: it would seem to do nothing.
 const WAITING: &str =
-    "Waiting until another program is done with the store. Ctrl-C stops this command.\n";
+    "Waiting until another program is done with the store: without end if this command runs under `flock` on that file. Ctrl-C stops it.\n";
 
 /// What the line reports.
 #[derive(Clone, Copy, Debug, PartialEq, Eq)]

@@ -7,7 +7,7 @@ use Rattle.cli_scripts.specs.Items.{number_of}
 use Rattle.cli_scripts.specs.Plain.{plain_items}
 use Rattle.sector_dev.specs.contracts.model.calls.ModelDeviceSectorDevice.TheImpl.{ghosts}
 use Rattle.cli_replay.specs.Replay.{AreCallsOfItems, IsReplay}
-use Rattle.cli_replay.proofs.Opening.{playing_refused, reading_refused, script_unread}
+use Rattle.cli_replay.proofs.Opening.{playing_refused, script_unread, streams_refused}
 use Rattle.cli_replay.proofs.Plays.{none_left}
 use Rattle.cli_replay.proofs.Scripts.{have_words, script_refused}
 use Rattle.cli_replay.proofs.replaying.replay.Goals as goal
@@ -26,7 +26,7 @@ returns-in_err-script-clause-told g c =
 pub returns-in_err-calls-clause-told : goal.returns-in_err-calls-clause-told
 returns-in_err-calls-clause-told g c =
     let p = err_from_is_err_and c.from_residual-in_err-calls.result c.from_residual-in_err-calls.ensures.1 in
-    rw (p.1, p.2) (reading_refused g.F.Read.remaining c.args.sectors _ c.in_ok-device.ensures.in_limits c.in_err-calls.ensures.told)
+    rw (p.1, p.2) (streams_refused g.F.Read.remaining c.args.sectors _ c.in_ok-device.ensures.in_limits c.in_err-calls.ensures.told)
 
 pub returns-in_err-items-clause-told : goal.returns-in_err-items-clause-told
 returns-in_err-items-clause-told g c =
