@@ -17,7 +17,7 @@ use Rattle.tables.specs.Refusals as tables
 use Rattle.commit.specs.Told.{opening_text}
 use Rattle.cli_refusals.specs.declared.refusal.Refusal.{Refusal}
 use Rattle.cli_refusals.specs.declared.refusal.Side.TheVariants as sides
-use Rattle.cli_refusals.specs.declared.refusal.Refusal.TheVariants.{Fault, NoEnd, TooManyBytes, Io, BadSize, BadScript, Fields, NoText, Text, Query, Opening, Store, Line, TextLine, OutOfMemory}
+use Rattle.cli_refusals.specs.declared.refusal.Refusal.TheVariants.{Fault, NoEnd, TooManyBytes, Io, BadSize, BadScript, Fields, NoText, BadDigest, Text, Query, Opening, Store, Line, TextLine, OutOfMemory}
 
 -- how a failed import is reported
 abbrev pub refusal_of : ImportError → Refusal
@@ -51,6 +51,7 @@ refusal_text BadSize = codes "G2 BadSize"
 refusal_text (BadScript line) = codes "G3 BadScript " ++ decimal line
 refusal_text (Fields error) = error_text error
 refusal_text (NoText number) = codes "P3 NoText " ++ decimal number
+refusal_text (BadDigest line) = codes "A1 NotADigest " ++ decimal line
 refusal_text (Text refused) = refused_text refused
 refusal_text (Query refusal) = tables.query_text refusal
 refusal_text (Opening refusal) = opening_text refusal

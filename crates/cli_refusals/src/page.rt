@@ -10,6 +10,7 @@ use crate::remedies::{
     FORM_OF_A_FIELD, FORM_OF_A_NAME, GIVE_A_NUMBER, GIVE_A_STREAM, GIVE_A_VALUE, GIVE_ALL,
     GIVE_ARRAYS, GIVE_JSON_LINES, GIVE_LESS, GIVE_THE_NAME, IMPORT_AGAIN, ITEMS_OF_A_LINE,
     KIND_OF_THE_TYPE, LATER_PROGRAM, LEAVE_OUT_MESSAGES, LENGTH_OF_THE_STORE, LINES_OF_A_SCRIPT,
+    LINES_OF_DIGESTS,
     LITTLE_ENDIAN, LOOK_AGAIN, MORE_MEMORY, MORE_ROOM, NAME_OF_A_TABLE, NAMES_FIRST,
     NAMES_OF_COLUMNS, NAMES_OF_THE_SCHEMA, NEW_OUTPUT, NEW_PATH, NEW_STORE, NO_COMPRESSION,
     NO_FOLDER, NUMBER_OF_SECTORS, OFFSET_OF_THE_ZONE, ONE_STREAM, OTHER_NAME, OTHER_TABLE,
@@ -21,9 +22,9 @@ use crate::remedies::{
 };
 use std::alloc::{AllocError, Global};
 
-/// The pieces of the page of which its first sections are made: what each refusal of a stream, a file, a store or a field text means and what to do
-/// about it, among them the sentences of `remedies`. The file `docs/refusals.md` has the same bytes as the page.
-pub const FILE_REFUSALS: [&str; 95] = [
+/// The pieces of the page of which its first sections are made: what each refusal of a stream, a file, a store, a field text or a list of digests means
+/// and what to do about it, among them the sentences of `remedies`. The file `docs/refusals.md` has the same bytes as the page.
+pub const FILE_REFUSALS: [&str; 97] = [
     "# What each refusal means
 
 A refusal is one line on standard error: `refused`, a code, a name, and for some of them a detail, as in
@@ -47,7 +48,8 @@ new field.
 A refused command has changed no table, except as S9 and G1 say. It has written no output, except as G1
 says. `salvage` writes one segment after another, so it may have written some before S9 and OutOfMemory
 too. If `salvage` leaves out segments that can't be read, this is not a refusal: it reports each of them
-in a line, as in `left out segment 2 with 4096 rows`, and ends with status 1.
+in a line, as in `left out segment 2 with 4096 rows`, and ends with status 1. `send` writes one segment after
+another too: if it is refused for one of them (S9, S13, S15, OutOfMemory), the archive has no end.
 
 ## F: the input is not a stream that can be read
 
@@ -285,6 +287,14 @@ or appended. If no advice follows a fault, the cause is the program that wrote t
   ",
     FIELDS_OF_ANOTHER,
     "
+
+## A: a list of digests
+
+- A1 NotADigest N: line N of the list that `send --have` reads, counted from 1, is not the digest of a segment.
+  The store was not opened.
+  ",
+    LINES_OF_DIGESTS,
+    "
 ",
 ];
 
@@ -470,8 +480,8 @@ appended. After `T1 Line` the text is in the file of that line of a script.
 - S12 Query REASON: the query of `query --save` is refused for this reason (Q).
 - S13 SegmentUnread N: segment N of the table, counted from 0, can't be read: its bytes were changed.
   `check` reads all tables, in byte order of their names, and reports the first that can't be read. On a
-  terminal it names each of them. There `copy`, `compact` and `upgrade` name the table that they can't
-  read, if only one is possible. Otherwise an `export` of each table shows which one it is.
+  terminal it names each of them. There `copy`, `compact`, `upgrade`, `have` and `send` name the table that
+  they can't read, if only one is possible. Otherwise an `export` of each table shows which one it is.
   ",
     IMPORT_AGAIN,
     "
@@ -530,8 +540,8 @@ G1 has eight words, which say whether the command was done:
 - `exists`: something is at the path of a file to be made. The command was not done.
 - `input`: the input can't be read, or is closed. The command was not done.
 - `output-before`: the output of a command that changes nothing failed: `query` without `--save`, `export`,
-  `salvage`, `tables`, `schema`, `check`, `info`, `recode`, `replay`, or help. A part of the output may be
-  written.
+  `salvage`, `tables`, `schema`, `check`, `info`, `have`, `send`, `recode`, `replay`, or help. A part of the
+  output may be written.
 - `output-after`: the output failed after `format`, `copy`, `create`, `import`, `append`, `query --save`,
   `rename`, `drop`, `apply`, `compact` or `upgrade` was done. Do not run the command again.
 - `other`: another call on a file failed. The command was not done, and a file that was to be made is
@@ -550,6 +560,7 @@ after T1 that of the reason (S or X).
 - G2 `bad-size`, G3 `bad-script`.
 - C1 `not-a-store`, C3 `damaged`, C4 `device-at-opening`.
 - P1 `bad-field`, P2 `field-limit`, P3 `no-text`.
+- A1 `not-a-digest`.
 - X1 `header`, X2 `width`, X3 `text-not-utf8`, X4 `not-a-number`, X5 `out-of-range`, X6 `not-a-bool`,
   X7 `not-hex`, X8 `null-mismatch`, X9 `nested-columns`, X10 `not-json`, X11 `unknown-name`,
   X12 `missing-name`, X13 `ambiguous-names`, X14 `fixed-width`, X15 `row-too-heavy`,

@@ -43,6 +43,8 @@ pub enum Refusal {
     Fields(ParseError),
     /// P3: no text is taken for this field of a table, counted from 1; 0 if the table has pairs of its own.
     NoText(usize),
+    /// A1: this line of a list of digests, counted from 1, states none.
+    BadDigest(u64),
     /// X: a record of the input is not a row of the table.
     Text(Refused),
     /// Q: the query is refused for the table.
@@ -147,6 +149,7 @@ impl fmt::Display for Refusal {
             Refusal::BadScript(line) => write!(f, "G3 BadScript {line}"),
             Refusal::Fields(error) => write!(f, "{error}"),
             Refusal::NoText(number) => write!(f, "P3 NoText {number}"),
+            Refusal::BadDigest(line) => write!(f, "A1 NotADigest {line}"),
             Refusal::Text(refused) => write!(f, "{refused}"),
             Refusal::Query(refusal) => write!(f, "{refusal}"),
             Refusal::Opening(refusal) => write!(f, "{refusal}"),

@@ -118,6 +118,11 @@ pub const SMALLER_FIELDS: &str =
 pub const FIELDS_OF_ANOTHER: &str =
     "Use `create NAME --like TABLE`: it takes the fields of any table of the same store. `schema` without `--fields` shows them.";
 
+// ---- A: archives
+
+pub const LINES_OF_DIGESTS: &str =
+    "Give the lines that `have` prints for the store of the receiver: 64 hexadecimal digits each, without spaces and empty lines.";
+
 // ---- X: texts
 
 pub const CLOSE_QUOTATION_MARKS: &str =
@@ -380,6 +385,7 @@ impl Refusal {
             Refusal::BadScript(_) => LINES_OF_A_SCRIPT,
             Refusal::Fields(error) => fields_remedy(error),
             Refusal::NoText(_) => FIELDS_OF_ANOTHER,
+            Refusal::BadDigest(_) => LINES_OF_DIGESTS,
             Refusal::Text(refused) | Refusal::TextLine(_, refused) => text_remedy(refused.refusal),
             Refusal::Query(reason) => query_remedy(reason),
             Refusal::Opening(refusal) => opening_remedy(refusal),

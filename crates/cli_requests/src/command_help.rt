@@ -9,7 +9,7 @@ pub(crate) struct CommandHelp {
 }
 
 // In the order of the help.
-pub(crate) const COMMANDS: [CommandHelp; 18] = [
+pub(crate) const COMMANDS: [CommandHelp; 20] = [
     CommandHelp {
         name: "format",
         about: abouts::FORMAT,
@@ -166,6 +166,27 @@ if the disk has changed a segment. Programs that know only version 1 can't read 
 
 If it is interrupted, no command opens the new file as a store: delete that file, and
 copy again.",
+    },
+    CommandHelp {
+        name: "have",
+        about: abouts::HAVE,
+        example: "Example: arrowstore have store > digests
+
+Each digest is a line of 64 hexadecimal digits: the SHA-256 of the stream of a segment.
+They are in the order of the tables and of their rows, each once. `send` leaves out the
+segments whose digests it is given. A store of version 1 has no digests in it, and is
+read whole; `upgrade` adds them.",
+    },
+    CommandHelp {
+        name: "send",
+        about: abouts::SEND,
+        example: "Example: arrowstore send store --have digests > changes.tar
+
+An archive has all tables of the store, as they are at one commit, and the segments that
+the receiver lacks: all of them without --have, and with it those whose digests are not
+in FILE. It is a tar archive, so `tar -x` unpacks it. Equal stores give equal archives.
+If a segment can't be read, part of the archive may be written; it has no end then, and
+`check` names the table.",
     },
     CommandHelp {
         name: "replay",

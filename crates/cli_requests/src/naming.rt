@@ -223,6 +223,7 @@ fn word_of<'a>(
             | StoreRequest::FormatDevice { path, .. }
             | StoreRequest::Salvage { path, .. }
             | StoreRequest::Apply { path, .. }
+            | StoreRequest::Send { path, .. }
             | StoreRequest::Command { path, .. },
             Refusal::Opening(_),
         )
@@ -230,6 +231,7 @@ fn word_of<'a>(
         | (
             StoreRequest::Salvage { path, .. }
             | StoreRequest::Apply { path, .. }
+            | StoreRequest::Send { path, .. }
             | StoreRequest::Command { path, .. },
             Refusal::BadSize,
         ) => named(Role::File, Some(path)),
