@@ -31,6 +31,7 @@ use Rattle.cli_texts.specs.Reported.{IfRefused}
 use Rattle.cli_texts.specs.Told.{told}
 use Rattle.cli_texts.specs.declared.telling.Audience.{Audience}
 use Rattle.cli_refusals.specs.declared.known.Known.{Known}
+use Rattle.cli_commands.specs.Archives.{IsOfSending}
 use Rattle.cli_commands.specs.Salvaging.{IsBrokenOff}
 use Rattle.clap.specs.Words.{Text, kind_of}
 use Rattle.clap.specs.declared.error.Error.{Error}
@@ -104,7 +105,13 @@ silent_but_io word output output' (Err e) silent = λ whole. silent (λ io. whol
 pub silent_but_broken_off : {W : Type 0} (word : List ℕ) (output output' : W) (done : Result (Unit {0}) Refusal) → word ≡ codes "salvage"
     → IfErr done (λ refusal. ¬ IsBrokenOff refusal → output' ≡ output) → IfErr done (λ refusal. ¬ WritesPart word refusal → output' ≡ output)
 silent_but_broken_off word output output' (Ok unit) is silent = tt
-silent_but_broken_off word output output' (Err e) is silent = λ whole. silent (λ broken. whole (inr (is, broken)))
+silent_but_broken_off word output output' (Err e) is silent = λ whole. silent (λ broken. whole (inr (inl (is, broken))))
+
+-- nor where an archive was sent in part
+pub silent_but_unsent : {W : Type 0} (word : List ℕ) (output output' : W) (done : Result (Unit {0}) Refusal) → word ≡ codes "send"
+    → IfErr done (λ refusal. ¬ IsOfSending refusal → output' ≡ output) → IfErr done (λ refusal. ¬ WritesPart word refusal → output' ≡ output)
+silent_but_unsent word output output' (Ok unit) is silent = tt
+silent_but_unsent word output output' (Err e) is silent = λ whole. silent (λ unsent. whole (inr (inr (is, unsent))))
 
 -- what is reported of a request that was done, in part or whole, or refused
 pub has_reported : {W E : Type 0} (contents : E → Option (List ℕ)) (audience : Audience) (known : Known) (left : List (ℕ × ℕ)) (notes : Notes) (word : List ℕ) (output output' : W) (errors noted errors' : E)

@@ -63,6 +63,7 @@ fn makes(request: &StoreRequest<'_>, path: &str) -> bool {
         | StoreRequest::Salvage { .. }
         | StoreRequest::Replay(_)
         | StoreRequest::Apply { .. }
+        | StoreRequest::Send { .. }
         | StoreRequest::Command { .. } => false,
     }
 }
