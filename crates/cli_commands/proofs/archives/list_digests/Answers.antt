@@ -47,7 +47,7 @@ returns-clause-written g c =
       c.in_ok-digests.digests.items,
       c.in_ok-digests.ensures.has,
       subst (Appends (W.contents c.args.output.now) (W.contents c.write_whole.new.writer))
-      (c.as_bytes.ensures.value ∙ c.in_ok-text.ensures ∙ ap digests_text c.deref.ensures.value) wrote,
+          (c.as_bytes.ensures.value ∙ c.in_ok-text.ensures ∙ ap digests_text c.deref.ensures.value) wrote,
     ))
     c.write_whole.ensures.written
 
@@ -78,6 +78,6 @@ returns-clause-front g c =
       c.in_ok-digests.digests.items,
       c.in_ok-digests.ensures.has,
       subst (AppendsFront (W.contents c.args.output.now) (W.contents c.write_whole.new.writer))
-      (c.as_bytes.ensures.value ∙ c.in_ok-text.ensures ∙ ap digests_text c.deref.ensures.value) wrote,
+          (c.as_bytes.ensures.value ∙ c.in_ok-text.ensures ∙ ap digests_text c.deref.ensures.value) wrote,
     ))
     c.write_whole.ensures.front
