@@ -5,3 +5,5 @@ pub mod Texts
 pub mod Digests
 pub mod inner
 pub mod Wanted
+pub mod Found
+pub mod Reading

@@ -13,6 +13,8 @@
 mod archive;
 mod digests;
 mod manifest;
+mod members;
+mod reading;
 mod tar;
 mod texts;
 mod wanted;
@@ -20,6 +22,8 @@ mod wanted;
 pub use archive::{ArchiveError, archive_end, archive_front, segment_header};
 pub use digests::{DigestsError, parse_digests};
 pub use manifest::{ListedSegment, ListedTable};
+pub use members::read_archive;
+pub use reading::{Archive, ArchiveFault};
 pub use tar::push_padding;
 pub use texts::typed_fields;
 pub use wanted::WantedDigests;
