@@ -1,5 +1,5 @@
 -- What a request of a store does, on devices of one kind.
-use Rattle.std.specs.Prelude.{◌≡◌, ◌⊎◌, ◌≤◌, ℕ, Bool, true, false, List, [], ◌∷◌, codes, bit_and, Option, Some, None, IfSome, IsSome, option_map, Result, Ok, Err, IfErr, OnOk, IsErrAnd}
+use Rattle.std.specs.Prelude.{◌≡◌, ◌⊎◌, ◌≤◌, ℕ, Bool, true, false, List, [], ◌∷◌, codes, bit_and, Option, Some, None, IfSome, IsSome, map, option_map, Result, Ok, Err, IfErr, OnOk, IsErrAnd}
 use Rattle.std.specs.Fs.{metadata_mode}
 use Rattle.std.specs.declared.fs.attrs.Metadata.{Metadata}
 use Rattle.std.specs.Io.KnownBytes.{Appends}
@@ -36,7 +36,10 @@ use Rattle.cli_refusals.specs.declared.refusal.Refusal.TheVariants as refusals
 use Rattle.cli_refusals.specs.declared.refusal.Side.TheVariants as sides
 use Rattle.tables.specs.declared.refusal.Refusal as tables
 use Rattle.table_archive.specs.Digests.{ListsDigests}
-use Rattle.cli_commands.specs.Archives.{IsOfSending, RefusesList}
+use Rattle.table_archive.specs.Manifest.{PlainListed, plain_listed}
+use Rattle.table_archive.specs.Reading.{IsRead}
+use Rattle.table_archive.specs.declared.reading.Archive.{Archive}
+use Rattle.cli_commands.specs.Archives.{IsNoArchive, IsOfSending, ReceivesTables, RefusesList}
 use Rattle.cli_commands.specs.Applying as applying
 use Rattle.cli_commands.specs.Applying.{AnswersList, HandsLines}
 use Rattle.cli_commands.specs.declared.applying.ListedCommand.{ListedCommand}
@@ -357,6 +360,33 @@ pub record SendsArchive {D : Type 0} (g : Ghosts D) (is_opened : D → Type 0) {
       ⊎ ((had : List (List ℕ)) × HasDigestsOf of_file (remaining input) list had × SendsRead g is_opened contents had output output' result)
   pub unread : names_input list ≡ false → input' ≡ input
 
+-- ---- an archive that is received into the store of a file
+
+-- a store was opened, and these tables were made its own, or it was refused; `ok` is written once they are
+pub record ReceivesOpened {D : Type 0} (g : Ghosts D) (is_opened : D → Type 0) {W : Type 0} (contents : W → Option (List ℕ)) (tables : List PlainListed)
+    (delete : Bool) (output output' : W) (result : Result (Unit {0}) Refusal) : Type 0 where
+  pub old : Store D g
+  pub opens : OpensStore g is_opened old
+  pub new : Store D g
+  pub received : ReceivesTables old tables delete result new
+  pub written : OnOk result (Appends (contents output) (contents output') (codes "ok\n"))
+
+-- the tables of the archive that these bytes are were received so, or the bytes are no archive or no store was opened, and nothing was written
+abbrev pub ReceivesBytes : {D : Type 0} → (g : Ghosts D) → (is_opened : D → Type 0) → {W : Type 0} → (contents : W → Option (List ℕ)) → (bytes : List ℕ)
+    → (delete : Bool) → (output output' : W) → Result (Unit {0}) Refusal → Type 0
+ReceivesBytes g is_opened contents bytes delete output output' result =
+    IsErrAnd result (λ refusal. IsNoArchive refusal × (output' ≡ output))
+    ⊎ ((archive : Archive) × IsRead archive bytes
+    × (IsErrAnd result (λ refusal. FailsToOpen g is_opened refusal × (output' ≡ output))
+    ⊎ ReceivesOpened g is_opened contents (map plain_listed archive.tables.items) delete output output' result))
+
+-- the whole input was received so, or it was not read and nothing was written
+abbrev pub ReceivesArchive : {D : Type 0} → (g : Ghosts D) → (is_opened : D → Type 0) → {R W : Type 0} → (remaining : R → Option (List ℕ))
+    → (contents : W → Option (List ℕ)) → (delete : Bool) → (input input' : R) → (output output' : W) → Result (Unit {0}) Refusal → Type 0
+ReceivesArchive g is_opened remaining contents delete input input' output output' result =
+    IsErrAnd result (λ refusal. RefusesInput (remaining input) (remaining input') refusal × (output' ≡ output))
+    ⊎ ((bytes : List ℕ) × IsWholeInput (remaining input) bytes × ReceivesBytes g is_opened contents bytes delete output output' result)
+
 -- ---- requests
 
 -- nothing is hinted at or noted
@@ -383,6 +413,9 @@ ServesRequest g is_opened of_file remaining contents replays (requests.Apply pat
 ServesRequest g is_opened of_file remaining contents replays (requests.Send path have) before after left left' result =
     SendsArchive g is_opened of_file remaining contents (option_map (λ l. l.now) have) before.input after.input before.output after.output result
     × SaysNothing before after × (left' ≡ left)
+ServesRequest g is_opened of_file remaining contents replays (requests.Receive path delete) before after left left' result =
+    ReceivesArchive g is_opened remaining contents delete before.input after.input before.output after.output result × SaysNothing before after
+    × (left' ≡ left)
 ServesRequest g is_opened of_file remaining contents replays (requests.Replay words) before after left left' result =
     replays words before.output after.output result × SaysNothing before after × (left' ≡ left)
 ServesRequest g is_opened of_file remaining contents replays (requests.Command path command) before after left left' result =

@@ -23,8 +23,8 @@ fn device_to_change<
     FileDevice::open(rt, path)
 }
 
-// Opens the store in a file for changes.
-fn open_to_change<
+/// Opens the store in a file for changes.
+pub(crate) fn open_to_change<
     F: Read + Write + Seek + OpenFile + LockFile + Drop,
     H: Files<File = F> + AllocGlobal,
 >(rt: &H, path: &str) -> Result<Store<FileDevice<SystemFile<F>>>, Refusal>

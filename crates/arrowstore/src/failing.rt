@@ -64,6 +64,7 @@ fn makes(request: &StoreRequest<'_>, path: &str) -> bool {
         | StoreRequest::Replay(_)
         | StoreRequest::Apply { .. }
         | StoreRequest::Send { .. }
+        | StoreRequest::Receive { .. }
         | StoreRequest::Command { .. } => false,
     }
 }

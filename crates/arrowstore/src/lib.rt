@@ -35,6 +35,7 @@ mod open_command;
 mod open_quotation;
 mod other_length;
 mod other_topic;
+mod receiving_archives;
 mod record_line;
 mod replaying;
 mod running;

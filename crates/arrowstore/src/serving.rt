@@ -15,6 +15,7 @@ use crate::copying_files::serve_copy;
 use crate::formatting_devices::serve_format_device;
 use crate::made_file::MadeFile;
 use crate::open_command::stated;
+use crate::receiving_archives::serve_receive;
 use crate::replaying::serve_replay;
 use crate::salvaging_files::serve_salvage;
 use crate::sending_archives::serve_send;
@@ -293,6 +294,7 @@ pub(crate) fn serve<
         StoreRequest::Salvage { path, name } => serve_salvage(rt, path, name, output, left_out),
         StoreRequest::Apply { path, script } => serve_apply(rt, path, script, input, output),
         StoreRequest::Send { path, have } => serve_send(rt, path, *have, input, output),
+        StoreRequest::Receive { path, delete } => serve_receive(rt, path, *delete, input, output),
         StoreRequest::Replay(words) => serve_replay(rt, words, output),
         StoreRequest::Command { path, command } => {
             serve_command(rt, path, command, input, output, remarks)

@@ -7,7 +7,7 @@ use crate::remedies::{
     CONVERT_COLUMN, DONE_ALREADY, EARLIER_COPY, ESCAPE_CONTROLS, FEWER_FIELDS, FEWER_ROWS,
     FEWER_SEGMENTS, FEWER_TABLES, FEWER_VALUES, FIELDS_OF_ANOTHER, FIELDS_OF_THE_TABLE,
     FILE_OF_A_STORE, FIX_ROW, FOLDER_OF_A_NEW_FILE, FORM_OF_A_CONDITION, FORM_OF_A_DATE,
-    FORM_OF_A_FIELD, FORM_OF_A_NAME, GIVE_A_NUMBER, GIVE_A_STREAM, GIVE_A_VALUE, GIVE_ALL,
+    FORM_OF_A_FIELD, FORM_OF_A_NAME, GIVE_AN_ARCHIVE, SEND_AGAIN, SEND_WHAT_IS_LACKED, GIVE_A_NUMBER, GIVE_A_STREAM, GIVE_A_VALUE, GIVE_ALL,
     GIVE_ARRAYS, GIVE_JSON_LINES, GIVE_LESS, GIVE_THE_NAME, IMPORT_AGAIN, ITEMS_OF_A_LINE,
     KIND_OF_THE_TYPE, LATER_PROGRAM, LEAVE_OUT_MESSAGES, LENGTH_OF_THE_STORE, LINES_OF_A_SCRIPT,
     LINES_OF_DIGESTS, LITTLE_ENDIAN, LOOK_AGAIN, MORE_MEMORY, MORE_ROOM, NAME_OF_A_TABLE,
@@ -21,9 +21,9 @@ use crate::remedies::{
 };
 use std::alloc::{AllocError, Global};
 
-/// The pieces of the page of which its first sections are made: what each refusal of a stream, a file, a store, a field text or a list of digests means
-/// and what to do about it, among them the sentences of `remedies`. The file `docs/refusals.md` has the same bytes as the page.
-pub const FILE_REFUSALS: [&str; 97] = [
+/// The pieces of the page of which its first sections are made: what each refusal of a stream, a file, a store, a field text or an archive means and what
+/// to do about it, among them the sentences of `remedies`. The file `docs/refusals.md` has the same bytes as the page.
+pub const FILE_REFUSALS: [&str; 103] = [
     "# What each refusal means
 
 A refusal is one line on standard error: `refused`, a code, a name, and for some of them a detail, as in
@@ -287,12 +287,27 @@ or appended. If no advice follows a fault, the cause is the program that wrote t
     FIELDS_OF_ANOTHER,
     "
 
-## A: a list of digests
+## A: an archive, or a list of digests
+
+The archive, or the list, is read before the store is opened.
 
 - A1 NotADigest N: line N of the list that `send --have` reads, counted from 1, is not the digest of a segment.
-  The store was not opened.
   ",
     LINES_OF_DIGESTS,
+    "
+- A2 NotAnArchive: the input of `receive` does not begin with the list of tables that `send` writes.
+  ",
+    GIVE_AN_ARCHIVE,
+    "
+- A3 BadMember MEMBER: the archive was cut off or altered at this member: the segment of this name, `end`, or
+  `member N`, counted from 0, which has another name than one of these.
+  ",
+    SEND_AGAIN,
+    "
+- A4 LacksSegment DIGEST: a table of the archive has this segment, which neither the archive nor the store has.
+  The archive was made for a receiver that has it.
+  ",
+    SEND_WHAT_IS_LACKED,
     "
 ",
 ];
@@ -442,7 +457,8 @@ appended. After `T1 Line` the text is in the file of that line of a script.
 - S7 TooMany WHAT: a limit would be exceeded.
   Bytes: 2,147,483,647 of an input. ",
     GIVE_LESS,
-    "
+    " For an archive of more, a copy of
+  the file of the store can stand in for the first one.
   Tables: 1,024. ",
     FEWER_TABLES,
     "
@@ -542,7 +558,7 @@ G1 has eight words, which say whether the command was done:
   `salvage`, `tables`, `schema`, `check`, `info`, `have`, `send`, `recode`, `replay`, or help. A part of the
   output may be written.
 - `output-after`: the output failed after `format`, `copy`, `create`, `import`, `append`, `query --save`,
-  `rename`, `drop`, `apply`, `compact` or `upgrade` was done. Do not run the command again.
+  `rename`, `drop`, `apply`, `receive`, `compact` or `upgrade` was done. Do not run the command again.
 - `other`: another call on a file failed. The command was not done, and a file that was to be made is
   removed.
 
@@ -559,7 +575,7 @@ after T1 that of the reason (S or X).
 - G2 `bad-size`, G3 `bad-script`.
 - C1 `not-a-store`, C3 `damaged`, C4 `device-at-opening`.
 - P1 `bad-field`, P2 `field-limit`, P3 `no-text`.
-- A1 `not-a-digest`.
+- A1 `not-a-digest`, A2 `not-an-archive`, A3 `bad-member`, A4 `lacks-segment`.
 - X1 `header`, X2 `width`, X3 `text-not-utf8`, X4 `not-a-number`, X5 `out-of-range`, X6 `not-a-bool`,
   X7 `not-hex`, X8 `null-mismatch`, X9 `nested-columns`, X10 `not-json`, X11 `unknown-name`,
   X12 `missing-name`, X13 `ambiguous-names`, X14 `fixed-width`, X15 `row-too-heavy`,

@@ -40,6 +40,7 @@ request_word (requests.Salvage path name) = codes "salvage"
 request_word (requests.Replay words) = codes "replay"
 request_word (requests.Apply path script) = codes "apply"
 request_word (requests.Send path have) = codes "send"
+request_word (requests.Receive path delete) = codes "receive"
 request_word (requests.Command path command) = command_word command
 
 abbrev pub is_saving : StoreCommand → Bool
@@ -64,4 +65,5 @@ changes (requests.Salvage path name) = false
 changes (requests.Replay words) = false
 changes (requests.Apply path script) = true
 changes (requests.Send path have) = false
+changes (requests.Receive path delete) = true
 changes (requests.Command path command) = not (only_reads command)

@@ -83,8 +83,8 @@ IsWithoutOptions (commands.Info as_json) = as_json ≡ false
 IsWithoutOptions (commands.Compact steps) = steps ≡ None
 IsWithoutOptions _ = Unit {0}
 
--- these words name the request's files and tables, its script or its number of sectors; without its option a store is made in the newest version, and the
--- receiver of an archive has no segment
+-- these words name the request's files and tables, its script or its number of sectors; without its option a store is made in the newest version, the
+-- receiver of an archive has no segment, and one that receives it keeps its other tables
 unfoldable pub IsNamedBy : StoreRequest → List Text → Type 0
 IsNamedBy (requests.Command path command) words = (words ≡ path.now ∷ names_in command) × IsWithoutOptions command
 IsNamedBy (requests.Format path sectors version) words =
@@ -95,6 +95,7 @@ IsNamedBy (requests.Copy path new sectors) words = (number : Text) × (words ≡
 IsNamedBy (requests.Salvage path name) words = words ≡ path.now ∷ name.now ∷ []
 IsNamedBy (requests.Apply path script) words = words ≡ path.now ∷ script.now ∷ []
 IsNamedBy (requests.Send path have) words = (words ≡ path.now ∷ []) × (have ≡ None)
+IsNamedBy (requests.Receive path delete) words = (words ≡ path.now ∷ []) × (delete ≡ false)
 -- a script is played with options, which are not operands
 IsNamedBy (requests.Replay script) words = Unit {0}
 

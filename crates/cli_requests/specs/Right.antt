@@ -28,6 +28,7 @@ takes parameters.Nothing words = length words == 1
 takes parameters.FileAndForm words = length words == 1
 takes parameters.FileAndSteps words = length words == 1
 takes parameters.FileAndDigests words = length words == 1
+takes parameters.FileAndDeletion words = length words == 1
 takes parameters.Table words = length words == 2
 takes parameters.TableToDescribe words = length words == 2
 takes parameters.TableToImport words = length words == 2

@@ -6,7 +6,8 @@ use Rattle.clap.specs.Words.{Text}
 
 -- commands that change the tables by standard input; `apply` reads it if `-` stands for its script
 unfoldable pub changes_by_input_word : Text → Bool
-changes_by_input_word word = bytes_eq (codes "import") word || (bytes_eq (codes "append") word || bytes_eq (codes "apply") word)
+changes_by_input_word word =
+    bytes_eq (codes "import") word || (bytes_eq (codes "append") word || (bytes_eq (codes "apply") word || bytes_eq (codes "receive") word))
 
 -- commands that read standard input; `send` does so if `-` stands for its list of digests
 unfoldable pub takes_input_word : Text → Bool
@@ -40,7 +41,7 @@ makes_word word = bytes_eq (codes "format") word || bytes_eq (codes "copy") word
 -- commands that ask for something else than a command of an open store
 unfoldable pub has_own_request : Text → Bool
 has_own_request word = makes_word word || (bytes_eq (codes "salvage") word || (bytes_eq (codes "replay") word || (bytes_eq (codes "apply") word
-    || bytes_eq (codes "send") word)))
+    || (bytes_eq (codes "send") word || bytes_eq (codes "receive") word))))
 
 unfoldable pub is_store_word : Text → Bool
 is_store_word word = changes_word word || (makes_word word || (bytes_eq (codes "replay") word || reads_word word))

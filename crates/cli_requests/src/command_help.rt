@@ -9,7 +9,7 @@ pub(crate) struct CommandHelp {
 }
 
 // In the order of the help.
-pub(crate) const COMMANDS: [CommandHelp; 20] = [
+pub(crate) const COMMANDS: [CommandHelp; 21] = [
     CommandHelp {
         name: "format",
         about: abouts::FORMAT,
@@ -187,6 +187,17 @@ the receiver lacks: all of them without --have, and with it those whose digests 
 in FILE. It is a tar archive, so `tar -x` unpacks it. Equal stores give equal archives.
 If a segment can't be read, part of the archive may be written; it has no end then, and
 `check` names the table.",
+    },
+    CommandHelp {
+        name: "receive",
+        about: abouts::RECEIVE,
+        example: "Example: arrowstore receive copy --delete < changes.tar
+
+The archive is read before the store is opened. Its tables take the place of those with
+their names, in one commit: all of them, or none. A table of which the store has the
+first segments gets only the others. What the archive leaves out must be in the store
+(A4 LacksSegment). Without --delete other tables stay. If all is there already, nothing
+is written.",
     },
     CommandHelp {
         name: "replay",

@@ -224,6 +224,7 @@ fn word_of<'a>(
             | StoreRequest::Salvage { path, .. }
             | StoreRequest::Apply { path, .. }
             | StoreRequest::Send { path, .. }
+            | StoreRequest::Receive { path, .. }
             | StoreRequest::Command { path, .. },
             Refusal::Opening(_),
         )
@@ -232,6 +233,7 @@ fn word_of<'a>(
             StoreRequest::Salvage { path, .. }
             | StoreRequest::Apply { path, .. }
             | StoreRequest::Send { path, .. }
+            | StoreRequest::Receive { path, .. }
             | StoreRequest::Command { path, .. },
             Refusal::BadSize,
         ) => named(Role::File, Some(path)),

@@ -114,6 +114,7 @@ fn asked<'a>(
         "replay" => replay_request(alloc, words),
         "apply" => Ok(apply_request(path, words)),
         "send" => Ok(send_request(path, words)),
+        "receive" => Ok(receive_request(path, words)),
         _ => command_request(alloc, path, command, words),
     }
 }
@@ -247,6 +248,15 @@ fn send_request<'a>(path: &'a str, words: &ArgMatches<'a>) -> StoreRequest<'a>
 {
     let have = words.get_str("have");
     StoreRequest::Send { path, have }
+}
+
+fn receive_request<'a>(path: &'a str, words: &ArgMatches<'a>) -> StoreRequest<'a>
+    requires { path.now ≡ value_of (found_of words.now) (codes "STORE") }
+    ensures word { request_word result ≡ codes "receive" }
+    ensures named { HasFound (found_of words.now) result }
+{
+    let delete = has_flag(words, "delete");
+    StoreRequest::Receive { path, delete }
 }
 
 fn date_form(words: &ArgMatches<'_>) -> DateForm

@@ -59,6 +59,11 @@ pub enum StoreRequest<'a> {
         path: &'a str,
         have: Option<&'a str>,
     },
+    /// Makes the tables of the archive that is read those of the store, as one change. With `delete` other tables are dropped.
+    Receive {
+        path: &'a str,
+        delete: bool,
+    },
     /// Executes a command on an existing store.
     Command {
         path: &'a str,
@@ -194,7 +199,7 @@ impl<'a> StoreRequest<'a> {
         match self {
             StoreRequest::Format { .. } | StoreRequest::FormatDevice { .. } => true,
             StoreRequest::Copy { .. } => true,
-            StoreRequest::Apply { .. } => true,
+            StoreRequest::Apply { .. } | StoreRequest::Receive { .. } => true,
             StoreRequest::Salvage { .. } | StoreRequest::Replay(_) => false,
             StoreRequest::Send { .. } => false,
             StoreRequest::Command { command, .. } => !command.only_reads(),
@@ -206,7 +211,7 @@ impl<'a> StoreRequest<'a> {
 fn changes_by_input_word(word: &str) -> bool
     ensures { result ≡ changes_by_input_word word.now }
 {
-    matches!(word, "import" | "append" | "apply")
+    matches!(word, "import" | "append" | "apply" | "receive")
 }
 
 #[tactic(auto, unfolding(crate::specs::StoreWords::takes_input_word))]

@@ -6,7 +6,7 @@ use crate::abouts;
 use std::alloc::{AllocError, Global};
 
 /// The help of the program: strings to be joined, among them what each command does.
-pub const HELP: [&str; 43] = [
+pub const HELP: [&str; 45] = [
     "A crash-safe store of named tables in the Apache Arrow format
 
 Usage: arrowstore <COMMAND>
@@ -68,6 +68,9 @@ Commands:
     "
   send     ",
     abouts::SEND,
+    "
+  receive  ",
+    abouts::RECEIVE,
     "
   replay   ",
     abouts::REPLAY,

@@ -78,3 +78,16 @@ returns-in-Send-clause-unread g c = inl (ap (λ (r : StoreRequest). takes_input_
 
 pub returns-in-Send-clause-serves : goal.returns-in-Send-clause-serves
 returns-in-Send-clause-serves g c = served_as _ _ _ _ _ _ _ _ _ _ _ _ _ c.in-Send.is (c.serve_send.ensures.sends, (refl, refl), refl)
+
+takes_archive : takes_input_word (codes "receive") ≡ true
+unfolding changes_by_input_word takes_input_word
+takes_archive = refl
+
+pub returns-in-Receive-clause-unread : goal.returns-in-Receive-clause-unread
+returns-in-Receive-clause-unread g c = inl (ap (λ (r : StoreRequest). takes_input_word (request_word r)) c.in-Receive.is ∙ takes_archive)
+
+pub returns-in-Receive-clause-silent : goal.returns-in-Receive-clause-silent
+returns-in-Receive-clause-silent g c = silent_but_io _ _ _ c.serve_receive.result c.serve_receive.ensures.silent
+
+pub returns-in-Receive-clause-serves : goal.returns-in-Receive-clause-serves
+returns-in-Receive-clause-serves g c = served_as _ _ _ _ _ _ _ _ _ _ _ _ _ c.in-Receive.is (c.serve_receive.ensures.receives, (refl, refl), refl)

@@ -13,6 +13,9 @@ returns-in-FileAndSteps c = own_of _ _ _ _ c.parameters_of.ensures c.in-FileAndS
 pub returns-in-FileAndDigests : goal.returns-in-FileAndDigests
 returns-in-FileAndDigests c = own_of _ _ _ _ c.parameters_of.ensures c.in-FileAndDigests.is c.with_digests.ensures
 
+pub returns-in-FileAndDeletion : goal.returns-in-FileAndDeletion
+returns-in-FileAndDeletion c = own_of _ _ _ _ c.parameters_of.ensures c.in-FileAndDeletion.is c.with_deletion.ensures
+
 pub returns-in-Table : goal.returns-in-Table
 returns-in-Table c = own_of _ _ _ _ c.parameters_of.ensures c.in-Table.is c.with_table.ensures
 

@@ -19,4 +19,5 @@ returns-in_default c =
     let apply = other_word (codes "apply") word other.not-apply in
     let compact = other_word (codes "compact") word other.not-compact in
     let send = other_word (codes "send") word other.not-send in
-    rw (format, copy, create, append, replay, info, import, schema, apply, compact, send) refl
+    let receive = other_word (codes "receive") word other.not-receive in
+    rw (format, copy, create, append, replay, info, import, schema, apply, compact, send, receive) refl
