@@ -199,7 +199,8 @@ impl<'a> StoreRequest<'a> {
         match self {
             StoreRequest::Format { .. } | StoreRequest::FormatDevice { .. } => true,
             StoreRequest::Copy { .. } => true,
-            StoreRequest::Apply { .. } | StoreRequest::Receive { .. } => true,
+            StoreRequest::Apply { .. } => true,
+            StoreRequest::Receive { .. } => true,
             StoreRequest::Salvage { .. } | StoreRequest::Replay(_) => false,
             StoreRequest::Send { .. } => false,
             StoreRequest::Command { command, .. } => !command.only_reads(),
