@@ -1,6 +1,6 @@
 use Rattle.std.proofs.Common.{◌≡◌, inl, inr, refl}
 use Rattle.std.proofs.lemmas.Result.{err_from_is_err_and}
-use Rattle.arrowstore.proofs.FileLemmas.{of_file}
+use Rattle.arrowstore.proofs.FileLemmas.{of_file, sent_in_part}
 use Rattle.arrowstore.proofs.sending_archives.serve_send.Goals as goal
 
 pub returns-in_err-had-clause-sends : goal.returns-in_err-had-clause-sends
@@ -43,3 +43,6 @@ returns-clause-sends g c = record {
   );
   unread = c.in_ok-had.ensures.unread;
 }
+
+pub returns-clause-silent : goal.returns-clause-silent
+returns-clause-silent g c = sent_in_part _ _ _ _ c.send_archive.result c.send_archive.ensures.told
