@@ -1,16 +1,24 @@
 // The hexadecimal digits of a digest.
 ghost use Rattle.std.specs.Prelude.{◌≡◌};
+ghost use Rattle.std.specs.Str.{IsUtf8};
 ghost use Rattle.hex.specs.Hex.{encode_lower};
 
 use std::fmt;
 
-// Writes the digits into `room`, which has as many bytes.
-fn digits_in<'a>(room: &'a mut [u8; 64], digest: &[u8; 32]) -> &'a str
-    ensures { result.now ≡ encode_lower digest.now }
+fn digits_of(digest: &[u8; 32]) -> [u8; 64]
+    ensures { result ≡ encode_lower digest.now }
 {
-    let _fits = hex::encode_to_slice(digest, room.as_mut_slice());
-    match str::from_utf8(room) {
-        Ok(digits) => digits,
+    let mut digits = [0; 64];
+    let _fits = hex::encode_to_slice(digest, &mut digits);
+    digits
+}
+
+fn text_of(digits: &[u8; 64]) -> &str
+    requires { IsUtf8 digits.now }
+    ensures { result.now ≡ digits.now }
+{
+    match str::from_utf8(digits) {
+        Ok(text) => text,
         Err(_) => "",
     }
 }
@@ -26,8 +34,9 @@ impl fmt::Display for HexDigits<'_> {
 
     ghost output = { λ digits. Some (encode_lower digits.digest.now) };
 
+    #[tactic(auto, using(crate::proofs::DigitLemmas::digits_are_text))]
     fn fmt<W: fmt::Write>(&self, f: &mut fmt::Formatter<W>) -> fmt::Result {
-        let mut room = [0; 64];
-        f.write_str(digits_in(&mut room, self.digest))
+        let digits = digits_of(self.digest);
+        f.write_str(text_of(&digits))
     }
 }
