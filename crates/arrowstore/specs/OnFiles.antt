@@ -323,16 +323,24 @@ abbrev pub names_input : Option (List ℕ) → Bool
 names_input None = false
 names_input (Some name) = is_input name
 
+-- the digests that the list of this name states
+abbrev pub HasListed : {F : Type 0} → (of_file : F → Option (List ℕ)) → (input : Option (List ℕ)) → (name : List ℕ) → List (List ℕ) → Type 0
+HasListed of_file input name digests = (text : List ℕ) × IsNamedInput of_file input (is_input name) text × ListsDigests text digests
+
+-- why it states none: it is not read, or a line of it states no digest
+abbrev pub RefusesListed : {F : Type 0} → (of_file : F → Option (List ℕ)) → (old new : Option (List ℕ)) → (name : List ℕ) → Refusal → Type 0
+RefusesListed of_file old new name refusal =
+    RefusesReading old new (is_input name) refusal ⊎ ((text : List ℕ) × IsNamedInput of_file old (is_input name) text × RefusesList text refusal)
+
 -- the digests that the list of this name states, or none without a list
 abbrev pub HasDigestsOf : {F : Type 0} → (of_file : F → Option (List ℕ)) → (input : Option (List ℕ)) → (list : Option (List ℕ)) → List (List ℕ) → Type 0
 HasDigestsOf of_file input None digests = digests ≡ []
-HasDigestsOf of_file input (Some name) digests = (text : List ℕ) × IsNamedInput of_file input (is_input name) text × ListsDigests text digests
+HasDigestsOf of_file input (Some name) digests = HasListed of_file input name digests
 
--- why there are none: the list is not read, or a line of it states no digest
+-- why there are none
 abbrev pub RefusesDigestsOf : {F : Type 0} → (of_file : F → Option (List ℕ)) → (old new : Option (List ℕ)) → (list : Option (List ℕ)) → Refusal → Type 0
 RefusesDigestsOf of_file old new None refusal = ⊥
-RefusesDigestsOf of_file old new (Some name) refusal =
-    RefusesReading old new (is_input name) refusal ⊎ ((text : List ℕ) × IsNamedInput of_file old (is_input name) text × RefusesList text refusal)
+RefusesDigestsOf of_file old new (Some name) refusal = RefusesListed of_file old new name refusal
 
 -- a store was opened, and an archive of its tables was sent to a receiver that has these digests; the store was only read
 pub record SendsOpened {D : Type 0} (g : Ghosts D) (is_opened : D → Type 0) {W : Type 0} (contents : W → Option (List ℕ)) (had : List (List ℕ))

@@ -1,7 +1,7 @@
 // Sends an archive of the store in a file.
 ghost use Rattle.std.specs.Prelude.{◌≡◌, false, option_map, IfOk, IfErr};
 ghost use Rattle.cli_commands.specs.Archives.{IsOfSending};
-ghost use Rattle.arrowstore.specs.OnFiles.{HasDigestsOf, IsOpenedFile, RefusesDigestsOf, SendsArchive, names_input};
+ghost use Rattle.arrowstore.specs.OnFiles.{HasDigestsOf, HasListed, IsOpenedFile, RefusesDigestsOf, RefusesListed, SendsArchive, is_input, names_input};
 
 use crate::copying_files::open_to_read;
 use crate::named_input::read_named;
@@ -14,6 +14,21 @@ use std::fs::OpenFile;
 use std::io::{Read, Seek, Write};
 use std::rt::Files;
 
+// Returns the digests that the list of this name states.
+fn listed_digests<F: Read + OpenFile + Drop, H: Files<File = F> + AllocGlobal, R: Read>(
+    rt: &H,
+    name: &str,
+    input: &mut R,
+) -> Result<Vec<[u8; 32]>, Refusal>
+    ensures read { IfOk result (λ digests. HasListed F.remaining (R.remaining input.old) name.now digests.items) }
+    ensures told { IfErr result (RefusesListed F.remaining (R.remaining input.old) (R.remaining input.new) name.now) }
+    ensures unread { is_input name.now ≡ false → input.new ≡ input.old }
+{
+    let text = read_named(rt, name, input)?;
+    let digests = read_digests(rt.alloc(), &text)?;
+    Ok(digests)
+}
+
 // Returns the digests that the list of this name states, or none without a list.
 fn digests_of<F: Read + OpenFile + Drop, H: Files<File = F> + AllocGlobal, R: Read>(
     rt: &H,
@@ -25,10 +40,7 @@ fn digests_of<F: Read + OpenFile + Drop, H: Files<File = F> + AllocGlobal, R: Re
     ensures unread { names_input (option_map (λ l. l.now) list) ≡ false → input.new ≡ input.old }
 {
     match list {
-        Some(name) => {
-            let text = read_named(rt, name, input)?;
-            read_digests(rt.alloc(), &text)
-        }
+        Some(name) => listed_digests(rt, name, input),
         None => Ok(Vec::new(rt.alloc())),
     }
 }
