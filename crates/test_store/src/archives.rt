@@ -1,4 +1,4 @@
-// Archives of a store, by the SHA-256 of the whole archive. An archive with these bytes was made by hand from the page of the definition and a store of the
+// The digests of a store's segments, and archives of it, by the SHA-256 of the whole archive. An archive with these bytes was made by hand from the page of the definition and a store of the
 // same tables, and `tar` lists its members.
 use crate::inputs::{Cell, INT};
 use crate::made::{NotMade, assert_no_row};
@@ -20,11 +20,22 @@ const TABLES: Steps = &[
 ];
 
 const SEGMENT: &str = "781f262941d3ee71fcb4ea29fe5cc11704133ebe336a5d717ffadb3be18cc080";
+
 const OTHER: &str = "44c34489281c48be8b5c256fe77131aa0de1fa0a6eb9074740284ea57665390d";
 
 // With the segment, and without it.
 const WHOLE: &str = "fde745d64903bbbaecdee1778941307ee797726dc845e136154b6bc56ecf7024";
+
 const LESS: &str = "48cb9f536d71a8651df5ec286307ecfffd4b69908782bdfac664c94d03f9cac5";
+
+// The same rows in both tables: two segments of one digest.
+const TWINS: Steps = &[
+    (Format, "ok"),
+    (Create("t", INT), "ok"),
+    (Create("u", INT), "ok"),
+    (Give("u", &[&[Number(7)], &[Number(8)]]), "ok"),
+    (Give("t", &[&[Number(7)], &[Number(8)]]), "ok"),
+];
 
 // How steps are taken, which digests the receiver has, and the digest of the archive.
 type Row = (Way, &'static [&'static str], &'static str);
@@ -35,6 +46,17 @@ const ARCHIVES: &[Row] = &[
     (Way::EachCall, &[OTHER], WHOLE),
     (Way::EachCall, &[OTHER, SEGMENT, SEGMENT], LESS),
     (Way::VersionOne, &[SEGMENT], LESS),
+];
+
+// How which steps are taken, and the digests.
+type DigestRow = (Way, Steps, &'static [&'static str]);
+
+const DIGESTS: &[DigestRow] = &[
+    (Way::EachCall, &[(Format, "ok")], &[]),
+    (Way::EachCall, TABLES, &[SEGMENT]),
+    (Way::VersionOne, TABLES, &[SEGMENT]),
+    (Way::EachCall, TWINS, &[SEGMENT]),
+    (Way::VersionOne, TWINS, &[SEGMENT]),
 ];
 
 fn digest_of(text: &str) -> Result<[u8; 32], NotMade> {
@@ -64,6 +86,27 @@ fn is_archived(alloc: Global, slot: &mut Slot, row: &Row) -> Result<bool, NotMad
     Ok(Sha256::digest(&archive) == digest_of(want)?)
 }
 
+fn has_digests(alloc: Global, slot: &mut Slot, row: &DigestRow) -> Result<bool, NotMade> {
+    let (way, steps, want) = *row;
+    if play(alloc, slot, steps, way)?.is_some() {
+        return Ok(false);
+    }
+    let Some(StoreOrDevice::Open(store)) = slot else {
+        return Err(NotMade);
+    };
+    let digests = store.digests(alloc).map_err(|_| NotMade)?;
+    Ok(digests.as_slice() == digests_of(alloc, want)?.as_slice())
+}
+
+fn wrong_digests(alloc: Global, rows: &[DigestRow]) -> Result<Option<usize>, NotMade> {
+    for (place, row) in rows.iter().enumerate() {
+        if !has_digests(alloc, &mut new_slot(alloc, 64)?, row)? {
+            return Ok(Some(place));
+        }
+    }
+    Ok(None)
+}
+
 fn wrong_archive(alloc: Global, rows: &[Row]) -> Result<Option<usize>, NotMade> {
     for (place, row) in rows.iter().enumerate() {
         if !is_archived(alloc, &mut new_slot(alloc, 64)?, row)? {
@@ -71,6 +114,11 @@ fn wrong_archive(alloc: Global, rows: &[Row]) -> Result<Option<usize>, NotMade> 
         }
     }
     Ok(None)
+}
+
+#[test]
+fn digests_are_those_of_the_segments(rt: HostRuntime) {
+    assert_no_row(&rt, wrong_digests(rt.alloc(), DIGESTS));
 }
 
 #[test]

@@ -1,5 +1,4 @@
 -- What the sending of an archive does, step by step.
-use Rattle.std.specs.Prelude.{◌≡◌, ℕ, List}
 use Rattle.tables.specs.declared.refusal.Refusal.{Refusal}
 use Rattle.tables.specs.declared.refusal.Refusal.TheVariants as refusals
 use Rattle.tables.specs.declared.refusal.Limit.TheVariants as limits
