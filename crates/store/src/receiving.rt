@@ -401,7 +401,10 @@ impl<D: SectorDevice> Store<D> {
     {
         let names = self.tables(alloc)?;
         let own = self.own_places(alloc, &names)?;
-        let sources = Sources { archive, own };
+        let sources = Sources {
+            archive: &*archive,
+            own,
+        };
         let mut commands = Vec::new(alloc);
         if delete {
             push_drops(alloc, &names, &archive.tables, &mut commands)?;
