@@ -1,5 +1,5 @@
 -- Archives of the tables of a store.
-use Rattle.std.specs.Prelude.{◌≡◌, ◌<◌, ◌≤◌, ◌+◌, ◌^◌, ℕ, Bool, true, false, List, [], ◌∷◌, length, slice_get, flat_map, Option, Some, None}
+use Rattle.std.specs.Prelude.{◌≡◌, ◌+◌, ℕ, Bool, true, false, List, [], ◌∷◌, slice_get, map, flat_map, Option, Some, None}
 use Rattle.std.specs.Io.KnownBytes.{Appends}
 use Rattle.sector_dev.specs.Disk.{Image}
 use Rattle.arrow_schema.specs.Column.{PlainSchema}
@@ -8,7 +8,7 @@ use Rattle.catalogue.specs.Entries.{PlainEntry, PlainCatalogue}
 use Rattle.catalogue.specs.Edits.{entry_of, tables_of}
 use Rattle.table_archive.specs.declared.manifest.ListedSegment.{ListedSegment}
 use Rattle.table_archive.specs.Manifest.{PlainListed}
-use Rattle.table_archive.specs.Archive.{lacked_by, archive_of}
+use Rattle.table_archive.specs.Archive.{lacked, lacked_by, segments_of, archive_of}
 use Rattle.table_archive.specs.Texts.{HasTexts}
 use Rattle.tables.specs.declared.refusal.Refusal.{Refusal}
 use Rattle.tables.specs.declared.refusal.Refusal.TheVariants as refusals
@@ -91,3 +91,26 @@ pub record Sends (tells : Bool) (image : Image) (c : PlainCatalogue) (epoch : �
 abbrev pub SendsAt : (halted tells : Bool) → Image → PlainCatalogue → (epoch : ℕ) → (had : List (List ℕ)) → (old new : Option (List ℕ)) → Type 0
 SendsAt true tells image c epoch had old new = ⊥
 SendsAt false tells image c epoch had old new = Sends tells image c epoch had old new
+
+-- ---- the digests of the segments
+
+-- the digests of the segments of tables, in the order of the tables and of their rows, each once
+abbrev pub digests_of : List PlainListed → List (List ℕ)
+digests_of tables = map (λ (l : ListedSegment). l.digest) (lacked [] (segments_of tables))
+
+-- those of all tables, as they are listed
+pub record HasDigests (tells : Bool) (image : Image) (c : PlainCatalogue) (digests : List (List ℕ)) : Type 0 where
+  pub tables : List PlainListed
+  pub listed : ListsTables tells image c (tables_of c) tables
+  pub all : digests ≡ digests_of tables
+
+abbrev pub HasDigestsAt : (halted tells : Bool) → Image → PlainCatalogue → (digests : List (List ℕ)) → Type 0
+HasDigestsAt true tells image c digests = ⊥
+HasDigestsAt false tells image c digests = HasDigests tells image c digests
+
+-- ---- refusals
+
+-- a halted store is refused as halted, and no other is
+abbrev pub SaysHalted : (halted : Bool) → Refusal → Type 0
+SaysHalted halted refusals.Halted = halted ≡ true
+SaysHalted halted _ = halted ≡ false

@@ -1,4 +1,4 @@
-// Writes an archive of all tables, without the segments that its receiver has.
+// The digests of all segments, and archives of all tables without the segments that a receiver has.
 ghost use Rattle.std.specs.Prelude.{◌≡◌, ◌++◌, ℕ, List, true, map, flat_map, string_bytes, option_map, IfOk, IfErr, OnOk};
 ghost use Rattle.std.specs.Io.KnownBytes.{Appends};
 ghost use Rattle.arrow_schema.specs.Limits.{IsWithinLimits};
@@ -6,7 +6,7 @@ ghost use Rattle.arrow_schema.specs.View.{schema_of};
 ghost use Rattle.sha2.specs.Sha256.{sha256};
 ghost use Rattle.table_archive.specs.Archive.{lacked_by, archive_of, segment_member, archive_end};
 ghost use Rattle.table_archive.specs.Manifest.{plain_listed, AreWithin};
-ghost use Rattle.store.specs.Sending.{Located, located_in, located_from};
+ghost use Rattle.store.specs.Sending.{Located, located_in, digests_of};
 ghost use Rattle.store.specs.inner.Sending.{plain_item, FailsMaking, FailsSending};
 
 use crate::Store;
@@ -75,6 +75,19 @@ fn lacked_items<'a>(
     Ok(lacked)
 }
 
+// Returns the digests of the segments of tables, each once.
+fn digests_of(alloc: Global, tables: &[ListedTable]) -> Result<Vec<[u8; 32]>, Refusal>
+    ensures digests { IfOk result (λ digests. digests.items ≡ digests_of (map plain_listed tables.now)) }
+    ensures memory { IfErr result (λ e. e ≡ Refusal.OutOfMemory) }
+{
+    let items = lacked_items(alloc, &[], &items_of(alloc, tables)?)?;
+    let mut digests = Vec::with_capacity(alloc, items.len())?;
+    for item in &items {
+        digests.push(item.digest)?;
+    }
+    Ok(digests)
+}
+
 // A member that no header can state exceeds a limit of bytes.
 fn refusal_of(error: ArchiveError) -> Refusal
     ensures { FailsMaking result }
@@ -133,7 +146,7 @@ impl<D: SectorDevice> Store<D> {
     ghost use Rattle.store.specs.Fits.{commit_of, device_of, listed_in, is_halted};
     ghost use Rattle.store.specs.Reading.{OnlyReadsStore};
     ghost use Rattle.store.specs.SegmentStreams.{info_of};
-    ghost use Rattle.store.specs.Sending.{ListsSegment, ListsSegments, ListsTable, ListsTables, IsSent, AreSent, SendsAt};
+    ghost use Rattle.store.specs.Sending.{ListsSegment, ListsSegments, ListsTable, ListsTables, IsSent, AreSent, SendsAt, HasDigestsAt, SaysHalted};
 
     // Returns the segment at this place of a table as it is listed. One without a digest is read.
     fn list_segment(
@@ -274,6 +287,23 @@ impl<D: SectorDevice> Store<D> {
         write_last(alloc, writer)
     }
 
+    /// Returns the digest of each segment of all tables, in the order of the tables and of their rows, each once: the SHA-256 of its stream (FIPS 180-4).
+    /// Only reads the store. A segment without a digest is read, one at a time; where all have digests, there is no call of the device.
+    ///
+    /// # Errors
+    /// Those of [`Store::tables`], and of [`Store::segment_stream`] for a segment without a digest.
+    pub fn digests(&mut self, alloc: Global) -> Result<Vec<[u8; 32]>, Refusal>
+        // The tables are those of the catalogue, with the digests of their entries, or of the streams that were read.
+        ensures has { IfOk result (λ digests. HasDigestsAt (is_halted self.old) D.tells (shown_image (now (D.story (device_of self.old))))
+            (listed_in self.old) digests.items) }
+        ensures told { IfErr result (SaysHalted (is_halted self.old)) }
+        ensures reads { OnlyReadsStore D.size D.story D.failed D.tells (ended result) self.old self.new }
+    {
+        let names = self.tables(alloc)?;
+        let tables = self.list_tables(alloc, &names)?;
+        digests_of(alloc, &tables)
+    }
+
     /// Writes an archive of all tables of the ruling commit, without the segments with the digests that its receiver has, and flushes: a POSIX tape archive
     /// (docs/definitions/archive.md). Only reads the store. One segment is in memory at a time. A store without digests is read twice.
     ///
@@ -289,6 +319,7 @@ impl<D: SectorDevice> Store<D> {
         // The tables are those of the catalogue, and each stream that is sent was read of its segment.
         ensures sent { OnOk result (SendsAt (is_halted self.old) D.tells (shown_image (now (D.story (device_of self.old)))) (listed_in self.old)
             (commit_of self.old).epoch had.now (W.contents writer.old) (W.contents writer.new)) }
+        ensures told { IfErr result (SaysHalted (is_halted self.old)) }
         ensures reads { OnlyReadsStore D.size D.story D.failed D.tells (ended result) self.old self.new }
     {
         let names = self.tables(alloc)?;
