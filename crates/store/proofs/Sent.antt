@@ -1,9 +1,9 @@
 -- An archive that is listed and sent, step by step.
-use Rattle.std.specs.Prelude.{◌||◌, not, flat_map, slice_get, Option, option_map, if◌then◌else◌}
+use Rattle.std.specs.Prelude.{◌||◌, not, flat_map, slice_get, Option, option_map, if◌then◌else◌, ◌≢◌}
 use Rattle.std.specs.Io.KnownBytes.{Appends}
 use Rattle.std.proofs.Common.{◌≡◌, ◌+◌, ◌<◌, ◌∙◌, ◌++◌, ℕ, Bool, true, false, List, [], ◌∷◌, Some, None, arith, get_or, length, map, take, drop, append_assoc, append-nil, refl, sym, ap, subst}
 use Rattle.std.proofs.KnownBytes.{Appends-nil, Appends-trans}
-use Rattle.std.proofs.lemmas.Bool.{cond-true, cond-false, not-false, not-true}
+use Rattle.std.proofs.lemmas.Bool.{true≢false, cond-true, cond-false, not-false, not-true}
 use Rattle.std.proofs.lemmas.Grind.{flat_map-append}
 use Rattle.std.proofs.lemmas.List.{map-append, take_more, get_or-map, length-map}
 use Rattle.std.proofs.lemmas.Option.{same_Some, slice_get-get_or}
@@ -12,16 +12,18 @@ use Rattle.sector_dev.specs.Disk.{Image, Story, now, shown_image}
 use Rattle.sector_dev.specs.declared.device.SectorDevice.{Ghosts}
 use Rattle.arrow_schema.specs.Column.{PlainSchema}
 use Rattle.catalogue.specs.declared.entry.Segment.{Segment}
-use Rattle.catalogue.specs.Edits.{entry_of}
+use Rattle.catalogue.specs.Edits.{entry_of, tables_of}
 use Rattle.catalogue.specs.Entries.{PlainEntry, PlainCatalogue}
 use Rattle.catalogue.specs.View.{catalogue_of}
 use Rattle.commit.specs.declared.recovery.Opened.{Opened}
 use Rattle.pages.specs.declared.stored.StoredCatalogue.{StoredCatalogue}
 use Rattle.segments.specs.laws.Usages.{or_false}
 use Rattle.table_archive.specs.declared.manifest.ListedSegment.{ListedSegment}
-use Rattle.table_archive.specs.Archive.{is_among, lacked_by, segment_member}
+use Rattle.table_archive.specs.Archive.{is_among, lacked_by, segments_of, segment_member, archive_of}
 use Rattle.table_archive.specs.Manifest.{PlainListed}
 use Rattle.table_archive.specs.Texts.{HasTexts}
+use Rattle.tables.specs.declared.refusal.Refusal.{Refusal}
+use Rattle.tables.specs.declared.refusal.Refusal.TheVariants as refusals
 use Rattle.store_runs.specs.Calls.{PlainReply, done, is_device_reply}
 use Rattle.store_changes.specs.laws.Digests.{copy_then}
 use Rattle.store_changes.specs.laws.ReadTables.{reads_more, reads_quiet, image_then}
@@ -30,9 +32,10 @@ use Rattle.store.specs.declared.sending.Item.{Item}
 use Rattle.store.specs.Fits.{listed_in, commit_of}
 use Rattle.store.specs.Reading.{OnlyReadsStore}
 use Rattle.store.specs.declared.segment_streams.SegmentInfo.{SegmentInfo}
-use Rattle.store.specs.SegmentStreams.{HasStream, info_of}
-use Rattle.store.specs.Sending.{HasListedDigest, ListsSegment, ListsSegments, ListsEntry, ListsTable, ListsTables, Located, located_from, IsSent, AreSent}
-use Rattle.store.specs.inner.Sending.{plain_item}
+use Rattle.store.specs.Listing.{RefusesTables, RefusesSchema}
+use Rattle.store.specs.SegmentStreams.{HasStream, RefusesAt, RefusesStream, info_of}
+use Rattle.store.specs.Sending.{HasListedDigest, ListsSegment, ListsSegments, ListsEntry, ListsTable, ListsTables, Located, located_in, located_from, IsSent, AreSent, Sends, SaysHalted, digests_of}
+use Rattle.store.specs.inner.Sending.{plain_item, FailsMaking, FailsSending}
 
 -- ---- a store that was only read
 
@@ -66,6 +69,42 @@ module _ {D : Type 0} {g : Ghosts D} (size : D → ℕ) (story : D → Story) (f
 
     pub same_halted : b.halted ≡ a.halted
     same_halted = reads.halts ∙ or_false a.halted
+
+-- ---- why it is not halted
+
+at_place_awake : (tells : Bool) (image : Image) (s : PlainSchema) (o : Option Segment) (place : ℕ) → RefusesAt tells image s o place refusals.Halted → ⊥
+at_place_awake tells image s None place is = absurd (cc is)
+at_place_awake tells image s (Some g) place is = is
+
+stream_at_awake : (tells : Bool) (image : Image) (found : Option PlainEntry) (place : ℕ) → RefusesStream false tells image found place refusals.Halted → ⊥
+stream_at_awake tells image None place is = absurd (cc is)
+stream_at_awake tells image (Some e) place is = at_place_awake tells image e.schema (slice_get e.segments place) place is
+
+pub stream_awake : (h tells : Bool) (image : Image) (found : Option PlainEntry) (place : ℕ) (r : Refusal) → h ≡ false → RefusesStream h tells image found place r → r ≢ refusals.Halted
+stream_awake h tells image found place r on is = λ halted.
+    stream_at_awake tells image found place
+    (subst (RefusesStream false tells image found place) halted (subst (λ (b : Bool). RefusesStream b tells image found place r) on is))
+
+pub schema_awake : (h : Bool) (found : Option PlainEntry) (r : Refusal) → h ≡ false → RefusesSchema h found r → r ≢ refusals.Halted
+schema_awake h found r on is = λ halted. true≢false (sym (subst (RefusesSchema h found) halted is) ∙ on)
+
+pub sending_awake : (r : Refusal) → FailsSending r → r ≢ refusals.Halted
+sending_awake r is = λ halted. subst FailsSending halted is
+
+pub making_awake : (r : Refusal) → FailsMaking r → r ≢ refusals.Halted
+making_awake r is = λ halted. subst FailsMaking halted is
+
+pub memory_awake : (r : Refusal) → r ≡ refusals.OutOfMemory → r ≢ refusals.Halted
+memory_awake r is = λ halted. cc (sym is ∙ halted)
+
+pub says_awake : (h : Bool) (r : Refusal) → h ≡ false → r ≢ refusals.Halted → SaysHalted h r
+says_awake h refusals.Halted on not = absurd (not refl)
+says_awake h _ on not = on
+
+pub says_tables : (h : Bool) (r : Refusal) → RefusesTables h r → SaysHalted h r
+says_tables h refusals.Halted is = is
+says_tables h refusals.OutOfMemory is = is
+says_tables h _ is = absurd is
 
 -- ---- as it was shown at first
 
@@ -112,6 +151,31 @@ module _ (tells : Bool) (a b : Image) (same : tells ≡ true → b ≡ a) where
   all_sent_then c (x ∷ xs) (s ∷ ss) are = (sent_then c x s are.0, all_sent_then c xs ss are.1)
   all_sent_then c [] (s ∷ ss) are = absurd are
   all_sent_then c (x ∷ xs) [] are = absurd are
+
+-- of a store that was only read since
+module _ {D : Type 0} {g : Ghosts D} (size : D → ℕ) (story : D → Story) (failed : D → ℕ) (tells : Bool) (a b : Store D g)
+    (reads : OnlyReadsStore size story failed tells done a b) where
+  pub first_sent : (x : Located) (stream : List ℕ) → IsSent tells (shown_image (now (story b.device))) (listed_in b) x stream
+      → IsSent tells (shown_image (now (story a.device))) (listed_in a) x stream
+  first_sent x stream is =
+      sent_then tells (shown_image (now (story a.device))) (shown_image (now (story b.device))) (same_image size story failed tells a b reads) (listed_in a) x stream
+      (subst (λ (c : PlainCatalogue). IsSent tells (shown_image (now (story b.device))) c x stream) (same_list size story failed tells a b reads) is)
+
+  pub first_all_sent : (xs : List Located) (streams : List (List ℕ)) → AreSent tells (shown_image (now (story b.device))) (listed_in b) xs streams
+      → AreSent tells (shown_image (now (story a.device))) (listed_in a) xs streams
+  first_all_sent xs streams are =
+      all_sent_then tells (shown_image (now (story a.device))) (shown_image (now (story b.device))) (same_image size story failed tells a b reads) (listed_in a) xs streams
+      (subst (λ (c : PlainCatalogue). AreSent tells (shown_image (now (story b.device))) c xs streams) (same_list size story failed tells a b reads) are)
+
+  pub first_table : (name : List ℕ) (t : PlainListed) → ListsTable tells (shown_image (now (story b.device))) (listed_in b) name t
+      → ListsTable tells (shown_image (now (story a.device))) (listed_in a) name t
+  first_table name t lists =
+      table_then tells (shown_image (now (story a.device))) (shown_image (now (story b.device))) (same_image size story failed tells a b reads) (listed_in a) name t
+      (subst (λ (c : PlainCatalogue). ListsTable tells (shown_image (now (story b.device))) c name t) (same_list size story failed tells a b reads) lists)
+
+  pub first_segment : (s : PlainSchema) (g : Segment) (l : ListedSegment) → ListsSegment tells (shown_image (now (story b.device))) s g l
+      → ListsSegment tells (shown_image (now (story a.device))) s g l
+  first_segment = segment_then tells (shown_image (now (story a.device))) (shown_image (now (story b.device))) (same_image size story failed tells a b reads)
 
 -- ---- one more
 
@@ -203,6 +267,52 @@ module _ (items : List Item) (i : ℕ) (item : Item) (lt : i < length items) (at
       ∙ ap (λ (xs : List Located). map plain_item lacked ++ xs) (sym (here ∙ cond-false (is_among item.digest had) _ _ is))
       ∙ so_far
 
+-- ---- the digests, each once
+
+map_if : {A : Type 0} (f : A → List ℕ) (b : Bool) (x : A) (xs ys : List A) (us vs : List (List ℕ)) → map f xs ≡ us → map f ys ≡ vs
+    → map f (if b then xs else x ∷ ys) ≡ (if b then us else f x ∷ vs)
+map_if f true x xs ys us vs one other = one
+map_if f false x xs ys us vs one other = ap (λ (zs : List (List ℕ)). f x ∷ zs) other
+
+lacked_digests : {A : Type 0} (f : A → List ℕ) (had : List (List ℕ)) (xs : List A) → map f (lacked_by f had xs) ≡ lacked_by (λ (d : List ℕ). d) had (map f xs)
+lacked_digests f had [] = refl
+lacked_digests f had (x ∷ xs) = map_if f (is_among (f x) had) x _ _ _ _ (lacked_digests f had xs) (lacked_digests f (f x ∷ had) xs)
+
+located_digests : (name : List ℕ) (place : ℕ) (ls : List ListedSegment) → map (λ (x : Located). x.digest) (located_from name place ls) ≡ map (λ (l : ListedSegment). l.digest) ls
+located_digests name place [] = refl
+located_digests name place (l ∷ ls) = ap (λ (zs : List (List ℕ)). l.digest ∷ zs) (located_digests name (place + 1) ls)
+
+all_located : (ts : List PlainListed) → map (λ (x : Located). x.digest) (flat_map located_in ts) ≡ map (λ (l : ListedSegment). l.digest) (segments_of ts)
+all_located [] = refl
+all_located (t ∷ ts) =
+    map-append (λ (x : Located). x.digest) (located_in t) (flat_map located_in ts)
+    ∙ ap (λ (zs : List (List ℕ)). zs ++ map (λ (x : Located). x.digest) (flat_map located_in ts)) (located_digests t.name 0 t.segments)
+    ∙ ap (λ (zs : List (List ℕ)). map (λ (l : ListedSegment). l.digest) t.segments ++ zs) (all_located ts)
+    ∙ sym (map-append (λ (l : ListedSegment). l.digest) t.segments (segments_of ts))
+
+-- those of located segments are those of the tables
+pub same_digests : (ts : List PlainListed) → map (λ (x : Located). x.digest) (lacked_by (λ (x : Located). x.digest) [] (flat_map located_in ts)) ≡ digests_of ts
+same_digests ts =
+    lacked_digests (λ (x : Located). x.digest) [] (flat_map located_in ts) ∙ ap (lacked_by (λ (d : List ℕ). d) []) (all_located ts)
+    ∙ sym (lacked_digests (λ (l : ListedSegment). l.digest) [] (segments_of ts))
+
+pub item_digests : (items : List Item) → map (λ (x : Item). x.digest) items ≡ map (λ (x : Located). x.digest) (map plain_item items)
+item_digests [] = refl
+item_digests (x ∷ xs) = ap (λ (zs : List (List ℕ)). x.digest ∷ zs) (item_digests xs)
+
+pub digests_listed : (items all : List Item) (digests : List (List ℕ)) (ts : List PlainListed) → digests ≡ map (λ (x : Item). x.digest) items
+    → map plain_item items ≡ lacked_by (λ (x : Located). x.digest) [] (map plain_item all) → map plain_item all ≡ flat_map located_in ts → digests ≡ digests_of ts
+digests_listed items all digests ts are lacked listed =
+    are ∙ item_digests items
+    ∙ ap (map (λ (x : Located). x.digest)) (lacked ∙ ap (lacked_by (λ (x : Located). x.digest) []) listed)
+    ∙ same_digests ts
+
+pub digests_more : (items : List Item) (i : ℕ) (item : Item) (digests more : List (List ℕ)) → i < length items → item ≡ get_or items i item → more ≡ digests ++ item.digest ∷ []
+    → digests ≡ map (λ (x : Item). x.digest) (take i items) → more ≡ map (λ (x : Item). x.digest) (take (i + 1) items)
+digests_more items i item digests more lt at longer are =
+    longer ∙ ap (λ (ds : List (List ℕ)). ds ++ item.digest ∷ []) are ∙ sym (map-append (λ (x : Item). x.digest) (take i items) (item ∷ []))
+    ∙ sym (ap (map (λ (x : Item). x.digest)) (take-item items i item lt at))
+
 -- ---- a table
 
 pub table_listed : (tells : Bool) (image : Image) (c : PlainCatalogue) (name : List ℕ) (e : PlainEntry) (t : PlainListed) → option_map (λ (x : PlainEntry). x.schema) (entry_of c name) ≡ Some t.schema
@@ -216,6 +326,10 @@ table_listed tells image c name e t found there named fields segments =
       listed = record { schema = same; fields = subst (λ (s : PlainSchema). HasTexts s t.fields) same fields; segments = segments };
     }
 
+pub some_entry : {X : Type 0} (f : PlainEntry → X) (o : Option PlainEntry) (x : X) → option_map f o ≡ Some x → (e : PlainEntry) × (o ≡ Some e)
+some_entry f None x is = absurd (cc is)
+some_entry f (Some e) x is = (e, refl)
+
 -- of the segments of an entry, that at a place
 pub info_at : (c : PlainCatalogue) (name : List ℕ) (infos : List SegmentInfo) (place : ℕ) (info : SegmentInfo) (e : PlainEntry)
     → option_map (λ (x : PlainEntry). map info_of x.segments) (entry_of c name) ≡ Some infos → entry_of c name ≡ Some e → place < length infos → info ≡ get_or infos place info
@@ -226,3 +340,33 @@ info_at c name infos place info e found there lt at =
       among,
       λ g is. at ∙ ap (λ (xs : List SegmentInfo). get_or xs place info) same ∙ get_or-map info_of e.segments place g info among ∙ ap info_of (sym is),
     )
+
+pub count_at : (c : PlainCatalogue) (name : List ℕ) (infos : List SegmentInfo) (e : PlainEntry)
+    → option_map (λ (x : PlainEntry). map info_of x.segments) (entry_of c name) ≡ Some infos → entry_of c name ≡ Some e → length infos ≡ length e.segments
+count_at c name infos e found there =
+    ap length (same_Some infos (map info_of e.segments) (sym found ∙ ap (option_map (λ (x : PlainEntry). map info_of x.segments)) there))
+    ∙ length-map e.segments info_of
+
+-- ---- an archive
+
+pub whole_written : (a b d e : Option (List ℕ)) (front middle last : List ℕ) → Appends a b front → Appends b d middle → Appends d e last
+    → Appends a e (front ++ (middle ++ last))
+whole_written a b d e front middle last one two three =
+    Appends-trans a b e front (middle ++ last) one (Appends-trans b d e middle last two three)
+
+module _ {D : Type 0} {g : Ghosts D} (size : D → ℕ) (story : D → Story) (failed : D → ℕ) (tells : Bool) (a b : Store D g)
+    (reads : OnlyReadsStore size story failed tells done a b) where
+  pub sends_tables : (had : List (List ℕ)) (ts : List PlainListed) (old new : Option (List ℕ))
+      → ListsTables tells (shown_image (now (story a.device))) (listed_in a) (tables_of (listed_in a)) ts → (streams : List (List ℕ))
+      → AreSent tells (shown_image (now (story b.device))) (listed_in b) (lacked_by (λ (x : Located). x.digest) had (flat_map located_in ts)) streams
+      → Appends old new (archive_of (commit_of b).epoch ts streams)
+      → Sends tells (shown_image (now (story a.device))) (listed_in a) (commit_of a).epoch had old new
+  sends_tables had ts old new listed streams sent written =
+      record {
+        tables = ts;
+        listed = listed;
+        streams = streams;
+        sent = first_all_sent size story failed tells a b reads (lacked_by (λ (x : Located). x.digest) had (flat_map located_in ts)) streams sent;
+        written =
+            subst (λ (epoch : ℕ). Appends old new (archive_of epoch ts streams)) (ap (λ (o : Opened StoredCatalogue). o.commit.epoch) reads.kept) written;
+      }

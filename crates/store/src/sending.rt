@@ -156,9 +156,10 @@ impl<D: SectorDevice> Store<D> {
         place: usize,
         info: SegmentInfo,
     ) -> Result<ListedSegment, Refusal>
-        ensures listed { IfOk result (λ l. (e : PlainEntry) (g : Segment) → is_halted self.old ≡ false → entry_of (listed_in self.old) name.now ≡ Some e
-            → slice_get e.segments place ≡ Some g → info ≡ info_of g
-            → ListsSegment D.tells (shown_image (now (D.story (device_of self.old)))) e.schema g l) }
+        requires on { is_halted self.old ≡ false }
+        ensures listed { IfOk result (λ l. (e : PlainEntry) (g : Segment) → entry_of (listed_in self.old) name.now ≡ Some e → slice_get e.segments place ≡ Some g
+            → info ≡ info_of g → ListsSegment D.tells (shown_image (now (D.story (device_of self.old)))) e.schema g l) }
+        ensures awake { IfErr result (λ e. e ≢ Refusal.Halted) }
         ensures reads { OnlyReadsStore D.size D.story D.failed D.tells (ended result) self.old self.new }
     {
         let digest = match info.digest {
@@ -173,8 +174,10 @@ impl<D: SectorDevice> Store<D> {
     }
 
     fn list_segments(&mut self, alloc: Global, name: &str) -> Result<Vec<ListedSegment>, Refusal>
+        requires on { is_halted self.old ≡ false }
         ensures listed { IfOk result (λ ls. (e : PlainEntry) × (entry_of (listed_in self.old) name.now ≡ Some e)
             × ListsSegments D.tells (shown_image (now (D.story (device_of self.old)))) e.schema e.segments ls.items) }
+        ensures awake { IfErr result (λ e. e ≢ Refusal.Halted) }
         ensures reads { OnlyReadsStore D.size D.story D.failed D.tells (ended result) self.old self.new }
     {
         let infos = self.segments(alloc, name)?;
@@ -189,9 +192,11 @@ impl<D: SectorDevice> Store<D> {
     }
 
     fn list_table(&mut self, alloc: Global, name: &str) -> Result<ListedTable, Refusal>
+        requires on { is_halted self.old ≡ false }
         ensures listed { IfOk result (λ t. ListsTable D.tells (shown_image (now (D.story (device_of self.old)))) (listed_in self.old) name.now
             (plain_listed t)) }
         ensures within { IfOk result (λ t. IsWithinLimits (schema_of t.schema)) }
+        ensures awake { IfErr result (λ e. e ≢ Refusal.Halted) }
         ensures reads { OnlyReadsStore D.size D.story D.failed D.tells (ended result) self.old self.new }
     {
         let schema = self.schema(alloc, name)?;
@@ -211,9 +216,11 @@ impl<D: SectorDevice> Store<D> {
         alloc: Global,
         names: &[(String, u64)],
     ) -> Result<Vec<ListedTable>, Refusal>
+        requires on { is_halted self.old ≡ false }
         ensures listed { IfOk result (λ ts. ListsTables D.tells (shown_image (now (D.story (device_of self.old)))) (listed_in self.old)
             (map (λ t. (string_bytes t.0, t.1)) names.now) (map plain_listed ts.items)) }
         ensures within { IfOk result (λ ts. AreWithin ts.items) }
+        ensures awake { IfErr result (λ e. e ≢ Refusal.Halted) }
         ensures reads { OnlyReadsStore D.size D.story D.failed D.tells (ended result) self.old self.new }
     {
         let mut tables = Vec::new(alloc);
@@ -233,8 +240,10 @@ impl<D: SectorDevice> Store<D> {
         item: &Item<'_>,
         writer: &mut W,
     ) -> Result<(), Refusal>
+        requires on { is_halted self.old ≡ false }
         ensures sent { OnOk result ((stream : List ℕ) × IsSent D.tells (shown_image (now (D.story (device_of self.old)))) (listed_in self.old)
             (plain_item item.now) stream × Appends (W.contents writer.old) (W.contents writer.new) (segment_member stream)) }
+        ensures awake { IfErr result (λ e. e ≢ Refusal.Halted) }
         ensures reads { OnlyReadsStore D.size D.story D.failed D.tells (ended result) self.old self.new }
     {
         let stream = self.segment_stream(alloc, item.name, item.place)?;
@@ -251,8 +260,10 @@ impl<D: SectorDevice> Store<D> {
         items: &[Item<'_>],
         writer: &mut W,
     ) -> Result<(), Refusal>
+        requires on { is_halted self.old ≡ false }
         ensures sent { OnOk result ((streams : List (List ℕ)) × AreSent D.tells (shown_image (now (D.story (device_of self.old)))) (listed_in self.old)
             (map plain_item items.now) streams × Appends (W.contents writer.old) (W.contents writer.new) (flat_map segment_member streams)) }
+        ensures awake { IfErr result (λ e. e ≢ Refusal.Halted) }
         ensures reads { OnlyReadsStore D.size D.story D.failed D.tells (ended result) self.old self.new }
     {
         for item in items {
@@ -272,10 +283,12 @@ impl<D: SectorDevice> Store<D> {
         had: &[[u8; 32]],
         writer: &mut W,
     ) -> Result<(), Refusal>
-        requires { AreWithin tables.now }
+        requires on { is_halted self.old ≡ false }
+        requires within { AreWithin tables.now }
         ensures sent { OnOk result ((streams : List (List ℕ)) × AreSent D.tells (shown_image (now (D.story (device_of self.old)))) (listed_in self.old)
             (lacked_by (λ (x : Located). x.digest) had.now (flat_map located_in (map plain_listed tables.now))) streams
             × Appends (W.contents writer.old) (W.contents writer.new) (archive_of (commit_of self.old).epoch (map plain_listed tables.now) streams)) }
+        ensures awake { IfErr result (λ e. e ≢ Refusal.Halted) }
         ensures reads { OnlyReadsStore D.size D.story D.failed D.tells (ended result) self.old self.new }
     {
         let items = lacked_items(alloc, had, &items_of(alloc, tables)?)?;
