@@ -14,7 +14,6 @@ use ipc_message::{Header, NextMessage, read_message, read_schema};
 use serde_json::Value;
 use std::alloc::Global;
 
-
 // Splits off the first line.
 fn split_line(text: &[u8]) -> Result<(&[u8], &[u8]), ArchiveFault> {
     match text.iter().position(|byte| *byte == b'\n') {
