@@ -1,5 +1,5 @@
 -- The commands that an archive brings, step by step.
-use Rattle.std.specs.Prelude.{◌≢◌, ◌⊎◌, ◌&&◌, ◌||◌, ◌>◌, if◌then◌else◌, Option, option_map, Result, IfErr, OnOk}
+use Rattle.std.specs.Prelude.{◌≢◌, ◌⊎◌, ◌&&◌, if◌then◌else◌, slice_get, Option, option_map, Result}
 use Rattle.std.specs.Str.{bytes_eq}
 use Rattle.std.proofs.Common.{◌≡◌, ◌+◌, ◌<◌, ◌∙◌, ◌++◌, ℕ, Bool, true, false, List, [], ◌∷◌, Some, None, Ok, Err, inl, inr, arith, get_or, length, map, take, drop, append_assoc, append-nil, refl, sym, ap, subst}
 use Rattle.std.proofs.lemmas.Bool.{cond-true, cond-false, and_right}
@@ -8,7 +8,7 @@ use Rattle.std.proofs.lemmas.Slice.Eq.{bytes_eq-Decides}
 use Rattle.std.proofs.lemmas.List.{map-append, length-map, get_or-map}
 use Rattle.facts.specs.laws.Lists.{drop-item, take-item}
 use Rattle.sha2.specs.Sha256.{sha256}
-use Rattle.sector_dev.specs.Disk.{Story}
+use Rattle.sector_dev.specs.Disk.{Image, Story}
 use Rattle.sector_dev.specs.declared.device.SectorDevice.{Ghosts}
 use Rattle.arrow_schema.specs.Column.{PlainSchema}
 use Rattle.catalogue.specs.declared.entry.Segment.{Segment}
@@ -18,18 +18,14 @@ use Rattle.table_archive.specs.declared.manifest.ListedSegment.{ListedSegment}
 use Rattle.table_archive.specs.Archive.{IsStreamOf, AreStreamsOf}
 use Rattle.table_archive.specs.Manifest.{PlainListed}
 use Rattle.tables.specs.declared.command.Command.{Command}
-use Rattle.tables.specs.declared.refusal.Refusal.{Refusal}
-use Rattle.tables.specs.Commands.{PlainCommand, append_stream, drop_table}
+use Rattle.tables.specs.Commands.{PlainCommand, append_stream}
 use Rattle.tables.specs.View.{command_of}
-use Rattle.store_runs.specs.Calls.{PlainReply, done, refused, is_device_reply}
 use Rattle.store.specs.declared.applying_all.ListRefusal.{ListRefusal}
-use Rattle.store.specs.declared.receiving.ReceiveRefusal.{ReceiveRefusal}
-use Rattle.store.specs.declared.receiving.ReceiveRefusal.TheVariants as receives
 use Rattle.store.specs.declared.segment_streams.SegmentInfo.{SegmentInfo}
 use Rattle.store.specs.declared.store.Store.{Store}
-use Rattle.store.specs.SegmentStreams.{info_of}
-use Rattle.store.specs.Reading.{OnlyReadsStore}
-use Rattle.store.specs.Receiving.{same_schema, has_digest, begin_with, left_of, Append, ArePart, AreParts, is_listed, drops, ended_receiving, received_by, AnswersAll, EndsAll, Receives, Collision}
+use Rattle.store.specs.declared.segment_streams.SegmentStream.{SegmentStream}
+use Rattle.store.specs.SegmentStreams.{info_of, IsStreamAt, StreamsAt}
+use Rattle.store.specs.Receiving.{same_schema, has_digest, begin_with, left_of, ArePart, AreParts, received_by, AnswersAll, EndsAll, Collision}
 
 -- ---- whether a table is continued
 
@@ -109,6 +105,18 @@ parts_more of c tables i x cs own within at all one =
     let among : i < length (map of tables) = omega (arith, within, length-map tables of) in
     let is : of x ≡ get_or (map of tables) i (of x) = sym (get_or-map of tables i x (of x) within ∙ ap of (sym at)) in
     subst (λ (ts : List PlainListed). AreParts c ts (cs ++ own)) (sym (take-item (map of tables) i (of x) among is)) (parts_last c (take i (map of tables)) (of x) cs own all one)
+
+-- ---- a stream of the store
+
+pub digest_at : (halted tells : Bool) (image : Image) (found : Option PlainEntry) (place : ℕ) (stream : SegmentStream) → StreamsAt halted tells image found place stream
+    → stream.digest ≡ sha256 stream.bytes.items
+digest_at true tells image found place stream at = absurd at
+digest_at false tells image None place stream at = absurd at
+digest_at false tells image (Some e) place stream at = by_segment (slice_get e.segments place) at
+  where
+    by_segment : (o : Option Segment) → IsStreamAt tells image e.schema o stream → stream.digest ≡ sha256 stream.bytes.items
+    by_segment None is = absurd is
+    by_segment (Some g) is = is.digested
 
 -- ---- how the store ends
 

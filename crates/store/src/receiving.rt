@@ -71,9 +71,9 @@ struct OwnPlace<'a> {
 
 // Where the streams of listed segments are: in the archive, or in the segments of the store with these digests.
 #[derive(Drop)]
-struct Sources<'a> {
-    archive: &'a Archive<'a>,
-    own: IndexMap<[u8; 32], OwnPlace<'a>>,
+struct Sources<'a, 'b, 'n> {
+    archive: &'a Archive<'b>,
+    own: IndexMap<[u8; 32], OwnPlace<'n>>,
 }
 
 // Adds the segments of a table that have digests.
@@ -258,7 +258,7 @@ impl<D: SectorDevice> Store<D> {
     fn stream_for(
         &mut self,
         alloc: Global,
-        sources: &Sources<'_>,
+        sources: &Sources<'_, '_, '_>,
         listed: &ListedSegment,
     ) -> Result<Vec<u8>, ReceiveRefusal>
         ensures stream { IfOk result (λ bytes. IsStreamOf listed.now bytes.items) }
@@ -276,7 +276,7 @@ impl<D: SectorDevice> Store<D> {
     fn push_append(
         &mut self,
         alloc: Global,
-        sources: &Sources<'_>,
+        sources: &Sources<'_, '_, '_>,
         name: &str,
         listed: &ListedSegment,
         commands: &mut Vec<Command>,
@@ -298,7 +298,7 @@ impl<D: SectorDevice> Store<D> {
     fn push_appends(
         &mut self,
         alloc: Global,
-        sources: &Sources<'_>,
+        sources: &Sources<'_, '_, '_>,
         name: &str,
         segments: &[ListedSegment],
         commands: &mut Vec<Command>,
@@ -344,7 +344,7 @@ impl<D: SectorDevice> Store<D> {
     fn push_part(
         &mut self,
         alloc: Global,
-        sources: &Sources<'_>,
+        sources: &Sources<'_, '_, '_>,
         table: &ListedTable,
         commands: &mut Vec<Command>,
     ) -> Result<(), ReceiveRefusal>
@@ -369,7 +369,7 @@ impl<D: SectorDevice> Store<D> {
     fn push_parts(
         &mut self,
         alloc: Global,
-        sources: &Sources<'_>,
+        sources: &Sources<'_, '_, '_>,
         tables: &[ListedTable],
         commands: &mut Vec<Command>,
     ) -> Result<(), ReceiveRefusal>
@@ -401,7 +401,10 @@ impl<D: SectorDevice> Store<D> {
     {
         let names = self.tables(alloc)?;
         let own = self.own_places(alloc, &names)?;
-        let sources = Sources { archive, own };
+        let sources = Sources {
+            archive: &*archive,
+            own,
+        };
         let mut commands = Vec::new(alloc);
         if delete {
             push_drops(alloc, &names, &archive.tables, &mut commands)?;

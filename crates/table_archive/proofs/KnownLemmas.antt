@@ -9,7 +9,7 @@ use Rattle.std.proofs.lemmas.List.Folds.{list_any-append}
 use Rattle.std.proofs.lemmas.Slice.Eq.{bytes_eq-Decides}
 
 -- one of them, and one more
-absorbed : (keys : List (List ℕ)) (d q : List ℕ) → list_any (bytes_eq d) keys ≡ true → (bytes_eq q d || list_any (bytes_eq q) keys) ≡ list_any (bytes_eq q) keys
+pub absorbed : (keys : List (List ℕ)) (d q : List ℕ) → list_any (bytes_eq d) keys ≡ true → (bytes_eq q d || list_any (bytes_eq q) keys) ≡ list_any (bytes_eq q) keys
 absorbed keys d q there =
     elim (cases_Bool (bytes_eq q d)) [
       | inl same ↦

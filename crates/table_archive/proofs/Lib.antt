@@ -3,3 +3,7 @@ pub mod OctalLemmas
 pub mod TextLemmas
 pub mod LineLemmas
 pub mod KnownLemmas
+pub mod FrontLemmas
+pub mod LackedLemmas
+pub mod WalkLemmas
+pub mod FoundLemmas

@@ -28,6 +28,9 @@ plain_listed t =
       segments = t.segments.items;
     }
 
+abbrev pub listed_names : List PlainListed → List (List ℕ)
+listed_names tables = map (λ t. t.name) tables
+
 -- the stream of a table of this schema without rows
 abbrev pub empty_stream : PlainSchema → List ℕ
 empty_stream schema = schema_message schema ++ end_of_stream

@@ -2,7 +2,8 @@
 //!
 //! The definition is `archive_of` (`specs/Archive.antt`, docs/definitions/archive.md). An archive is made in pieces: [`archive_front`] is the member of the
 //! manifest, [`segment_header`] and [`push_padding`] stand around the stream of each segment, and [`archive_end`] ends it. [`WantedDigests`] says which
-//! segments are sent, [`parse_digests`] reads which of them a receiver has, and [`typed_fields`] gives the texts of a table's fields.
+//! segments are sent, [`parse_digests`] reads which of them a receiver has, and [`typed_fields`] gives the texts of a table's fields. [`read_archive`] reads
+//! a whole archive in memory.
 //!
 //! ```
 //! output.write_all(&archive_front(alloc, epoch, &tables)?)?;
@@ -14,16 +15,19 @@ mod archive;
 mod digests;
 mod manifest;
 mod members;
+mod names;
+mod parsing;
 mod reading;
 mod tar;
 mod texts;
 mod wanted;
+mod whole;
 
 pub use archive::{ArchiveError, archive_end, archive_front, segment_header};
 pub use digests::{DigestsError, parse_digests};
 pub use manifest::{ListedSegment, ListedTable};
-pub use members::read_archive;
 pub use reading::{Archive, ArchiveFault};
 pub use tar::push_padding;
 pub use texts::typed_fields;
 pub use wanted::WantedDigests;
+pub use whole::read_archive;
