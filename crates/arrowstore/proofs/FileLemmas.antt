@@ -18,7 +18,8 @@ use Rattle.sector_dev.specs.declared.file.FileError.TheVariants as files
 use Rattle.commit.specs.Standing.{is_size}
 use Rattle.commit.specs.declared.sector.FormatVersion.{FormatVersion}
 use Rattle.cli_refusals.specs.declared.refusal.Refusal.{Refusal}
-use Rattle.cli_refusals.specs.declared.refusal.Refusal.TheVariants.{Io, Opening}
+use Rattle.cli_refusals.specs.declared.refusal.Refusal.TheVariants.{Io, Opening, Store}
+use Rattle.tables.specs.declared.refusal.Refusal as tables
 use Rattle.cli_refusals.specs.declared.refusal.Side.TheVariants.{Output}
 use Rattle.cli_refusals.specs.Refusals.{file_refusal}
 use Rattle.cli_texts.specs.declared.status.Status.TheVariants.{Done, PartlyDone}
@@ -31,6 +32,8 @@ use Rattle.cli_texts.specs.Reported.{IfRefused}
 use Rattle.cli_texts.specs.Told.{told}
 use Rattle.cli_texts.specs.declared.telling.Audience.{Audience}
 use Rattle.cli_refusals.specs.declared.known.Known.{Known}
+use Rattle.cli_commands.specs.Archives.{IsOfSending}
+use Rattle.cli_commands.specs.Reading.{OfStore}
 use Rattle.cli_commands.specs.Salvaging.{IsBrokenOff}
 use Rattle.clap.specs.Words.{Text, kind_of}
 use Rattle.clap.specs.declared.error.Error.{Error}
@@ -104,7 +107,21 @@ silent_but_io word output output' (Err e) silent = λ whole. silent (λ io. whol
 pub silent_but_broken_off : {W : Type 0} (word : List ℕ) (output output' : W) (done : Result (Unit {0}) Refusal) → word ≡ codes "salvage"
     → IfErr done (λ refusal. ¬ IsBrokenOff refusal → output' ≡ output) → IfErr done (λ refusal. ¬ WritesPart word refusal → output' ≡ output)
 silent_but_broken_off word output output' (Ok unit) is silent = tt
-silent_but_broken_off word output output' (Err e) is silent = λ whole. silent (λ broken. whole (inr (is, broken)))
+silent_but_broken_off word output output' (Err e) is silent = λ whole. silent (λ broken. whole (inr (inl (is, broken))))
+
+-- nor where an archive was sent in part
+pub silent_but_unsent : {W : Type 0} (word : List ℕ) (output output' : W) (done : Result (Unit {0}) Refusal) → word ≡ codes "send"
+    → IfErr done (λ refusal. ¬ IsOfSending refusal → output' ≡ output) → IfErr done (λ refusal. ¬ WritesPart word refusal → output' ≡ output)
+silent_but_unsent word output output' (Ok unit) is silent = tt
+silent_but_unsent word output output' (Err e) is silent = λ whole. silent (λ unsent. whole (inr (inr (is, unsent))))
+
+-- a store that does not send all of an archive may have written a part of it
+pub sent_in_part : {W : Type 0} (P : tables.Refusal → Type 0) (there : Type 0) (output output' : W) (done : Result (Unit {0}) Refusal)
+    → IfErr done (OfStore P there) → IfErr done (λ refusal. ¬ IsOfSending refusal → output' ≡ output)
+sent_in_part P there output output' (Ok unit) told = tt
+sent_in_part P there output output' (Err (Store r)) told = λ whole. absurd (whole tt)
+sent_in_part P there output output' (Err (Io Output)) told = λ whole. absurd (whole tt)
+sent_in_part P there output output' (Err _) told = absurd told
 
 -- what is reported of a request that was done, in part or whole, or refused
 pub has_reported : {W E : Type 0} (contents : E → Option (List ℕ)) (audience : Audience) (known : Known) (left : List (ℕ × ℕ)) (notes : Notes) (word : List ℕ) (output output' : W) (errors noted errors' : E)

@@ -5,10 +5,10 @@ use Rattle.std.proofs.lemmas.Slice.Eq.{bytes_eq-Decides}
 use Rattle.clap.specs.Words.{Text}
 use Rattle.arrowstore.specs.Arguments.{asks_topic, have_extra_words, AreRecode, AskForHelp, command}
 use Rattle.cli_texts.specs.OwnTexts.{is_own, asks_version, asks_refusals, asks_commands, is_version_word, is_refusals_topic, is_help_alone}
-use Rattle.cli_requests.specs.StoreWords.{is_of_store, is_store_word, changes_word, makes_word, reads_word, takes_input_word, reads_table_word, is_help_word, ask_help_of_command}
+use Rattle.cli_requests.specs.StoreWords.{is_of_store, is_store_word, changes_word, makes_word, reads_word, changes_by_input_word, reads_table_word, reads_tables_word, is_help_word, ask_help_of_command}
 
 recode_of_none : (name : Text) (rest : List Text) → is_of_store (name ∷ codes "recode" ∷ rest) ≡ false
-unfolding is_of_store is_store_word changes_word makes_word reads_word takes_input_word reads_table_word
+unfolding is_of_store is_store_word changes_word makes_word reads_word changes_by_input_word reads_table_word reads_tables_word
 recode_of_none name rest = refl
 
 -- what comes of the word `recode`, whatever stands after it, comes of its arguments
@@ -42,7 +42,7 @@ no_word_of_own name word (topic ∷ more ∷ rest) l s h a c = refl
 own_word_of_none : (name word : Text) (rest : List Text) (long short help asks letter : Bool) → bytes_eq (codes "--version") word ≡ long → bytes_eq (codes "-V") word ≡ short
     → bytes_eq (codes "help") word ≡ help → bytes_eq (codes "--help") word ≡ asks → bytes_eq (codes "-h") word ≡ letter
     → is_own (name ∷ word ∷ rest) ≡ true → is_of_store (name ∷ word ∷ rest) ≡ false
-unfolding is_of_store is_store_word changes_word makes_word reads_word takes_input_word reads_table_word
+unfolding is_of_store is_store_word changes_word makes_word reads_word changes_by_input_word reads_table_word reads_tables_word
 own_word_of_none name word rest true short help asks letter l s h a c own = same_of_none (codes "--version") word name rest l refl
 own_word_of_none name word rest false true help asks letter l s h a c own = same_of_none (codes "-V") word name rest s refl
 own_word_of_none name word rest false false true asks letter l s h a c own = same_of_none (codes "help") word name rest h refl

@@ -1,5 +1,5 @@
 -- What a request of a store does, on devices of one kind.
-use Rattle.std.specs.Prelude.{◌≡◌, ◌⊎◌, ◌≤◌, ℕ, Bool, true, false, List, [], ◌∷◌, codes, bit_and, Option, Some, None, IfSome, IsSome, Result, Ok, Err, IfErr, OnOk, IsErrAnd}
+use Rattle.std.specs.Prelude.{◌≡◌, ◌⊎◌, ◌≤◌, ℕ, Bool, true, false, List, [], ◌∷◌, codes, bit_and, Option, Some, None, IfSome, IsSome, map, option_map, Result, Ok, Err, IfErr, OnOk, IsErrAnd}
 use Rattle.std.specs.Fs.{metadata_mode}
 use Rattle.std.specs.declared.fs.attrs.Metadata.{Metadata}
 use Rattle.std.specs.Io.KnownBytes.{Appends}
@@ -29,17 +29,23 @@ use Rattle.store.specs.Fits.{commit_of, device_of, is_halted, listed_in, IsNewSt
 use Rattle.store.specs.Lists.{ended_list}
 use Rattle.store.specs.Reading.{OnlyReadsStore}
 use Rattle.store.specs.Salvaging.{SalvagesAt, RefusesSalvage}
+use Rattle.store.specs.Sending.{SaysHalted, SendsAt}
 use Rattle.store.specs.Answering.{LeavesUnformatted}
 use Rattle.cli_refusals.specs.declared.refusal.Refusal.{Refusal}
 use Rattle.cli_refusals.specs.declared.refusal.Refusal.TheVariants as refusals
 use Rattle.cli_refusals.specs.declared.refusal.Side.TheVariants as sides
 use Rattle.tables.specs.declared.refusal.Refusal as tables
+use Rattle.table_archive.specs.Digests.{ListsDigests}
+use Rattle.table_archive.specs.Manifest.{PlainListed, plain_listed}
+use Rattle.table_archive.specs.Reading.{IsRead}
+use Rattle.table_archive.specs.declared.reading.Archive.{Archive}
+use Rattle.cli_commands.specs.Archives.{IsNoArchive, IsOfSending, ReceivesTables, RefusesList}
 use Rattle.cli_commands.specs.Applying as applying
 use Rattle.cli_commands.specs.Applying.{AnswersList, HandsLines}
 use Rattle.cli_commands.specs.declared.applying.ListedCommand.{ListedCommand}
 use Rattle.cli_commands.specs.Copying.{Copies}
 use Rattle.cli_commands.specs.Given.{IsWholeInput, RefusesInput}
-use Rattle.cli_commands.specs.Reading.{OfStore, refusal_ended}
+use Rattle.cli_commands.specs.Reading.{OfStore, refusal_ended, store_ended}
 use Rattle.cli_commands.specs.Salvaging.{IsBrokenOff}
 use Rattle.cli_refusals.specs.declared.hint.Hint.{Hint}
 use Rattle.cli_refusals.specs.declared.hint.Hint.TheVariants as hints
@@ -249,12 +255,12 @@ Replays g of_file of_none contents words output output' result =
 abbrev pub is_input : List ℕ → Bool
 is_input name = bytes_eq (codes "-") name
 
--- a script of this name: the whole input, or the bytes of some file
-abbrev pub IsScriptNamed : {F : Type 0} → (of_file : F → Option (List ℕ)) → (input : Option (List ℕ)) → (is_input : Bool) → List ℕ → Type 0
-IsScriptNamed of_file input true script = IsWholeInput input script
-IsScriptNamed of_file input false script = replay.IsOfFile of_file script
+-- the bytes of this name: the whole input, or those of some file
+abbrev pub IsNamedInput : {F : Type 0} → (of_file : F → Option (List ℕ)) → (input : Option (List ℕ)) → (is_input : Bool) → List ℕ → Type 0
+IsNamedInput of_file input true bytes = IsWholeInput input bytes
+IsNamedInput of_file input false bytes = replay.IsOfFile of_file bytes
 
--- why none is read
+-- why they are not read
 abbrev pub RefusesReading : (old new : Option (List ℕ)) → (is_input : Bool) → Refusal → Type 0
 RefusesReading old new true refusal = RefusesInput old new refusal
 RefusesReading old new false refusals.TooManyBytes = Unit {0}
@@ -306,9 +312,88 @@ pub record AppliesScript {D : Type 0} (g : Ghosts D) (is_opened : D → Type 0) 
     (remaining : R → Option (List ℕ)) (contents : W → Option (List ℕ)) (name : List ℕ) (input input' : R) (output output' : W)
     (result : Result (Unit {0}) Refusal) : Type 0 where
   pub applies : IsErrAnd result (λ refusal. RefusesReading (remaining input) (remaining input') (is_input name) refusal × (output' ≡ output))
-      ⊎ ((script : List ℕ) × IsScriptNamed of_file (remaining input) (is_input name) script
+      ⊎ ((script : List ℕ) × IsNamedInput of_file (remaining input) (is_input name) script
       × AppliesRead g is_opened of_file contents script output output' result)
   pub unread : is_input name ≡ false → input' ≡ input
+
+-- ---- an archive of the tables in the store of a file
+
+-- the list of digests is the input
+abbrev pub names_input : Option (List ℕ) → Bool
+names_input None = false
+names_input (Some name) = is_input name
+
+-- the digests that the list of this name states
+abbrev pub HasListed : {F : Type 0} → (of_file : F → Option (List ℕ)) → (input : Option (List ℕ)) → (name : List ℕ) → List (List ℕ) → Type 0
+HasListed of_file input name digests = (text : List ℕ) × IsNamedInput of_file input (is_input name) text × ListsDigests text digests
+
+-- why it states none: it is not read, or a line of it states no digest
+abbrev pub RefusesListed : {F : Type 0} → (of_file : F → Option (List ℕ)) → (old new : Option (List ℕ)) → (name : List ℕ) → Refusal → Type 0
+RefusesListed of_file old new name refusal =
+    RefusesReading old new (is_input name) refusal ⊎ ((text : List ℕ) × IsNamedInput of_file old (is_input name) text × RefusesList text refusal)
+
+-- the digests that the list of this name states, or none without a list
+abbrev pub HasDigestsOf : {F : Type 0} → (of_file : F → Option (List ℕ)) → (input : Option (List ℕ)) → (list : Option (List ℕ)) → List (List ℕ) → Type 0
+HasDigestsOf of_file input None digests = digests ≡ []
+HasDigestsOf of_file input (Some name) digests = HasListed of_file input name digests
+
+-- why there are none
+abbrev pub RefusesDigestsOf : {F : Type 0} → (of_file : F → Option (List ℕ)) → (old new : Option (List ℕ)) → (list : Option (List ℕ)) → Refusal → Type 0
+RefusesDigestsOf of_file old new None refusal = ⊥
+RefusesDigestsOf of_file old new (Some name) refusal = RefusesListed of_file old new name refusal
+
+-- a store was opened, and an archive of its tables was sent to a receiver that has these digests; the store was only read
+pub record SendsOpened {D : Type 0} (g : Ghosts D) (is_opened : D → Type 0) {W : Type 0} (contents : W → Option (List ℕ)) (had : List (List ℕ))
+    (output output' : W) (result : Result (Unit {0}) Refusal) : Type 0 where
+  pub store : Store D g
+  pub opens : OpensStore g is_opened store
+  pub sent : OnOk result (SendsAt (is_halted store) g.tells (image_of store) (listed_in store) (commit_of store).epoch had (contents output)
+      (contents output'))
+  pub told : IfErr result (OfStore (SaysHalted (is_halted store)) (is_halted store ≡ false))
+  pub after_it : Store D g
+  pub reads : OnlyReadsStore g.size g.story g.failed g.tells (store_ended result) store after_it
+
+-- it was sent so, or no store was opened and nothing was written
+abbrev pub SendsRead : {D : Type 0} → (g : Ghosts D) → (is_opened : D → Type 0) → {W : Type 0} → (contents : W → Option (List ℕ))
+    → (had : List (List ℕ)) → (output output' : W) → Result (Unit {0}) Refusal → Type 0
+SendsRead g is_opened contents had output output' result =
+    IsErrAnd result (λ refusal. FailsToOpen g is_opened refusal × (output' ≡ output)) ⊎ SendsOpened g is_opened contents had output output' result
+
+-- the list of this name was read and an archive was sent so, or there are no digests and nothing was written; the input is read only if the name stands for
+-- it
+pub record SendsArchive {D : Type 0} (g : Ghosts D) (is_opened : D → Type 0) {F R W : Type 0} (of_file : F → Option (List ℕ))
+    (remaining : R → Option (List ℕ)) (contents : W → Option (List ℕ)) (list : Option (List ℕ)) (input input' : R) (output output' : W)
+    (result : Result (Unit {0}) Refusal) : Type 0 where
+  pub sends : IsErrAnd result (λ refusal. RefusesDigestsOf of_file (remaining input) (remaining input') list refusal × (output' ≡ output))
+      ⊎ ((had : List (List ℕ)) × HasDigestsOf of_file (remaining input) list had × SendsRead g is_opened contents had output output' result)
+  pub unread : names_input list ≡ false → input' ≡ input
+
+-- ---- an archive that is received into the store of a file
+
+-- a store was opened, and these tables were made its own, or it was refused; `ok` is written once they are
+pub record ReceivesOpened {D : Type 0} (g : Ghosts D) (is_opened : D → Type 0) {W : Type 0} (contents : W → Option (List ℕ)) (tables : List PlainListed)
+    (delete : Bool) (output output' : W) (result : Result (Unit {0}) Refusal) : Type 0 where
+  pub old : Store D g
+  pub opens : OpensStore g is_opened old
+  pub new : Store D g
+  pub received : ReceivesTables old tables delete result new
+  pub written : OnOk result (Appends (contents output) (contents output') (codes "ok\n"))
+
+-- the tables of the archive that these bytes are were received so, or the bytes are no archive or no store was opened, and nothing was written
+abbrev pub ReceivesBytes : {D : Type 0} → (g : Ghosts D) → (is_opened : D → Type 0) → {W : Type 0} → (contents : W → Option (List ℕ)) → (bytes : List ℕ)
+    → (delete : Bool) → (output output' : W) → Result (Unit {0}) Refusal → Type 0
+ReceivesBytes g is_opened contents bytes delete output output' result =
+    IsErrAnd result (λ refusal. IsNoArchive refusal × (output' ≡ output))
+    ⊎ ((archive : Archive) × IsRead archive bytes
+    × (IsErrAnd result (λ refusal. FailsToOpen g is_opened refusal × (output' ≡ output))
+    ⊎ ReceivesOpened g is_opened contents (map plain_listed archive.tables.items) delete output output' result))
+
+-- the whole input was received so, or it was not read and nothing was written
+abbrev pub ReceivesArchive : {D : Type 0} → (g : Ghosts D) → (is_opened : D → Type 0) → {R W : Type 0} → (remaining : R → Option (List ℕ))
+    → (contents : W → Option (List ℕ)) → (delete : Bool) → (input input' : R) → (output output' : W) → Result (Unit {0}) Refusal → Type 0
+ReceivesArchive g is_opened remaining contents delete input input' output output' result =
+    IsErrAnd result (λ refusal. RefusesInput (remaining input) (remaining input') refusal × (output' ≡ output))
+    ⊎ ((bytes : List ℕ) × IsWholeInput (remaining input) bytes × ReceivesBytes g is_opened contents bytes delete output output' result)
 
 -- ---- requests
 
@@ -333,14 +418,21 @@ ServesRequest g is_opened of_file remaining contents replays (requests.Salvage p
 ServesRequest g is_opened of_file remaining contents replays (requests.Apply path script) before after left left' result =
     AppliesScript g is_opened of_file remaining contents script.now before.input after.input before.output after.output result × SaysNothing before after
     × (left' ≡ left)
+ServesRequest g is_opened of_file remaining contents replays (requests.Send path have) before after left left' result =
+    SendsArchive g is_opened of_file remaining contents (option_map (λ l. l.now) have) before.input after.input before.output after.output result
+    × SaysNothing before after × (left' ≡ left)
+ServesRequest g is_opened of_file remaining contents replays (requests.Receive path delete) before after left left' result =
+    ReceivesArchive g is_opened remaining contents delete before.input after.input before.output after.output result × SaysNothing before after
+    × (left' ≡ left)
 ServesRequest g is_opened of_file remaining contents replays (requests.Replay words) before after left left' result =
     replays words before.output after.output result × SaysNothing before after × (left' ≡ left)
 ServesRequest g is_opened of_file remaining contents replays (requests.Command path command) before after left left' result =
     ServesCommand g is_opened remaining contents command before after result × (left' ≡ left)
 
--- the refusals after which some output may have been written: a write of it failed, or a salvage was broken off
+-- the refusals after which some output may have been written: a write of it failed, or a salvage or the sending of an archive was broken off
 abbrev pub WritesPart : (word : List ℕ) → Refusal → Type 0
-WritesPart word refusal = IsOutput refusal ⊎ ((word ≡ codes "salvage") × IsBrokenOff refusal)
+WritesPart word refusal =
+    IsOutput refusal ⊎ (((word ≡ codes "salvage") × IsBrokenOff refusal) ⊎ ((word ≡ codes "send") × IsOfSending refusal))
 
 -- the status of a run that leaves this out
 abbrev pub status_of : Result (Unit {0}) Refusal → (left : List (ℕ × ℕ)) → Status

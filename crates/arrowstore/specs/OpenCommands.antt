@@ -53,6 +53,7 @@ States words.Check opened.Check = Unit {0}
 States (words.Info as_json) (opened.Info j kind) = j ≡ as_json
 States (words.Compact steps) (opened.Compact n) = n ≡ steps
 States words.Upgrade opened.Upgrade = Unit {0}
+States words.Have opened.Have = Unit {0}
 States _ _ = ⊥
 
 -- why the words state no command: a text of a field or condition is refused, or memory is, if the command owns its names

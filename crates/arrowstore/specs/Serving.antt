@@ -25,6 +25,7 @@ use Rattle.store.specs.Listing.{RefusesTables, RefusesSchema}
 use Rattle.store_runs.specs.Machine.{Machine}
 use Rattle.store_runs.specs.Reading.{ReadsTable, RefusesRead, ended}
 use Rattle.store.specs.Reading.{OnlyReadsStore}
+use Rattle.store.specs.Sending.{HasDigestsAt, SaysHalted}
 use Rattle.store.specs.Summary.{IsSummary}
 use Rattle.store.specs.Upgrading.{upgrade_ended}
 use Rattle.store.specs.declared.summary.Summary.{Summary}
@@ -32,6 +33,7 @@ use Rattle.cli_refusals.specs.declared.hint.Hinted.{Hinted}
 use Rattle.cli_refusals.specs.declared.refusal.Refusal.{Refusal}
 use Rattle.cli_refusals.specs.declared.refusal.Refusal.TheVariants.{Io}
 use Rattle.cli_refusals.specs.declared.refusal.Side.TheVariants.{Output}
+use Rattle.cli_commands.specs.Archives.{digests_text}
 use Rattle.cli_commands.specs.Changing.{Answered, AnswersCommand, AnswersInput, HandsSchema, RefusesHanding, RefusesTaken, StateSchema, is_listed}
 use Rattle.cli_commands.specs.Compacting.{Compacts}
 use Rattle.cli_commands.specs.Complete.{HandsWhole, RefusesStream, is_taken}
@@ -142,7 +144,7 @@ pub record CarriesText {D : Type 0} {g : Ghosts D} {R W : Type 0} (contents : W 
   pub written : OnOk result (Appends (contents before.output) (contents after.output) (codes "ok\n"))
 
 -- what is printed of a store, why nothing is, and what becomes of the store (`print_tables`, `print_schema`, `print_selection`, `print_summary`,
--- `export_table`)
+-- `list_digests`, `export_table`)
 pub record Prints {R W : Type 0} (printed : Type 0) (refuses : Refusal → Type 0) (left : Type 0) (before after : Channels R W)
     (result : Result (Unit {0}) Refusal) : Type 0 where
   pub written : OnOk result printed
@@ -222,3 +224,7 @@ Serves {g = g} remaining contents (opened.Info as_json kind) old new before afte
 Serves remaining contents (opened.Compact steps) old new before after result =
     Compacts contents steps old new before.output after.output result × (after.hint ≡ before.hint)
 Serves remaining contents opened.Upgrade old new before after result = Upgrades contents old new before after result
+Serves {g = g} remaining contents opened.Have old new before after result =
+    Prints ((digests : List (List ℕ)) × HasDigestsAt (is_halted old) g.tells (image_of old) (listed_in old) digests
+    × Appends (contents before.output) (contents after.output) (digests_text digests))
+    (RefusesPrinting (SaysHalted (is_halted old)) (is_halted old ≡ false)) (OnlyRead result old new) before after result

@@ -1,40 +1,18 @@
 // Applies a script to the store in a file as one commit.
-ghost use Rattle.std.specs.Prelude.{◌≡◌, ◌≢◌, false, IfOk, IfErr};
-ghost use Rattle.arrowstore.specs.OnFiles.{AppliesScript, FailsToOpen, IsOpenedFile, IsScriptNamed, OpensStore, RefusesReading, is_input};
+ghost use Rattle.std.specs.Prelude.{◌≡◌, ◌≢◌, IfOk, IfErr};
+ghost use Rattle.arrowstore.specs.OnFiles.{AppliesScript, FailsToOpen, IsOpenedFile, OpensStore};
 
+use crate::named_input::read_named;
 use crate::serving::reserve_standard_descriptors;
-use cli_commands::{apply_listed, read_input};
+use cli_commands::apply_listed;
 use cli_refusals::{Refusal, Side};
-use cli_replay::{read_whole_file, script_commands};
+use cli_replay::script_commands;
 use cli_scripts::script_words;
 use sector_dev::{FileDevice, FileError, LockFile, SectorDevice, SystemFile};
 use std::fs::OpenFile;
 use std::io::{Read, Seek, Write};
 use std::rt::Files;
 use store::Store;
-
-fn is_input(script: &str) -> bool
-    ensures { result ≡ is_input script.now }
-{
-    script == "-"
-}
-
-// Reads the script at a path, or the input for `-`.
-fn script_named<F: Read + OpenFile + Drop, H: Files<File = F> + AllocGlobal, R: Read>(
-    rt: &H,
-    script: &str,
-    input: &mut R,
-) -> Result<Vec<u8>, Refusal>
-    ensures read { IfOk result (λ bytes. IsScriptNamed F.remaining (R.remaining input.old) (is_input script.now) bytes.items) }
-    ensures told { IfErr result (RefusesReading (R.remaining input.old) (R.remaining input.new) (is_input script.now)) }
-    ensures unread { is_input script.now ≡ false → input.new ≡ input.old }
-{
-    if is_input(script) {
-        read_input(rt.alloc(), input)
-    } else {
-        read_whole_file(rt, script)
-    }
-}
 
 fn device_to_change<
     F: Read + Write + Seek + OpenFile + LockFile + Drop,
@@ -45,8 +23,8 @@ fn device_to_change<
     FileDevice::open(rt, path)
 }
 
-// Opens the store in a file for changes.
-fn open_to_change<
+/// Opens the store in a file for changes.
+pub(crate) fn open_to_change<
     F: Read + Write + Seek + OpenFile + LockFile + Drop,
     H: Files<File = F> + AllocGlobal,
 >(rt: &H, path: &str) -> Result<Store<FileDevice<SystemFile<F>>>, Refusal>
@@ -71,7 +49,7 @@ pub(crate) fn serve_apply<
         input.old input.new output.old output.new result }
     ensures silent { IfErr result (λ refusal. refusal ≢ Refusal.Io Side.Output → output.new ≡ output.old) }
 {
-    let script = script_named(rt, script, input)?;
+    let script = read_named(rt, script, input)?;
     let words = script_words(rt.alloc(), &script)?;
     let commands = script_commands(rt, &script, &words)?;
     let _places = reserve_standard_descriptors(rt)?;

@@ -153,6 +153,9 @@ fn found_of<F: Read + Write + Seek + OpenFile + LockFile + Drop, H: Files<File =
             let name = unread_table(rt, request, *refusal, *place)?;
             Some(AskedAgain::Unread(name))
         }
+        Refusal::NotAnArchive if served.is_input_empty => {
+            Some(AskedAgain::Streams(FoundOfStreams::Empty))
+        }
         Refusal::Store(tables::Refusal::Import(fault)) => {
             let found = found_in_stream(rt.alloc(), served.start, served.is_input_empty, *fault)?;
             Some(AskedAgain::Streams(found))

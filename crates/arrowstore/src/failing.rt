@@ -80,6 +80,8 @@ fn makes(request: &StoreRequest<'_>, path: &str) -> bool {
         | StoreRequest::Salvage { .. }
         | StoreRequest::Replay(_)
         | StoreRequest::Apply { .. }
+        | StoreRequest::Send { .. }
+        | StoreRequest::Receive { .. }
         | StoreRequest::Command { .. } => false,
     }
 }

@@ -14,6 +14,8 @@ pub(crate) fn store_of<'a>(request: &StoreRequest<'a>) -> Option<&'a str> {
         StoreRequest::Copy { path, .. }
         | StoreRequest::Salvage { path, .. }
         | StoreRequest::Apply { path, .. }
+        | StoreRequest::Send { path, .. }
+        | StoreRequest::Receive { path, .. }
         | StoreRequest::Command { path, .. } => Some(path),
         StoreRequest::Format { .. } | StoreRequest::FormatDevice { .. } | StoreRequest::Replay(_) =>
             None,
@@ -72,6 +74,8 @@ pub(crate) fn refused_sectors(request: &StoreRequest<'_>) -> Option<u64> {
         StoreRequest::FormatDevice { .. }
         | StoreRequest::Salvage { .. }
         | StoreRequest::Apply { .. }
+        | StoreRequest::Send { .. }
+        | StoreRequest::Receive { .. }
         | StoreRequest::Command { .. } => return None,
     };
     if is_size_of_store(sectors) {

@@ -85,6 +85,8 @@ pub enum OpenCommand<'a> {
     },
     /// Gives each segment a digest.
     Upgrade,
+    /// Prints the digest of each segment.
+    Have,
 }
 
 fn create(alloc: Global, name: &str, fields: &[&str]) -> Result<Command, Refusal>
@@ -123,7 +125,7 @@ fn save_as(alloc: Global, from: &str, to: &str, words: &QueryWords<'_>) -> Resul
 ///
 /// # Errors
 /// `Fields` or `Query` if such a text is refused; `OutOfMemory`.
-#[tactic(auto, unfolding(crate::specs::OpenCommands::States, crate::specs::OpenCommands::RefusesStating, cli_requests::specs::StoreWords::takes_input_word))]
+#[tactic(auto, unfolding(crate::specs::OpenCommands::States, crate::specs::OpenCommands::RefusesStating, cli_requests::specs::StoreWords::takes_input_word, cli_requests::specs::StoreWords::changes_by_input_word))]
 pub fn stated<'a>(
     alloc: Global,
     command: &StoreCommand<'a>,
@@ -181,5 +183,6 @@ pub fn stated<'a>(
         }),
         StoreCommand::Compact { steps } => Ok(OpenCommand::Compact { steps: *steps }),
         StoreCommand::Upgrade => Ok(OpenCommand::Upgrade),
+        StoreCommand::Have => Ok(OpenCommand::Have),
     }
 }

@@ -15,8 +15,10 @@ use crate::copying_files::serve_copy;
 use crate::formatting_devices::serve_format_device;
 use crate::made_file::MadeFile;
 use crate::open_command::stated;
+use crate::receiving_archives::serve_receive;
 use crate::replaying::serve_replay;
 use crate::salvaging_files::serve_salvage;
+use crate::sending_archives::serve_send;
 use crate::serving_device::serve_device;
 use cli_commands::DeviceKind;
 use cli_refusals::{Refusal, Side, write_whole};
@@ -273,7 +275,7 @@ pub(crate) fn serve<
         (remarked input.old output.old remarks.old) (remarked input.new output.new remarks.new)
         (plain_left left_out.old.items) (plain_left left_out.new.items) result }
     ensures unread { (takes_input_word (request_word request.now) ≡ true) ⊎ (input.new ≡ input.old) }
-    // A refusal writes nothing, unless a write failed or a salvage was interrupted.
+    // A refusal writes nothing, unless a write failed, or a salvage or the sending of an archive was interrupted.
     ensures silent { IfErr result (λ refusal. ¬ WritesPart (request_word request.now) refusal → output.new ≡ output.old) }
 {
     match request {
@@ -291,6 +293,8 @@ pub(crate) fn serve<
         StoreRequest::Copy { path, new, sectors } => serve_copy(rt, path, new, *sectors, output),
         StoreRequest::Salvage { path, name } => serve_salvage(rt, path, name, output, left_out),
         StoreRequest::Apply { path, script } => serve_apply(rt, path, script, input, output),
+        StoreRequest::Send { path, have } => serve_send(rt, path, *have, input, output),
+        StoreRequest::Receive { path, delete } => serve_receive(rt, path, *delete, input, output),
         StoreRequest::Replay(words) => serve_replay(rt, words, output),
         StoreRequest::Command { path, command } => {
             serve_command(rt, path, command, input, output, remarks)

@@ -6,8 +6,8 @@ ghost use Rattle.arrowstore.specs.Serving.{channels, Serves};
 use crate::OpenCommand;
 use cli_commands::{
     append_complete, append_input, append_text, apply_command, check_tables, compact_tables,
-    create_like, export_table, import_complete, import_input, import_new, print_fields,
-    print_schema, print_selection, print_summary, print_tables, upgrade_store,
+    create_like, export_table, import_complete, import_input, import_new, list_digests,
+    print_fields, print_schema, print_selection, print_summary, print_tables, upgrade_store,
 };
 use cli_refusals::{Hinted, Refusal, Side};
 use sector_dev::SectorDevice;
@@ -60,5 +60,6 @@ pub fn serve_open<D: SectorDevice, R: Read, W: Write>(
         OpenCommand::Info { as_json, kind } => print_summary(alloc, store, as_json, kind, output),
         OpenCommand::Compact { steps } => compact_tables(alloc, store, steps, output),
         OpenCommand::Upgrade => upgrade_store(alloc, store, output),
+        OpenCommand::Have => list_digests(alloc, store, output),
     }
 }

@@ -39,8 +39,8 @@ fn lacks_segment<D: SectorDevice>(
     Some(left_out.iter().any(|segment| segment.place == place as u64))
 }
 
-// Returns the name of the only table whose segment at this place can't be read. A compaction reads only some segments, so if there are several such
-// tables, each of them may be the refused one.
+// Returns the name of the only table whose segment at this place can't be read. A compaction and the sending of an archive read only some segments, so if
+// there are several such tables, each of them may be the refused one.
 fn only_unread<D: SectorDevice>(
     alloc: Global,
     store: &mut Store<D>,
@@ -74,9 +74,10 @@ pub(crate) fn unread_table<
             let mut store = open_to_read(rt, path).ok()?;
             first_unread(rt.alloc(), &mut store, refusal)
         }
-        StoreRequest::Command {
+        StoreRequest::Send { path, .. }
+        | StoreRequest::Command {
             path,
-            command: StoreCommand::Compact { .. },
+            command: StoreCommand::Compact { .. } | StoreCommand::Have,
         } => {
             let mut store = open_to_read(rt, path).ok()?;
             only_unread(rt.alloc(), &mut store, place)

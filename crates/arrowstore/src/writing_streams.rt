@@ -1,4 +1,4 @@
-// Which command lines have a stream written, which no terminal is to get.
+// Which command lines have a stream or an archive written, which no terminal is to get.
 ghost use Rattle.std.specs.Prelude.{◌≡◌, ◌⊎◌, true, map};
 ghost use Rattle.arrowstore.specs.Arguments.{AreRecode};
 ghost use Rattle.cli_requests.specs.StoreWords.{is_of_store};
@@ -13,6 +13,7 @@ fn is_of_stream(request: &StoreRequest<'_>) -> bool {
     matches!(
         request,
         StoreRequest::Salvage { .. }
+            | StoreRequest::Send { .. }
             | StoreRequest::Command {
                 command: StoreCommand::Export { .. },
                 ..
@@ -45,7 +46,7 @@ fn is_recode<S: AsStr>(alloc: Global, arguments: &[S]) -> bool
     }
 }
 
-/// Returns whether the arguments are those of `recode`, or right ones of `export` or `salvage`, so that a stream is written.
+/// Returns whether the arguments are those of `recode`, or right ones of `export`, `salvage` or `send`, so that a stream or an archive is written.
 pub fn writes_stream<S: AsStr>(alloc: Global, arguments: &[S]) -> bool
     ensures { result ≡ true → AreRecode (map S.text arguments.now) ⊎ (is_of_store (map S.text arguments.now) ≡ true) }
 {

@@ -12,3 +12,4 @@ mod SelectingLemmas
 mod TypingLemmas
 mod EndLemmas
 mod ListLemmas
+mod ArchiveLemmas

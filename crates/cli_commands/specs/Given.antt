@@ -3,7 +3,7 @@ use Rattle.std.specs.Prelude.{ℕ, List, ◌≡◌, ◌+◌, ◌≤◌, length, 
 use Rattle.store.specs.Input.{HasGiven, HasGivenAtMost}
 use Rattle.cli_commands.specs.declared.input.TheConstants.{LARGEST_INPUT}
 use Rattle.cli_refusals.specs.declared.refusal.Refusal.{Refusal}
-use Rattle.cli_refusals.specs.declared.refusal.Refusal.TheVariants.{Fault, NoEnd, TooManyBytes, Io, BadSize, BadScript, Fields, NoText, Text, Query, Opening, Store, Line, TextLine, OutOfMemory}
+use Rattle.cli_refusals.specs.declared.refusal.Refusal.TheVariants.{Fault, NoEnd, TooManyBytes, Io, BadSize, BadScript, Fields, NoText, BadDigest, NotAnArchive, BadMember, LacksSegment, Text, Query, Opening, Store, Line, TextLine, OutOfMemory}
 use Rattle.cli_refusals.specs.declared.refusal.Side.TheVariants.{Input}
 
 -- P holds, unless the answer is the refusal of too many bytes
@@ -17,6 +17,10 @@ UnlessTooManyBytes (Err BadSize) P = P
 UnlessTooManyBytes (Err (BadScript line)) P = P
 UnlessTooManyBytes (Err (Fields error)) P = P
 UnlessTooManyBytes (Err (NoText number)) P = P
+UnlessTooManyBytes (Err (BadDigest line)) P = P
+UnlessTooManyBytes (Err NotAnArchive) P = P
+UnlessTooManyBytes (Err (BadMember member)) P = P
+UnlessTooManyBytes (Err (LacksSegment digest)) P = P
 UnlessTooManyBytes (Err (Text refused)) P = P
 UnlessTooManyBytes (Err (Query refusal)) P = P
 UnlessTooManyBytes (Err (Opening refusal)) P = P

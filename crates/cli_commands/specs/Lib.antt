@@ -2,6 +2,7 @@ pub mod Given
 pub mod Recode
 pub mod Printed
 pub mod Applying
+pub mod Archives
 pub mod Changing
 pub mod Compacting
 pub mod Upgrading

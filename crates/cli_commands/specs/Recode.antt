@@ -6,7 +6,7 @@ use Rattle.ipc_message.specs.Header.{supported_codes}
 use Rattle.ipc_stream.specs.Meaning.{meaning}
 use Rattle.ipc_canonical.specs.Canonical.{canonical}
 use Rattle.cli_refusals.specs.declared.refusal.Refusal.{Refusal}
-use Rattle.cli_refusals.specs.declared.refusal.Refusal.TheVariants.{Fault, NoEnd, TooManyBytes, Io, BadSize, BadScript, Fields, NoText, Text, Query, Opening, Store, Line, TextLine, OutOfMemory}
+use Rattle.cli_refusals.specs.declared.refusal.Refusal.TheVariants.{Fault, NoEnd, TooManyBytes, Io, BadSize, BadScript, Fields, NoText, BadDigest, NotAnArchive, BadMember, LacksSegment, Text, Query, Opening, Store, Line, TextLine, OutOfMemory}
 use Rattle.cli_refusals.specs.declared.refusal.Side.TheVariants.{Input, Output}
 
 -- the answer is about the whole input: it has a meaning, or a fault
@@ -20,6 +20,10 @@ IsVerdict (Err BadSize) = ⊥
 IsVerdict (Err (BadScript line)) = ⊥
 IsVerdict (Err (Fields error)) = ⊥
 IsVerdict (Err (NoText number)) = ⊥
+IsVerdict (Err (BadDigest line)) = ⊥
+IsVerdict (Err NotAnArchive) = ⊥
+IsVerdict (Err (BadMember member)) = ⊥
+IsVerdict (Err (LacksSegment digest)) = ⊥
 IsVerdict (Err (Text refused)) = ⊥
 IsVerdict (Err (Query refusal)) = ⊥
 IsVerdict (Err (Opening refusal)) = ⊥

@@ -4,7 +4,8 @@
 //! [`import_complete`] and [`append_complete`] with streams that must have their end; [`print_tables`], [`print_schema`], [`print_fields`],
 //! [`print_selection`], [`print_summary`], [`export_table`] and [`check_tables`] read them; [`compact_tables`] joins their segments,
 //! [`upgrade_store`] gives the segments digests, [`copy_tables`] copies all tables into another store, and [`salvage_table`] writes what can be
-//! read of a damaged one. Their contracts say which bytes are read and written, and what becomes of the store.
+//! read of a damaged one. [`list_digests`] prints the digests of the segments, [`read_digests`] reads such a list, and [`send_archive`] writes an archive
+//! of the tables without the segments that its receiver has; [`archive_in`] reads one, and [`receive_archive`] makes its tables those of a store. Their contracts say which bytes are read and written, and what becomes of the store.
 //! [`recode`] reads a stream and writes its canonical form.
 //!
 //! ```
@@ -14,6 +15,7 @@
 #![tactic(auto)]
 
 mod applying;
+mod archives;
 mod changing;
 mod compacting;
 mod complete;
@@ -31,6 +33,7 @@ mod typing;
 mod upgrading;
 
 pub use applying::{ListedCommand, apply_listed};
+pub use archives::{archive_in, list_digests, read_digests, receive_archive, send_archive};
 pub use changing::{append_input, apply_command, create_like, import_input, import_new};
 pub use compacting::compact_tables;
 pub use complete::{append_complete, import_complete, lacks_end};

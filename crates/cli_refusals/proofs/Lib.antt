@@ -1,2 +1,3 @@
 pub mod HintLemmas
 pub mod OutputLemmas
+mod DigitLemmas

@@ -15,9 +15,12 @@ use Rattle.query.specs.declared.errors.QueryError.TheVariants as queries
 use Rattle.tables.specs.declared.refusal.QueryRefusal.TheVariants as reasons
 use Rattle.tables.specs.Refusals as tables
 use Rattle.commit.specs.Told.{opening_text}
+use Rattle.hex.specs.Hex.{encode_lower}
+use Rattle.cli_refusals.specs.declared.refusal.ArchiveMember.{ArchiveMember}
+use Rattle.cli_refusals.specs.declared.refusal.ArchiveMember.TheVariants as members
 use Rattle.cli_refusals.specs.declared.refusal.Refusal.{Refusal}
 use Rattle.cli_refusals.specs.declared.refusal.Side.TheVariants as sides
-use Rattle.cli_refusals.specs.declared.refusal.Refusal.TheVariants.{Fault, NoEnd, TooManyBytes, Io, BadSize, BadScript, Fields, NoText, Text, Query, Opening, Store, Line, TextLine, OutOfMemory}
+use Rattle.cli_refusals.specs.declared.refusal.Refusal.TheVariants.{Fault, NoEnd, TooManyBytes, Io, BadSize, BadScript, Fields, NoText, BadDigest, NotAnArchive, BadMember, LacksSegment, Text, Query, Opening, Store, Line, TextLine, OutOfMemory}
 
 -- how a failed import is reported
 abbrev pub refusal_of : ImportError → Refusal
@@ -33,6 +36,12 @@ file_refusal files.BadSize = BadSize
 abbrev pub text_refusal : TextError → Refusal
 text_refusal (texts.Refused refused) = Text refused
 text_refusal texts.OutOfMemory = OutOfMemory
+
+-- a member of an archive, by its name or its place
+abbrev pub member_text : ArchiveMember → List ℕ
+member_text (members.Segment digest) = codes "segments/" ++ encode_lower digest ++ codes ".arrows"
+member_text (members.At place) = codes "member " ++ decimal place
+member_text members.End = codes "end"
 
 -- how a query that selects nothing is reported
 abbrev pub query_refusal : QueryError → Refusal
@@ -51,6 +60,10 @@ refusal_text BadSize = codes "G2 BadSize"
 refusal_text (BadScript line) = codes "G3 BadScript " ++ decimal line
 refusal_text (Fields error) = error_text error
 refusal_text (NoText number) = codes "P3 NoText " ++ decimal number
+refusal_text (BadDigest line) = codes "A1 NotADigest " ++ decimal line
+refusal_text NotAnArchive = codes "A2 NotAnArchive"
+refusal_text (BadMember member) = codes "A3 BadMember " ++ member_text member
+refusal_text (LacksSegment digest) = codes "A4 LacksSegment " ++ encode_lower digest
 refusal_text (Text refused) = refused_text refused
 refusal_text (Query refusal) = tables.query_text refusal
 refusal_text (Opening refusal) = opening_text refusal

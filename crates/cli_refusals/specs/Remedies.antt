@@ -15,7 +15,7 @@ use Rattle.tables.specs.declared.refusal.Refusal.TheVariants as stores
 use Rattle.commit.specs.declared.opening_refusal.OpeningRefusal.{OpeningRefusal}
 use Rattle.commit.specs.declared.opening_refusal.OpeningRefusal.TheVariants as openings
 use Rattle.cli_refusals.specs.declared.refusal.Refusal.{Refusal}
-use Rattle.cli_refusals.specs.declared.refusal.Refusal.TheVariants.{Fault, NoEnd, TooManyBytes, Io, BadSize, BadScript, Fields, NoText, Text, Query, Opening, Store, Line, TextLine, OutOfMemory}
+use Rattle.cli_refusals.specs.declared.refusal.Refusal.TheVariants.{Fault, NoEnd, TooManyBytes, Io, BadSize, BadScript, Fields, NoText, BadDigest, NotAnArchive, BadMember, LacksSegment, Text, Query, Opening, Store, Line, TextLine, OutOfMemory}
 use Rattle.cli_refusals.specs.declared.remedies.TheConstants as remedies
 
 -- for a fault of a stream; one without a remedy of its own lies with the program that wrote the stream
@@ -115,6 +115,10 @@ remedy BadSize = remedies.WHOLE_FILE.now
 remedy (BadScript line) = remedies.LINES_OF_A_SCRIPT.now
 remedy (Fields error) = fields_remedy error
 remedy (NoText number) = remedies.FIELDS_OF_ANOTHER.now
+remedy (BadDigest line) = remedies.LINES_OF_DIGESTS.now
+remedy NotAnArchive = remedies.GIVE_AN_ARCHIVE.now
+remedy (BadMember member) = remedies.SEND_AGAIN.now
+remedy (LacksSegment digest) = remedies.SEND_WHAT_IS_LACKED.now
 remedy (Text refused) = text_remedy refused.refusal
 remedy (Query reason) = query_remedy reason
 remedy (Opening refusal) = opening_remedy refusal

@@ -16,7 +16,7 @@ use Rattle.cli_refusals.specs.declared.known.FileCause.{FileCause}
 use Rattle.cli_refusals.specs.declared.known.FileCause.TheVariants.{Locked, Missing, Denied, Exists, Other}
 use Rattle.cli_refusals.specs.declared.known.Known.{Known}
 use Rattle.cli_refusals.specs.declared.refusal.Refusal.{Refusal}
-use Rattle.cli_refusals.specs.declared.refusal.Refusal.TheVariants.{Fault, NoEnd, TooManyBytes, Io, BadSize, BadScript, Fields, NoText, Text, Query, Opening, Store, Line, TextLine, OutOfMemory}
+use Rattle.cli_refusals.specs.declared.refusal.Refusal.TheVariants.{Fault, NoEnd, TooManyBytes, Io, BadSize, BadScript, Fields, NoText, BadDigest, NotAnArchive, BadMember, LacksSegment, Text, Query, Opening, Store, Line, TextLine, OutOfMemory}
 use Rattle.cli_refusals.specs.declared.refusal.Side.{Side}
 use Rattle.cli_refusals.specs.declared.refusal.Side.TheVariants as sides
 
@@ -135,6 +135,10 @@ word BadSize known = codes "bad-size"
 word (BadScript line) known = codes "bad-script"
 word (Fields error) known = fields_word error
 word (NoText number) known = codes "no-text"
+word (BadDigest line) known = codes "not-a-digest"
+word NotAnArchive known = codes "not-an-archive"
+word (BadMember member) known = codes "bad-member"
+word (LacksSegment digest) known = codes "lacks-segment"
 word (Text refused) known = text_word refused.refusal
 word (Query reason) known = query_word reason
 word (Opening refusal) known = opening_word refusal

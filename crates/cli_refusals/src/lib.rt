@@ -10,6 +10,7 @@
 //! ```
 #![tactic(auto)]
 
+mod digits;
 mod entry;
 mod failed_file;
 mod form;
@@ -33,6 +34,6 @@ pub use known::{FileCause, Known};
 pub use output::write_whole;
 pub use page::{FILE_REFUSALS, TABLE_REFUSALS, refusals_page};
 pub use part_about::about_part;
-pub use refusal::{Refusal, Side};
+pub use refusal::{ArchiveMember, Refusal, Side};
 pub use refused_word::{Role, Word};
 pub use shown::{MOST_SHOWN, has_unshown};

@@ -8,22 +8,22 @@ use crate::remedies::{
     FEWER_SEGMENTS, FEWER_TABLES, FEWER_VALUES, FIELDS_OF_ANOTHER, FIELDS_OF_THE_TABLE,
     FILE_OF_A_STORE, FIX_ROW, FOLDER_OF_A_NEW_FILE, FORM_OF_A_CONDITION, FORM_OF_A_DATE,
     FORM_OF_A_FIELD, FORM_OF_A_NAME, GIVE_A_NUMBER, GIVE_A_STREAM, GIVE_A_VALUE, GIVE_ALL,
-    GIVE_ARRAYS, GIVE_JSON_LINES, GIVE_LESS, GIVE_THE_NAME, IMPORT_AGAIN, ITEMS_OF_A_LINE,
-    KIND_OF_THE_TYPE, LATER_PROGRAM, LEAVE_OUT_MESSAGES, LENGTH_OF_THE_STORE, LINES_OF_A_SCRIPT,
-    LITTLE_ENDIAN, LOOK_AGAIN, MORE_MEMORY, MORE_ROOM, NAME_OF_A_TABLE, NAMES_FIRST,
-    NAMES_OF_COLUMNS, NAMES_OF_THE_SCHEMA, NEW_OUTPUT, NEW_PATH, NEW_STORE, NO_COMPRESSION,
-    NO_FOLDER, NUMBER_OF_SECTORS, OFFSET_OF_THE_ZONE, ONE_STREAM, OTHER_NAME, OTHER_TABLE,
-    PATH_AND_RIGHTS, READ_INPUT, READABLE_FILE, ROOM_FOR_THE_NEW_FILE, ROOM_ON_THE_DISK,
-    ROW_ON_A_LINE, SCHEMA_FIRST, SHORTER_BATCHES, SHORTER_VALUES, SIZE_OF_THE_DEVICE,
-    SMALLER_FIELDS, TEST_FOR_NULL, TRY_AGAIN, UNFINISHED_COPY, WAIT, WHOLE_FILE, WHOLE_STREAM,
-    WITHIN_THE_RANGE, WRITE_A_BOOLEAN, WRITE_AGAIN, WRITE_DIGITS, WRITE_HEXADECIMAL, WRITE_UTF_8,
-    WRITE_V5,
+    GIVE_AN_ARCHIVE, GIVE_ARRAYS, GIVE_JSON_LINES, GIVE_LESS, GIVE_THE_NAME, IMPORT_AGAIN,
+    ITEMS_OF_A_LINE, KIND_OF_THE_TYPE, LATER_PROGRAM, LEAVE_OUT_MESSAGES, LENGTH_OF_THE_STORE,
+    LINES_OF_A_SCRIPT, LINES_OF_DIGESTS, LITTLE_ENDIAN, LOOK_AGAIN, MORE_MEMORY, MORE_ROOM,
+    NAME_OF_A_TABLE, NAMES_FIRST, NAMES_OF_COLUMNS, NAMES_OF_THE_SCHEMA, NEW_OUTPUT, NEW_PATH,
+    NEW_STORE, NO_COMPRESSION, NO_FOLDER, NUMBER_OF_SECTORS, OFFSET_OF_THE_ZONE, ONE_STREAM,
+    OTHER_NAME, OTHER_TABLE, PATH_AND_RIGHTS, READ_INPUT, READABLE_FILE, ROOM_FOR_THE_NEW_FILE,
+    ROOM_ON_THE_DISK, ROW_ON_A_LINE, SCHEMA_FIRST, SEND_AGAIN, SEND_WHAT_IS_LACKED,
+    SHORTER_BATCHES, SHORTER_VALUES, SIZE_OF_THE_DEVICE, SMALLER_FIELDS, TEST_FOR_NULL, TRY_AGAIN,
+    UNFINISHED_COPY, WAIT, WHOLE_FILE, WHOLE_STREAM, WITHIN_THE_RANGE, WRITE_A_BOOLEAN,
+    WRITE_AGAIN, WRITE_DIGITS, WRITE_HEXADECIMAL, WRITE_UTF_8, WRITE_V5,
 };
 use std::alloc::{AllocError, Global};
 
-/// The pieces of the page of which its first sections are made: what each refusal of a stream, a file, a store or a field text means and what to do
-/// about it, among them the sentences of `remedies`. The file `docs/refusals.md` has the same bytes as the page.
-pub const FILE_REFUSALS: [&str; 95] = [
+/// The pieces of the page of which its first sections are made: what each refusal of a stream, a file, a store, a field text or an archive means and what
+/// to do about it, among them the sentences of `remedies`. The file `docs/refusals.md` has the same bytes as the page.
+pub const FILE_REFUSALS: [&str; 103] = [
     "# What each refusal means
 
 A refusal is one line on standard error: `refused`, a code, a name, and for some of them a detail, as in
@@ -47,7 +47,8 @@ new field.
 A refused command has changed no table, except as S9 and G1 say. It has written no output, except as G1
 says. `salvage` writes one segment after another, so it may have written some before S9 and OutOfMemory
 too. If `salvage` leaves out segments that can't be read, this is not a refusal: it reports each of them
-in a line, as in `left out segment 2 with 4096 rows`, and ends with status 1.
+in a line, as in `left out segment 2 with 4096 rows`, and ends with status 1. `send` writes one segment after
+another too: if it is refused for one of them (S9, S13, S15, OutOfMemory), the archive has no end.
 
 ## F: the input is not a stream that can be read
 
@@ -287,6 +288,29 @@ or appended. If no advice follows a fault, the cause is the program that wrote t
   ",
     FIELDS_OF_ANOTHER,
     "
+
+## A: an archive, or a list of digests
+
+The archive, or the list, is read before the store is opened.
+
+- A1 NotADigest N: line N of the list that `send --have` reads, counted from 1, is not the digest of a segment.
+  ",
+    LINES_OF_DIGESTS,
+    "
+- A2 NotAnArchive: the input of `receive` does not begin with the list of tables that `send` writes.
+  ",
+    GIVE_AN_ARCHIVE,
+    "
+- A3 BadMember MEMBER: the archive was cut off or altered at this member: the segment of this name, `end`, or
+  `member N`, counted from 0, which has another name than one of these.
+  ",
+    SEND_AGAIN,
+    "
+- A4 LacksSegment DIGEST: a table of the archive has this segment, which neither the archive nor the store has.
+  The archive was made for a receiver that has it.
+  ",
+    SEND_WHAT_IS_LACKED,
+    "
 ",
 ];
 
@@ -435,7 +459,8 @@ appended. After `T1 Line` the text is in the file of that line of a script.
 - S7 TooMany WHAT: a limit would be exceeded.
   Bytes: 2,147,483,647 of an input. ",
     GIVE_LESS,
-    "
+    " For an archive of more, a copy of
+  the file of the store can stand in for the first one.
   Tables: 1,024. ",
     FEWER_TABLES,
     "
@@ -472,8 +497,8 @@ appended. After `T1 Line` the text is in the file of that line of a script.
 - S12 Query REASON: the query of `query --save` is refused for this reason (Q).
 - S13 SegmentUnread N: segment N of the table, counted from 0, can't be read: its bytes were changed.
   `check` reads all tables, in byte order of their names, and reports the first that can't be read. On a
-  terminal it names each of them. There `copy`, `compact` and `upgrade` name the table that they can't
-  read, if only one is possible. Otherwise an `export` of each table shows which one it is.
+  terminal it names each of them. There `copy`, `compact`, `upgrade`, `have` and `send` name the table that
+  they can't read, if only one is possible. Otherwise an `export` of each table shows which one it is.
   ",
     IMPORT_AGAIN,
     "
@@ -533,10 +558,10 @@ G1 has eight words, which say whether the command was done:
 - `exists`: something is at the path of a file to be made. The command was not done.
 - `input`: the input can't be read, or is closed. The command was not done.
 - `output-before`: the output of a command that changes nothing failed: `query` without `--save`, `export`,
-  `salvage`, `tables`, `schema`, `check`, `info`, `recode`, `replay`, or help. A part of the output may be
-  written.
+  `salvage`, `tables`, `schema`, `check`, `info`, `have`, `send`, `recode`, `replay`, or help. A part of the
+  output may be written.
 - `output-after`: the output failed after `format`, `copy`, `create`, `import`, `append`, `query --save`,
-  `rename`, `drop`, `apply`, `compact` or `upgrade` was done. Do not run the command again.
+  `rename`, `drop`, `apply`, `receive`, `compact` or `upgrade` was done. Do not run the command again.
 - `other`: another call on a file failed. The command was not done, and a file that was to be made is
   removed.
 
@@ -553,6 +578,7 @@ after T1 that of the reason (S or X).
 - G2 `bad-size`, G3 `bad-script`.
 - C1 `not-a-store`, C3 `damaged`, C4 `device-at-opening`.
 - P1 `bad-field`, P2 `field-limit`, P3 `no-text`.
+- A1 `not-a-digest`, A2 `not-an-archive`, A3 `bad-member`, A4 `lacks-segment`.
 - X1 `header`, X2 `width`, X3 `text-not-utf8`, X4 `not-a-number`, X5 `out-of-range`, X6 `not-a-bool`,
   X7 `not-hex`, X8 `null-mismatch`, X9 `nested-columns`, X10 `not-json`, X11 `unknown-name`,
   X12 `missing-name`, X13 `ambiguous-names`, X14 `fixed-width`, X15 `row-too-heavy`,

@@ -3,6 +3,7 @@ ghost use Rattle.cli_refusals.specs.declared.refusal.Refusal.TheVariants.{OutOfM
 ghost use Rattle.cli_refusals.specs.declared.refusal.Refusal.TheVariants as refusals;
 ghost use Rattle.cli_refusals.specs.Refusals.{refusal_of, file_refusal, text_refusal, query_refusal};
 
+use crate::digits::HexDigits;
 use commit::OpeningRefusal;
 use field_texts::ParseError;
 use ipc_message::{Fault, ImportError};
@@ -24,6 +25,33 @@ pub enum Side {
     Output,
 }
 
+/// A member of an archive.
+#[derive(Clone, Copy, Debug)]
+pub enum ArchiveMember {
+    /// The stream of the segment with this digest.
+    Segment([u8; 32]),
+    /// The member at this place; the manifest is at 0.
+    At(u64),
+    /// The end.
+    End,
+}
+
+/// Prints the name of the member, or its place.
+impl fmt::Display for ArchiveMember {
+    ghost use Rattle.std.specs.Prelude.{Some};
+    ghost use Rattle.cli_refusals.specs.Refusals.{member_text};
+
+    ghost output = { λ member. Some (member_text member) };
+
+    fn fmt<W: fmt::Write>(&self, f: &mut fmt::Formatter<W>) -> fmt::Result {
+        match self {
+            ArchiveMember::Segment(digest) => write!(f, "segments/{}.arrows", HexDigits { digest }),
+            ArchiveMember::At(place) => write!(f, "member {place}"),
+            ArchiveMember::End => f.write_str("end"),
+        }
+    }
+}
+
 /// Why a command was refused.
 #[derive(Clone, Copy, Debug)]
 pub enum Refusal {
@@ -43,6 +71,14 @@ pub enum Refusal {
     Fields(ParseError),
     /// P3: no text is taken for this field of a table, counted from 1; 0 if the table has pairs of its own.
     NoText(usize),
+    /// A1: this line of a list of digests, counted from 1, states none.
+    BadDigest(u64),
+    /// A2: the input is no archive.
+    NotAnArchive,
+    /// A3: this member of an archive is cut short, altered or unknown.
+    BadMember(ArchiveMember),
+    /// A4: neither the archive nor the store has the segment with this digest.
+    LacksSegment([u8; 32]),
     /// X: a record of the input is not a row of the table.
     Text(Refused),
     /// Q: the query is refused for the table.
@@ -147,6 +183,10 @@ impl fmt::Display for Refusal {
             Refusal::BadScript(line) => write!(f, "G3 BadScript {line}"),
             Refusal::Fields(error) => write!(f, "{error}"),
             Refusal::NoText(number) => write!(f, "P3 NoText {number}"),
+            Refusal::BadDigest(line) => write!(f, "A1 NotADigest {line}"),
+            Refusal::NotAnArchive => f.write_str("A2 NotAnArchive"),
+            Refusal::BadMember(member) => write!(f, "A3 BadMember {member}"),
+            Refusal::LacksSegment(digest) => write!(f, "A4 LacksSegment {}", HexDigits { digest }),
             Refusal::Text(refused) => write!(f, "{refused}"),
             Refusal::Query(refusal) => write!(f, "{refusal}"),
             Refusal::Opening(refusal) => write!(f, "{refusal}"),

@@ -118,6 +118,20 @@ pub const SMALLER_FIELDS: &str =
 pub const FIELDS_OF_ANOTHER: &str =
     "Use `create NAME --like TABLE`: it takes the fields of any table of the same store. `schema` without `--fields` shows them.";
 
+// ---- A: archives
+
+pub const LINES_OF_DIGESTS: &str =
+    "Give the lines that `have` prints for the store of the receiver: 64 hexadecimal digits each, without spaces and empty lines.";
+
+pub const GIVE_AN_ARCHIVE: &str =
+    "Give what `send` has written, from its beginning: neither compressed, nor packed again by `tar`.";
+
+pub const SEND_AGAIN: &str =
+    "Send the archive again, and give all of it: it was cut off or altered on its way, or `send` was refused.";
+
+pub const SEND_WHAT_IS_LACKED: &str =
+    "Run `have` on the store that receives, give what it prints to `send --have` of the other store, and receive that archive.";
+
 // ---- X: texts
 
 pub const CLOSE_QUOTATION_MARKS: &str =
@@ -380,6 +394,10 @@ impl Refusal {
             Refusal::BadScript(_) => LINES_OF_A_SCRIPT,
             Refusal::Fields(error) => fields_remedy(error),
             Refusal::NoText(_) => FIELDS_OF_ANOTHER,
+            Refusal::BadDigest(_) => LINES_OF_DIGESTS,
+            Refusal::NotAnArchive => GIVE_AN_ARCHIVE,
+            Refusal::BadMember(_) => SEND_AGAIN,
+            Refusal::LacksSegment(_) => SEND_WHAT_IS_LACKED,
             Refusal::Text(refused) | Refusal::TextLine(_, refused) => text_remedy(refused.refusal),
             Refusal::Query(reason) => query_remedy(reason),
             Refusal::Opening(refusal) => opening_remedy(refusal),

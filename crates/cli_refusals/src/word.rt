@@ -182,6 +182,10 @@ impl Refusal {
             Refusal::BadScript(_) => "bad-script",
             Refusal::Fields(error) => fields_word(error),
             Refusal::NoText(_) => "no-text",
+            Refusal::BadDigest(_) => "not-a-digest",
+            Refusal::NotAnArchive => "not-an-archive",
+            Refusal::BadMember(_) => "bad-member",
+            Refusal::LacksSegment(_) => "lacks-segment",
             // A line of a script has the word of its own refusal.
             Refusal::Text(refused) | Refusal::TextLine(_, refused) => text_word(refused.refusal),
             Refusal::Query(reason) => query_word(reason),

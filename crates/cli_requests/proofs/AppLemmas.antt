@@ -19,7 +19,7 @@ use Rattle.clap.specs.declared.error.kind.ErrorKind.{ErrorKind}
 use Rattle.clap.specs.declared.parser.matches.ArgMatches.{ArgMatches}
 use Rattle.clap.proofs.OnLiterals.{clap_on_literals}
 use Rattle.clap.proofs.WalkLemmas.{first_value-rows, one_text-rows, raw_values-rows}
-use Rattle.cli_requests.specs.Apps.{info_app, compact_app, format_app, copy_app, store_app, apply_app, table_app, schema_app, import_app, rename_app, create_app, append_app, query_app, other_parameters, parameters_of, IsAppWith, IsOwnApp, value_of, values_of}
+use Rattle.cli_requests.specs.Apps.{info_app, compact_app, send_app, receive_app, format_app, copy_app, store_app, apply_app, table_app, schema_app, import_app, rename_app, create_app, append_app, query_app, other_parameters, parameters_of, IsAppWith, IsOwnApp, value_of, values_of}
 use Rattle.civil_days.specs.declared.date_form.DateForm.{DateForm}
 use Rattle.civil_days.specs.declared.date_form.DateForm.TheVariants.{Numbers, Iso}
 use Rattle.cli_requests.specs.Apps.{HasDates, HasFound}
@@ -59,6 +59,20 @@ pub compact_plain : (name : Text) (p : ℕ) → ends_options (arg_by_index (buil
 compact_plain name p = by_first (1 == p) refl
   where
     by_first : (b : Bool) → (1 == p) ≡ b → ends_options (arg_by_index (built (compact_app name)).top.rules p) ≡ false
+    by_first true e = rw e refl
+    by_first false e = rw e refl
+
+pub send_plain : (name : Text) (p : ℕ) → ends_options (arg_by_index (built (send_app name)).top.rules p) ≡ false
+send_plain name p = by_first (1 == p) refl
+  where
+    by_first : (b : Bool) → (1 == p) ≡ b → ends_options (arg_by_index (built (send_app name)).top.rules p) ≡ false
+    by_first true e = rw e refl
+    by_first false e = rw e refl
+
+pub receive_plain : (name : Text) (p : ℕ) → ends_options (arg_by_index (built (receive_app name)).top.rules p) ≡ false
+receive_plain name p = by_first (1 == p) refl
+  where
+    by_first : (b : Bool) → (1 == p) ≡ b → ends_options (arg_by_index (built (receive_app name)).top.rules p) ≡ false
     by_first true e = rw e refl
     by_first false e = rw e refl
 
@@ -158,6 +172,12 @@ info_top name = (built (info_app name)).top
 abbrev pub compact_top : Text → Shape
 compact_top name = (built (compact_app name)).top
 
+abbrev pub send_top : Text → Shape
+send_top name = (built (send_app name)).top
+
+abbrev pub receive_top : Text → Shape
+receive_top name = (built (receive_app name)).top
+
 abbrev pub table_top : Text → Shape
 table_top name = (built (table_app name)).top
 
@@ -225,6 +245,35 @@ unfolding clap_on_literals
 compact_alone name [] e = absurd (some_kind _ _ e)
 compact_alone name (a ∷ []) e = refl
 compact_alone name (a ∷ b ∷ rest) e = absurd (some_kind _ _ e)
+
+send_named : (name : Text) (ops : List Text) → operands_fault (send_top name) ops ≡ []
+    → ops ≡ row_value (codes "STORE") (operand_rows (send_top name) ops) ∷ []
+unfolding clap_on_literals
+send_named name [] e = absurd (some_kind _ _ e)
+send_named name (a ∷ []) e = refl
+send_named name (a ∷ b ∷ rest) e = absurd (some_kind _ _ e)
+
+-- without its option
+send_alone : (name : Text) (ops : List Text) → operands_fault (send_top name) ops ≡ [] → first_of (codes "have") (operand_rows (send_top name) ops) ≡ None
+unfolding clap_on_literals
+send_alone name [] e = absurd (some_kind _ _ e)
+send_alone name (a ∷ []) e = refl
+send_alone name (a ∷ b ∷ rest) e = absurd (some_kind _ _ e)
+
+receive_named : (name : Text) (ops : List Text) → operands_fault (receive_top name) ops ≡ []
+    → ops ≡ row_value (codes "STORE") (operand_rows (receive_top name) ops) ∷ []
+unfolding clap_on_literals
+receive_named name [] e = absurd (some_kind _ _ e)
+receive_named name (a ∷ []) e = refl
+receive_named name (a ∷ b ∷ rest) e = absurd (some_kind _ _ e)
+
+-- without its option
+receive_alone : (name : Text) (ops : List Text) → operands_fault (receive_top name) ops ≡ []
+    → one_of (codes "delete") (operand_rows (receive_top name) ops) ≡ Some (codes "false")
+unfolding clap_on_literals
+receive_alone name [] e = absurd (some_kind _ _ e)
+receive_alone name (a ∷ []) e = refl
+receive_alone name (a ∷ b ∷ rest) e = absurd (some_kind _ _ e)
 
 table_named : (name : Text) (ops : List Text) → operands_fault (table_top name) ops ≡ []
     → ops ≡ row_value (codes "STORE") (operand_rows (table_top name) ops) ∷ row_value (codes "NAME") (operand_rows (table_top name) ops) ∷ []
@@ -508,6 +557,30 @@ module _ (word : Text) (words : List Text) (m : ArgMatches) (a : App) (name : Te
         sym (found_first m _ (codes "steps") rows) ∙ compact_alone name ops faultless,
       )
 
+  send_found : a ≡ send_app name → (ops : List Text) → operands words ≡ Some ops
+      → (ops ≡ value_of (found_of m) (codes "STORE") ∷ []) × (first_value (found_of m) (codes "have") ≡ None)
+  unfolding clap_on_literals
+  send_found is ops e =
+      let reads = reads_operands (send_app name) word words ops e refl refl (send_plain name) in
+      let p : Parsed (send_app name) (word ∷ words) m = subst (λ (x : App). Parsed x (word ∷ words) m) is parsed in
+      let rows = (p.matches refl).0 ∙ reads.rows in
+      let faultless = sym reads.fault ∙ p.faultless refl in (
+        send_named name ops faultless ∙ ap (λ (v : Text). v ∷ []) (found_value m _ (codes "STORE") rows),
+        sym (found_first m _ (codes "have") rows) ∙ send_alone name ops faultless,
+      )
+
+  receive_found : a ≡ receive_app name → (ops : List Text) → operands words ≡ Some ops
+      → (ops ≡ value_of (found_of m) (codes "STORE") ∷ []) × (one_text (found_of m) (codes "delete") ≡ Some (codes "false"))
+  unfolding clap_on_literals
+  receive_found is ops e =
+      let reads = reads_operands (receive_app name) word words ops e refl refl (receive_plain name) in
+      let p : Parsed (receive_app name) (word ∷ words) m = subst (λ (x : App). Parsed x (word ∷ words) m) is parsed in
+      let rows = (p.matches refl).0 ∙ reads.rows in
+      let faultless = sym reads.fault ∙ p.faultless refl in (
+        receive_named name ops faultless ∙ ap (λ (v : Text). v ∷ []) (found_value m _ (codes "STORE") rows),
+        sym (found_one m _ (codes "delete") rows) ∙ receive_alone name ops faultless,
+      )
+
   table_found : a ≡ table_app name → (ops : List Text) → operands words ≡ Some ops
       → ops ≡ value_of (found_of m) (codes "STORE") ∷ value_of (found_of m) (codes "NAME") ∷ []
   unfolding clap_on_literals
@@ -708,6 +781,14 @@ module _ (word : Text) (words : List Text) (m : ArgMatches) (a : App) (own : IsO
       → (ops ≡ value_of (found_of m) (codes "STORE") ∷ []) × (first_value (found_of m) (codes "steps") ≡ None)
   names_steps is ops e = compact_found word words m a word parsed (subst (λ (b : Parameters). IsAppWith word b a) is own) ops e
 
+  names_digests : parameters_of word ≡ parameters.FileAndDigests → (ops : List Text) → operands words ≡ Some ops
+      → (ops ≡ value_of (found_of m) (codes "STORE") ∷ []) × (first_value (found_of m) (codes "have") ≡ None)
+  names_digests is ops e = send_found word words m a word parsed (subst (λ (b : Parameters). IsAppWith word b a) is own) ops e
+
+  names_deletion : parameters_of word ≡ parameters.FileAndDeletion → (ops : List Text) → operands words ≡ Some ops
+      → (ops ≡ value_of (found_of m) (codes "STORE") ∷ []) × (one_text (found_of m) (codes "delete") ≡ Some (codes "false"))
+  names_deletion is ops e = receive_found word words m a word parsed (subst (λ (b : Parameters). IsAppWith word b a) is own) ops e
+
   names_one_table : parameters_of word ≡ parameters.Table → (ops : List Text) → operands words ≡ Some ops
       → ops ≡ value_of (found_of m) (codes "STORE") ∷ value_of (found_of m) (codes "NAME") ∷ []
   names_one_table is ops e = table_found word words m a word parsed (subst (λ (b : Parameters). IsAppWith word b a) is own) ops e
@@ -819,6 +900,16 @@ module _ (word : Text) (words : List Text) (m : ArgMatches) (a : App) (own : IsO
   names_command (requests.Apply file script) is found =
       named (requests.Apply file script)
       (λ ops e. names_script (of_word (codes "apply") parameters.Script is refl) ops e ∙ (λ i. sym found.0 i ∷ sym found.1 i ∷ []))
+  names_command (requests.Send file have) is found =
+      named (requests.Send file have)
+      (λ ops e.
+      let has = names_digests (of_word (codes "send") parameters.FileAndDigests is refl) ops e in
+      (has.0 ∙ ap (λ (v : Text). v ∷ []) (sym found.0), no_text have (found.1 ∙ has.1)))
+  names_command (requests.Receive file delete) is found =
+      named (requests.Receive file delete)
+      (λ ops e.
+      let has = names_deletion (of_word (codes "receive") parameters.FileAndDeletion is refl) ops e in
+      (has.0 ∙ ap (λ (v : Text). v ∷ []) (sym found.0), found.1.left_out has.1))
   names_command (requests.Replay script) is found = named (requests.Replay script) (λ ops e. tt)
   names_command (requests.Command file commands.Tables) is found =
       named (requests.Command file commands.Tables)
@@ -826,6 +917,9 @@ module _ (word : Text) (words : List Text) (m : ArgMatches) (a : App) (own : IsO
   names_command (requests.Command file commands.Check) is found =
       named (requests.Command file commands.Check)
       (λ ops e. (names_file_only (of_word (codes "check") parameters.Nothing is refl) ops e ∙ ap (λ (v : Text). v ∷ []) (sym found.0), tt))
+  names_command (requests.Command file commands.Have) is found =
+      named (requests.Command file commands.Have)
+      (λ ops e. (names_file_only (of_word (codes "have") parameters.Nothing is refl) ops e ∙ ap (λ (v : Text). v ∷ []) (sym found.0), tt))
   names_command (requests.Command file (commands.Compact steps)) is found =
       named (requests.Command file (commands.Compact steps))
       (λ ops e.

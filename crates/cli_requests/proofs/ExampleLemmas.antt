@@ -15,7 +15,7 @@ use Rattle.clap.specs.Lexer.{usize_max}
 use Rattle.clap.specs.declared.builder.value_parser.ValueParser.TheVariants as parsers
 use Rattle.clap.proofs.OnLiterals.{clap_on_literals}
 use Rattle.clap.specs.declared.builder.value_parser.ValueParser.{ValueParser}
-use Rattle.cli_requests.specs.Apps.{AreForms, AreDateForms, is_form, is_date_form, IsOwnApp, info_app, compact_app, format_app, apply_app, schema_app, import_app, create_app, query_app, replay_app, append_app, other_parameters, parameters_of}
+use Rattle.cli_requests.specs.Apps.{AreForms, AreDateForms, is_form, is_date_form, IsOwnApp, info_app, compact_app, send_app, receive_app, store_app, format_app, apply_app, schema_app, import_app, create_app, query_app, replay_app, append_app, other_parameters, parameters_of}
 use Rattle.cli_requests.specs.Examples.{AreExamples, AreFound, AreReadAs, AreValuesRead, IsHow, IsVersion, Valued, called}
 use Rattle.cli_requests.specs.Numbers.{is_number, is_number_if_any}
 use Rattle.cli_requests.specs.Operands.{names_file, names_table}
@@ -77,6 +77,15 @@ module _ (first flag : Text → Option Text) where
 
   apply_takable : IsTakable (codes "apply") first flag
   apply_takable = plain_takable (codes "apply") refl refl (λ e. absurd (true≢false (sym e))) (λ e. absurd (true≢false (sym e))) refl (λ e. absurd (true≢false (sym e))) refl
+
+  send_takable : IsTakable (codes "send") first flag
+  send_takable = plain_takable (codes "send") refl refl (λ e. absurd (true≢false (sym e))) (λ e. absurd (true≢false (sym e))) refl (λ e. absurd (true≢false (sym e))) refl
+
+  receive_takable : IsTakable (codes "receive") first flag
+  receive_takable = plain_takable (codes "receive") refl refl (λ e. absurd (true≢false (sym e))) (λ e. absurd (true≢false (sym e))) refl (λ e. absurd (true≢false (sym e))) refl
+
+  have_takable : IsTakable (codes "have") first flag
+  have_takable = plain_takable (codes "have") refl refl (λ e. absurd (true≢false (sym e))) (λ e. absurd (true≢false (sym e))) refl (λ e. absurd (true≢false (sym e))) refl
 
   create_takable : (first (codes "like") ≡ None) ⊎ (first (codes "FIELD") ≡ None) → IsTakable (codes "create") first flag
   create_takable like = plain_takable (codes "create") refl refl (λ e. like) (λ e. absurd (true≢false (sym e))) refl (λ e. absurd (true≢false (sym e))) refl
@@ -173,6 +182,16 @@ compact_example : AreReadAs (called (codes "compact" ∷ codes "store" ∷ codes
     ((codes "STORE", codes "store" ∷ []) ∷ (codes "steps", codes "100" ∷ []) ∷ [])
 unfolding names_file names_table other_parameters parameters_of first_word is_number walked clap_on_literals
 compact_example = read_as _ _ (compact_app (codes "compact")) (λ command own. sym own) refl (compact_takable _ _ refl) (refl, (refl, tt))
+
+send_example : AreReadAs (called (codes "send" ∷ codes "store" ∷ codes "--have" ∷ codes "digests" ∷ []))
+    ((codes "STORE", codes "store" ∷ []) ∷ (codes "have", codes "digests" ∷ []) ∷ [])
+unfolding names_file names_table other_parameters parameters_of first_word is_number walked clap_on_literals
+send_example = read_as _ _ (send_app (codes "send")) (λ command own. sym own) refl (send_takable _ _) (refl, (refl, tt))
+
+receive_example : AreReadAs (called (codes "receive" ∷ codes "--delete" ∷ codes "store" ∷ []))
+    ((codes "STORE", codes "store" ∷ []) ∷ (codes "delete", codes "true" ∷ []) ∷ [])
+unfolding names_file names_table other_parameters parameters_of first_word is_number walked clap_on_literals
+receive_example = read_as _ _ (receive_app (codes "receive")) (λ command own. sym own) refl (receive_takable _ _) (refl, (refl, tt))
 
 apply_example : AreReadAs (called (codes "apply" ∷ codes "store" ∷ codes "-" ∷ codes "--wait" ∷ []))
     ((codes "STORE", codes "store" ∷ []) ∷ (codes "SCRIPT", codes "-" ∷ []) ∷ (codes "wait", codes "true" ∷ []) ∷ [])
@@ -326,6 +345,21 @@ compact_values : (steps file : Text) → is_number steps ≡ true → AreReadAs 
 unfolding names_file names_table other_parameters parameters_of first_word walked clap_on_literals
 compact_values steps file is =
     read_as _ _ (compact_app (codes "compact")) (λ command own. sym own) (compact_faultless steps file is) (compact_takable _ _ is) (refl, (refl, tt))
+
+send_values : (digests file : Text) → AreReadAs (called (codes "send" ∷ (codes "--have=" ++ digests) ∷ codes "--" ∷ file ∷ []))
+    ((codes "STORE", file ∷ []) ∷ (codes "have", digests ∷ []) ∷ [])
+unfolding names_file names_table other_parameters parameters_of first_word is_number walked clap_on_literals
+send_values digests file = read_as _ _ (send_app (codes "send")) (λ command own. sym own) refl (send_takable _ _) (refl, (refl, tt))
+
+receive_values : (file : Text) → AreReadAs (called (codes "receive" ∷ codes "--delete" ∷ codes "--" ∷ file ∷ []))
+    ((codes "STORE", file ∷ []) ∷ (codes "delete", codes "true" ∷ []) ∷ [])
+unfolding names_file names_table other_parameters parameters_of first_word is_number walked clap_on_literals
+receive_values file = read_as _ _ (receive_app (codes "receive")) (λ command own. sym own) refl (receive_takable _ _) (refl, (refl, tt))
+
+have_values : (file : Text) → AreReadAs (called (codes "have" ∷ codes "--wait" ∷ codes "--" ∷ file ∷ []))
+    ((codes "STORE", file ∷ []) ∷ (codes "wait", codes "true" ∷ []) ∷ [])
+unfolding names_file names_table other_parameters parameters_of first_word is_number walked clap_on_literals
+have_values file = read_as _ _ (store_app (codes "have")) (λ command own. sym own) refl (have_takable _ _) (refl, (refl, tt))
 
 apply_values : (file script : Text) → AreReadAs (called (codes "apply" ∷ codes "--wait" ∷ codes "--" ∷ file ∷ script ∷ []))
     ((codes "STORE", file ∷ []) ∷ (codes "SCRIPT", script ∷ []) ∷ (codes "wait", codes "true" ∷ []) ∷ [])
@@ -654,6 +688,8 @@ examples = record {
   device = device_example;
   info = info_example;
   compacted = compact_example;
+  sent = send_example;
+  received = receive_example;
   like = like_example;
   described = described_example;
   imported = import_example;
@@ -672,6 +708,9 @@ values_read = record {
   whole = whole_values;
   info = info_values;
   compacted = compact_values;
+  sent = send_values;
+  received = receive_values;
+  had = have_values;
   like = like_values;
   described = described_values;
   imported = import_values;

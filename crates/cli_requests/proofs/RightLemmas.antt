@@ -28,7 +28,7 @@ use Rattle.clap.specs.declared.parser.matches.ArgMatches.{ArgMatches}
 use Rattle.clap.specs.declared.parser.matches.Found.{Found}
 use Rattle.clap.proofs.OnLiterals.{clap_on_literals}
 use Rattle.clap.specs.Walk.{walked}
-use Rattle.cli_requests.specs.Apps.{info_app, compact_app, format_app, copy_app, apply_app, table_app, schema_app, import_app, rename_app, create_app, append_app, query_app, other_parameters, parameters_of, AreForms, AreDateForms, IsAppWith, IsOwnApp}
+use Rattle.cli_requests.specs.Apps.{info_app, compact_app, send_app, receive_app, format_app, copy_app, apply_app, table_app, schema_app, import_app, rename_app, create_app, append_app, query_app, other_parameters, parameters_of, AreForms, AreDateForms, IsAppWith, IsOwnApp}
 use Rattle.cli_requests.specs.Apps.{HasFound, IsOfMemory, value_of}
 use Rattle.cli_requests.specs.Numbers.{is_number, is_number_if_any}
 use Rattle.cli_requests.specs.Operands.{is_option, operands, names_file, names_table}
@@ -40,8 +40,8 @@ use Rattle.cli_requests.specs.declared.store_command_line.Mistake.{Mistake}
 use Rattle.cli_requests.specs.declared.store_words.StoreRequest.{StoreRequest}
 use Rattle.cli_requests.proofs.NumberLemmas.{signed_is_none}
 use Rattle.cli_requests.proofs.OperandLemmas.{operands_fault, reads_operands, level_with, words_read, words_faultless}
-use Rattle.cli_requests.proofs.AppLemmas.{Parsed, file_app, file_top, info_top, compact_top, apply_top, table_top, schema_top, import_top, rename_top, format_top, copy_top, append_top, create_top, query_top, file_and_table, field_met, condition_met}
-use Rattle.cli_requests.proofs.AppLemmas.{file_plain, info_plain, compact_plain, apply_plain, table_plain, schema_plain, import_plain, rename_plain, format_plain, copy_plain, append_plain, create_plain, query_plain, found_first, found_one}
+use Rattle.cli_requests.proofs.AppLemmas.{Parsed, file_app, file_top, info_top, compact_top, send_top, receive_top, apply_top, table_top, schema_top, import_top, rename_top, format_top, copy_top, append_top, create_top, query_top, file_and_table, field_met, condition_met}
+use Rattle.cli_requests.proofs.AppLemmas.{file_plain, info_plain, compact_plain, send_plain, receive_plain, apply_plain, table_plain, schema_plain, import_plain, rename_plain, format_plain, copy_plain, append_plain, create_plain, query_plain, found_first, found_one}
 use Rattle.cli_requests.proofs.AppLemmas.{AreFileAndNumber, names_sectors, asks_newest, names_new_store, asks_own_fields, asks_no_end, asks_all, names_steps}
 
 -- ---- numbers
@@ -89,6 +89,18 @@ unfolding clap_on_literals
 full_compact name [] e = absurd (omega (arith, e))
 full_compact name (a ∷ []) e = refl
 full_compact name (a ∷ b ∷ rest) e = absurd (omega (arith, e))
+
+full_send : (name : Text) (ops : List Text) → length ops ≡ 1 → operands_fault (send_top name) ops ≡ []
+unfolding clap_on_literals
+full_send name [] e = absurd (omega (arith, e))
+full_send name (a ∷ []) e = refl
+full_send name (a ∷ b ∷ rest) e = absurd (omega (arith, e))
+
+full_receive : (name : Text) (ops : List Text) → length ops ≡ 1 → operands_fault (receive_top name) ops ≡ []
+unfolding clap_on_literals
+full_receive name [] e = absurd (omega (arith, e))
+full_receive name (a ∷ []) e = refl
+full_receive name (a ∷ b ∷ rest) e = absurd (omega (arith, e))
 
 full_table : (name : Text) (ops : List Text) → length ops ≡ 2 → operands_fault (table_top name) ops ≡ []
 unfolding clap_on_literals
@@ -212,6 +224,12 @@ module _ (word : Text) (words ops : List Text) (is : operands words ≡ Some ops
   right_faultless parameters.FileAndSteps a own right =
       subst (λ (x : App). IsFaultless x (word ∷ words)) (sym own)
       (refl, (reads_operands (compact_app word) word words ops is refl refl (compact_plain word)).fault ∙ full_compact word ops (eqb-true (length ops) 1 right))
+  right_faultless parameters.FileAndDigests a own right =
+      subst (λ (x : App). IsFaultless x (word ∷ words)) (sym own)
+      (refl, (reads_operands (send_app word) word words ops is refl refl (send_plain word)).fault ∙ full_send word ops (eqb-true (length ops) 1 right))
+  right_faultless parameters.FileAndDeletion a own right =
+      subst (λ (x : App). IsFaultless x (word ∷ words)) (sym own)
+      (refl, (reads_operands (receive_app word) word words ops is refl refl (receive_plain word)).fault ∙ full_receive word ops (eqb-true (length ops) 1 right))
   right_faultless parameters.Table a own right =
       subst (λ (x : App). IsFaultless x (word ∷ words)) (sym own)
       (refl, (reads_operands (table_app word) word words ops is refl refl (table_plain word)).fault ∙ full_table word ops (eqb-true (length ops) 2 right))
@@ -403,6 +421,8 @@ unfolding clap_on_literals
 own_free word parameters.Nothing a own = rw own refl
 own_free word parameters.FileAndForm a own = rw own refl
 own_free word parameters.FileAndSteps a own = rw own refl
+own_free word parameters.FileAndDigests a own = rw own refl
+own_free word parameters.FileAndDeletion a own = rw own refl
 own_free word parameters.Table a own = rw own refl
 own_free word parameters.TableToDescribe a own = rw own refl
 own_free word parameters.TableToImport a own = rw own refl

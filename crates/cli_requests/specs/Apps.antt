@@ -78,6 +78,14 @@ steps_rule = record (option_rule (codes "steps")) { parser = Some (parsers.Unsig
 abbrev pub compact_app : Text → App
 compact_app name = with_rule (store_app name) steps_rule
 
+-- a command that may name a file of digests
+abbrev pub send_app : Text → App
+send_app name = with_rule (store_app name) (option_rule (codes "have"))
+
+-- a command that may drop tables
+abbrev pub receive_app : Text → App
+receive_app name = with_rule (store_app name) (flag_rule (codes "delete"))
+
 -- a command that also names a script
 abbrev pub apply_app : Text → App
 apply_app name = with_rule (store_app name) (required_rule (codes "SCRIPT"))
@@ -178,6 +186,8 @@ abbrev pub IsAppWith : Text → Parameters → App → Type 0
 IsAppWith name parameters.Nothing command = command ≡ store_app name
 IsAppWith name parameters.FileAndForm command = command ≡ info_app name
 IsAppWith name parameters.FileAndSteps command = command ≡ compact_app name
+IsAppWith name parameters.FileAndDigests command = command ≡ send_app name
+IsAppWith name parameters.FileAndDeletion command = command ≡ receive_app name
 IsAppWith name parameters.Table command = command ≡ table_app name
 IsAppWith name parameters.TableToDescribe command = command ≡ schema_app name
 IsAppWith name parameters.TableToImport command = command ≡ import_app name
@@ -199,7 +209,8 @@ other_parameters word =
     (codes "append") word then parameters.TableAndRows else (if bytes_eq (codes "replay") word then parameters.ScriptAndFaults else (if bytes_eq
     (codes "info") word then parameters.FileAndForm else (if bytes_eq (codes "import") word then parameters.TableToImport else (if bytes_eq
     (codes "schema") word then parameters.TableToDescribe else (if bytes_eq (codes "apply") word then parameters.Script else (if bytes_eq
-    (codes "compact") word then parameters.FileAndSteps else parameters.TableAndQuery)))))))))
+    (codes "compact") word then parameters.FileAndSteps else (if bytes_eq (codes "send") word then parameters.FileAndDigests
+    else (if bytes_eq (codes "receive") word then parameters.FileAndDeletion else parameters.TableAndQuery)))))))))))
 
 unfoldable pub parameters_of : Text → Parameters
 parameters_of word =
@@ -305,6 +316,9 @@ HasFound found (requests.Copy path new sectors) =
 HasFound found (requests.Salvage path name) = (path.now ≡ value_of found (codes "STORE")) × (name.now ≡ value_of found (codes "NAME"))
 HasFound found (requests.Replay words) = HasScript found words
 HasFound found (requests.Apply path script) = (path.now ≡ value_of found (codes "STORE")) × (script.now ≡ value_of found (codes "SCRIPT"))
+HasFound found (requests.Send path have) =
+    (path.now ≡ value_of found (codes "STORE")) × (option_map (λ s. s.now) have ≡ first_value found (codes "have"))
+HasFound found (requests.Receive path delete) = (path.now ≡ value_of found (codes "STORE")) × HasFlag found (codes "delete") delete
 
 -- memory was refused
 abbrev pub IsOfMemory : Mistake → Type 0

@@ -30,6 +30,7 @@ command_word commands.Check = codes "check"
 command_word (commands.Info as_json) = codes "info"
 command_word (commands.Compact steps) = codes "compact"
 command_word commands.Upgrade = codes "upgrade"
+command_word commands.Have = codes "have"
 
 abbrev pub request_word : StoreRequest → Text
 request_word (requests.Format path sectors version) = codes "format"
@@ -38,6 +39,8 @@ request_word (requests.Copy path new sectors) = codes "copy"
 request_word (requests.Salvage path name) = codes "salvage"
 request_word (requests.Replay words) = codes "replay"
 request_word (requests.Apply path script) = codes "apply"
+request_word (requests.Send path have) = codes "send"
+request_word (requests.Receive path delete) = codes "receive"
 request_word (requests.Command path command) = command_word command
 
 abbrev pub is_saving : StoreCommand → Bool
@@ -61,4 +64,6 @@ changes (requests.Copy path new sectors) = true
 changes (requests.Salvage path name) = false
 changes (requests.Replay words) = false
 changes (requests.Apply path script) = true
+changes (requests.Send path have) = false
+changes (requests.Receive path delete) = true
 changes (requests.Command path command) = not (only_reads command)

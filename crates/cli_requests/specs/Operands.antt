@@ -33,7 +33,7 @@ words_after_command arguments = drop 2 arguments
 -- the commands that name a store alone, and those that name a table in it, without options
 unfoldable pub names_file : Text → Bool
 names_file word =
-    bytes_eq (codes "tables") word || (bytes_eq (codes "check") word || bytes_eq (codes "upgrade") word)
+    bytes_eq (codes "tables") word || (bytes_eq (codes "check") word || (bytes_eq (codes "upgrade") word || bytes_eq (codes "have") word))
 
 unfoldable pub names_table : Text → Bool
 names_table word =
@@ -66,6 +66,7 @@ names_in commands.Check = []
 names_in (commands.Info as_json) = []
 names_in (commands.Compact steps) = []
 names_in commands.Upgrade = []
+names_in commands.Have = []
 
 -- a command without options: the fields of a table are given, an import may replace a table, rows are appended from a stream, all columns of all rows
 -- are printed as arrays with dates as numbers, the summary as lines, and a compaction has no limit
@@ -82,7 +83,8 @@ IsWithoutOptions (commands.Info as_json) = as_json ≡ false
 IsWithoutOptions (commands.Compact steps) = steps ≡ None
 IsWithoutOptions _ = Unit {0}
 
--- these words name the request's files and tables, its script or its number of sectors; without its option a store is made in the newest version
+-- these words name the request's files and tables, its script or its number of sectors; without its option a store is made in the newest version, the
+-- receiver of an archive has no segment, and one that receives it keeps its other tables
 unfoldable pub IsNamedBy : StoreRequest → List Text → Type 0
 IsNamedBy (requests.Command path command) words = (words ≡ path.now ∷ names_in command) × IsWithoutOptions command
 IsNamedBy (requests.Format path sectors version) words =
@@ -92,6 +94,8 @@ IsNamedBy (requests.FormatDevice path sectors over version) words = (words ≡ p
 IsNamedBy (requests.Copy path new sectors) words = (number : Text) × (words ≡ path.now ∷ new.now ∷ number ∷ []) × IsNumber number sectors
 IsNamedBy (requests.Salvage path name) words = words ≡ path.now ∷ name.now ∷ []
 IsNamedBy (requests.Apply path script) words = words ≡ path.now ∷ script.now ∷ []
+IsNamedBy (requests.Send path have) words = (words ≡ path.now ∷ []) × (have ≡ None)
+IsNamedBy (requests.Receive path delete) words = (words ≡ path.now ∷ []) × (delete ≡ false)
 -- a script is played with options, which are not operands
 IsNamedBy (requests.Replay script) words = Unit {0}
 

@@ -27,6 +27,8 @@ abbrev pub takes : Parameters → List Text → Bool
 takes parameters.Nothing words = length words == 1
 takes parameters.FileAndForm words = length words == 1
 takes parameters.FileAndSteps words = length words == 1
+takes parameters.FileAndDigests words = length words == 1
+takes parameters.FileAndDeletion words = length words == 1
 takes parameters.Table words = length words == 2
 takes parameters.TableToDescribe words = length words == 2
 takes parameters.TableToImport words = length words == 2

@@ -4,14 +4,19 @@ use Rattle.std.specs.List.{list_any, starts_with}
 use Rattle.std.specs.Str.{bytes_eq}
 use Rattle.clap.specs.Words.{Text}
 
--- commands that read standard input; `apply` does so if `-` stands for its script
+-- commands that change the tables by standard input; `apply` reads it if `-` stands for its script
+unfoldable pub changes_by_input_word : Text → Bool
+changes_by_input_word word =
+    bytes_eq (codes "import") word || (bytes_eq (codes "append") word || (bytes_eq (codes "apply") word || bytes_eq (codes "receive") word))
+
+-- commands that read standard input; `send` does so if `-` stands for its list of digests
 unfoldable pub takes_input_word : Text → Bool
-takes_input_word word = bytes_eq (codes "import") word || (bytes_eq (codes "append") word || bytes_eq (codes "apply") word)
+takes_input_word word = changes_by_input_word word || bytes_eq (codes "send") word
 
 -- commands that change the tables, or where their rows lie
 unfoldable pub changes_word : Text → Bool
 changes_word word =
-    takes_input_word word
+    changes_by_input_word word
     || (bytes_eq (codes "create") word || (bytes_eq (codes "rename") word || (bytes_eq (codes "drop") word
     || (bytes_eq (codes "compact") word || bytes_eq (codes "upgrade") word))))
 
@@ -20,9 +25,14 @@ unfoldable pub reads_table_word : Text → Bool
 reads_table_word word =
     bytes_eq (codes "schema") word || (bytes_eq (codes "export") word || (bytes_eq (codes "salvage") word || bytes_eq (codes "query") word))
 
+-- commands that read all tables, or what is listed of them
+unfoldable pub reads_tables_word : Text → Bool
+reads_tables_word word = bytes_eq (codes "tables") word || (bytes_eq (codes "check") word || (bytes_eq (codes "info") word || (bytes_eq (codes "have") word
+    || bytes_eq (codes "send") word)))
+
 -- commands that read tables
 unfoldable pub reads_word : Text → Bool
-reads_word word = reads_table_word word || (bytes_eq (codes "tables") word || (bytes_eq (codes "check") word || bytes_eq (codes "info") word))
+reads_word word = reads_table_word word || reads_tables_word word
 
 -- commands that make a store in a new file
 unfoldable pub makes_word : Text → Bool
@@ -30,7 +40,8 @@ makes_word word = bytes_eq (codes "format") word || bytes_eq (codes "copy") word
 
 -- commands that ask for something else than a command of an open store
 unfoldable pub has_own_request : Text → Bool
-has_own_request word = makes_word word || (bytes_eq (codes "salvage") word || (bytes_eq (codes "replay") word || bytes_eq (codes "apply") word))
+has_own_request word = makes_word word || (bytes_eq (codes "salvage") word || (bytes_eq (codes "replay") word || (bytes_eq (codes "apply") word
+    || (bytes_eq (codes "send") word || bytes_eq (codes "receive") word))))
 
 unfoldable pub is_store_word : Text → Bool
 is_store_word word = changes_word word || (makes_word word || (bytes_eq (codes "replay") word || reads_word word))

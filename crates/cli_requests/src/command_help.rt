@@ -9,7 +9,7 @@ pub(crate) struct CommandHelp {
 }
 
 // In the order of the help.
-pub(crate) const COMMANDS: [CommandHelp; 18] = [
+pub(crate) const COMMANDS: [CommandHelp; 21] = [
     CommandHelp {
         name: "format",
         about: abouts::FORMAT,
@@ -167,6 +167,38 @@ if the disk has changed a segment. Programs that know only version 1 can't read 
 
 If it is interrupted, no command opens the new file as a store: delete that file, and
 copy again.",
+    },
+    CommandHelp {
+        name: "have",
+        about: abouts::HAVE,
+        example: "Example: arrowstore have store > digests
+
+Each digest is a line of 64 hexadecimal digits: the SHA-256 of the stream of a segment.
+They are in the order of the tables and of their rows, each once. `send` leaves out the
+segments whose digests it is given. A store of version 1 has no digests in it, and is
+read whole; `upgrade` adds them.",
+    },
+    CommandHelp {
+        name: "send",
+        about: abouts::SEND,
+        example: "Example: arrowstore send store --have digests > changes.tar
+
+An archive has all tables of the store, as they are at one commit, and the segments that
+the receiver lacks: all of them without --have, and with it those whose digests are not
+in FILE. It is a tar archive, so `tar -x` unpacks it. Equal stores give equal archives.
+If a segment can't be read, part of the archive may be written; it has no end then, and
+`check` names the table.",
+    },
+    CommandHelp {
+        name: "receive",
+        about: abouts::RECEIVE,
+        example: "Example: arrowstore receive copy --delete < changes.tar
+
+The archive is read before the store is opened. Its tables take the place of those with
+their names, in one commit: all of them, or none. A table of which the store has the
+first segments gets only the others. What the archive leaves out must be in the store
+(A4 LacksSegment). Without --delete other tables stay. If all is there already, nothing
+is written.",
     },
     CommandHelp {
         name: "replay",

@@ -3,7 +3,7 @@ ghost use Rattle.std.specs.Prelude.{◌≡◌, false, codes, IfOk};
 ghost use Rattle.clap.specs.Words.{app_of, new_app, rule_of, with_rule};
 ghost use Rattle.clap.specs.declared.builder.value_parser.ValueParser.{ValueParser};
 ghost use Rattle.cli_requests.specs.Apps.{required_rule, flag_rule, sectors_rule, sectors_if_any_rule, version_rule, repeated_rule, option_rule, form_rule, null_rule, dates_rule, query_dates_rule, limit_rule, steps_rule};
-ghost use Rattle.cli_requests.specs.Apps.{store_app, info_app, compact_app, format_app, new_file_app, copy_app, table_app, apply_app, import_app, rename_app, fields_app, schema_app, create_app, append_app, conditions_app, selection_app, query_app};
+ghost use Rattle.cli_requests.specs.Apps.{store_app, info_app, compact_app, send_app, receive_app, format_app, new_file_app, copy_app, table_app, apply_app, import_app, rename_app, fields_app, schema_app, create_app, append_app, conditions_app, selection_app, query_app};
 ghost use Rattle.cli_requests.specs.Apps.{AreForms, AreDateForms, other_parameters, parameters_of, IsOwnApp};
 ghost use Rattle.cli_requests.specs.Operands.{names_file, names_table};
 
@@ -25,6 +25,8 @@ enum Parameters {
     Nothing,
     FileAndForm,
     FileAndSteps,
+    FileAndDigests,
+    FileAndDeletion,
     Sectors,
     NewStore,
     Script,
@@ -178,7 +180,7 @@ fn steps<'a>(alloc: Global) -> Arg<'a>
 fn names_file(word: &str) -> bool
     ensures { result ≡ names_file word.now }
 {
-    matches!(word, "tables" | "check" | "upgrade")
+    matches!(word, "tables" | "check" | "upgrade" | "have")
 }
 
 #[tactic(auto, unfolding(crate::specs::Operands::names_table))]
@@ -203,6 +205,8 @@ fn other_parameters(word: &str) -> Parameters
         "schema" => Parameters::TableToDescribe,
         "apply" => Parameters::Script,
         "compact" => Parameters::FileAndSteps,
+        "send" => Parameters::FileAndDigests,
+        "receive" => Parameters::FileAndDeletion,
         _ => Parameters::TableAndQuery,
     }
 }
@@ -260,6 +264,29 @@ fn with_steps<'a>(alloc: Global, name: &'a str) -> Result<Command<'a>, AllocErro
     ensures { IfOk result (λ c. app_of c ≡ compact_app name.now) }
 {
     with_file(alloc, name)?.arg(steps(alloc))
+}
+
+// Makes a command that takes the digests that a receiver has.
+fn with_digests<'a>(alloc: Global, name: &'a str) -> Result<Command<'a>, AllocError>
+    ensures { IfOk result (λ c. app_of c ≡ send_app name.now) }
+{
+    with_file(alloc, name)?.arg(option(
+        alloc,
+        "have",
+        "FILE",
+        "The digests of the segments that the receiver has, as have prints them: these segments are left out; - reads them from standard input",
+    ))
+}
+
+// Makes a command that takes `--delete`.
+fn with_deletion<'a>(alloc: Global, name: &'a str) -> Result<Command<'a>, AllocError>
+    ensures { IfOk result (λ c. app_of c ≡ receive_app name.now) }
+{
+    with_file(alloc, name)?.arg(flag(
+        alloc,
+        "delete",
+        "Drops the tables that are not in the archive",
+    ))
 }
 
 fn with_script<'a>(alloc: Global, name: &'a str) -> Result<Command<'a>, AllocError>
@@ -430,6 +457,8 @@ fn command<'a>(alloc: Global, name: &'a str) -> Result<Command<'a>, AllocError>
         Parameters::Nothing => with_file(alloc, name),
         Parameters::FileAndForm => with_form(alloc, name),
         Parameters::FileAndSteps => with_steps(alloc, name),
+        Parameters::FileAndDigests => with_digests(alloc, name),
+        Parameters::FileAndDeletion => with_deletion(alloc, name),
         Parameters::Table => with_table(alloc, name),
         Parameters::TableToDescribe => with_description(alloc, name),
         Parameters::TableToImport => with_import(alloc, name),

@@ -223,6 +223,8 @@ fn word_of<'a>(
             | StoreRequest::FormatDevice { path, .. }
             | StoreRequest::Salvage { path, .. }
             | StoreRequest::Apply { path, .. }
+            | StoreRequest::Send { path, .. }
+            | StoreRequest::Receive { path, .. }
             | StoreRequest::Command { path, .. },
             Refusal::Opening(_),
         )
@@ -230,6 +232,8 @@ fn word_of<'a>(
         | (
             StoreRequest::Salvage { path, .. }
             | StoreRequest::Apply { path, .. }
+            | StoreRequest::Send { path, .. }
+            | StoreRequest::Receive { path, .. }
             | StoreRequest::Command { path, .. },
             Refusal::BadSize,
         ) => named(Role::File, Some(path)),

@@ -113,6 +113,8 @@ fn asked<'a>(
         "salvage" => Ok(salvage_request(path, words)),
         "replay" => replay_request(alloc, words),
         "apply" => Ok(apply_request(path, words)),
+        "send" => Ok(send_request(path, words)),
+        "receive" => Ok(receive_request(path, words)),
         _ => command_request(alloc, path, command, words),
     }
 }
@@ -237,6 +239,24 @@ fn apply_request<'a>(path: &'a str, words: &ArgMatches<'a>) -> StoreRequest<'a>
 {
     let script = word(words, "SCRIPT");
     StoreRequest::Apply { path, script }
+}
+
+fn send_request<'a>(path: &'a str, words: &ArgMatches<'a>) -> StoreRequest<'a>
+    requires { path.now ≡ value_of (found_of words.now) (codes "STORE") }
+    ensures word { request_word result ≡ codes "send" }
+    ensures named { HasFound (found_of words.now) result }
+{
+    let have = words.get_str("have");
+    StoreRequest::Send { path, have }
+}
+
+fn receive_request<'a>(path: &'a str, words: &ArgMatches<'a>) -> StoreRequest<'a>
+    requires { path.now ≡ value_of (found_of words.now) (codes "STORE") }
+    ensures word { request_word result ≡ codes "receive" }
+    ensures named { HasFound (found_of words.now) result }
+{
+    let delete = has_flag(words, "delete");
+    StoreRequest::Receive { path, delete }
 }
 
 fn date_form(words: &ArgMatches<'_>) -> DateForm
@@ -442,6 +462,7 @@ fn command_of<'a>(
             steps: number_if_any(words, "steps")?,
         }),
         "upgrade" => Ok(StoreCommand::Upgrade),
+        "have" => Ok(StoreCommand::Have),
         _ => Ok(StoreCommand::Tables),
     }
 }

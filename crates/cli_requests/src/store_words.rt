@@ -1,7 +1,7 @@
 // What a command line asks of a store.
 ghost use Rattle.std.specs.Prelude.{◌≡◌, true, map, IfSome};
 ghost use Rattle.cli_requests.specs.Asked.{changes, is_for_device, only_reads};
-ghost use Rattle.cli_requests.specs.StoreWords.{takes_input_word, changes_word, makes_word, reads_table_word, reads_word, is_store_word, is_of_store, takes_input, is_help_word, ask_for_help, ask_help_of_command};
+ghost use Rattle.cli_requests.specs.StoreWords.{changes_by_input_word, takes_input_word, changes_word, makes_word, reads_table_word, reads_tables_word, reads_word, is_store_word, is_of_store, takes_input, is_help_word, ask_for_help, ask_help_of_command};
 
 use crate::ReplayWords;
 use commit::FormatVersion;
@@ -53,6 +53,16 @@ pub enum StoreRequest<'a> {
     Apply {
         path: &'a str,
         script: &'a str,
+    },
+    /// Writes an archive of all tables, without the segments whose digests the file `have` lists. The file `-` is standard input.
+    Send {
+        path: &'a str,
+        have: Option<&'a str>,
+    },
+    /// Makes the tables of the archive that is read those of the store, as one change. With `delete` other tables are dropped.
+    Receive {
+        path: &'a str,
+        delete: bool,
     },
     /// Executes a command on an existing store.
     Command {
@@ -147,11 +157,13 @@ pub enum StoreCommand<'a> {
     },
     /// Gives each segment the digest of its bytes.
     Upgrade,
+    /// Prints the digest of each segment.
+    Have,
 }
 
 impl StoreCommand<'_> {
     /// Returns whether the command writes nothing to the store.
-    #[tactic(auto, unfolding(crate::specs::Asked::only_reads, crate::specs::StoreWords::reads_word, crate::specs::StoreWords::reads_table_word))]
+    #[tactic(auto, unfolding(crate::specs::Asked::only_reads, crate::specs::StoreWords::reads_word, crate::specs::StoreWords::reads_table_word, crate::specs::StoreWords::reads_tables_word))]
     pub fn only_reads(&self) -> bool
         ensures { result ≡ only_reads self.now }
     {
@@ -164,6 +176,7 @@ impl StoreCommand<'_> {
                 | StoreCommand::Export { .. }
                 | StoreCommand::Check
                 | StoreCommand::Info { .. }
+                | StoreCommand::Have
         )
     }
 }
@@ -187,24 +200,34 @@ impl<'a> StoreRequest<'a> {
             StoreRequest::Format { .. } | StoreRequest::FormatDevice { .. } => true,
             StoreRequest::Copy { .. } => true,
             StoreRequest::Apply { .. } => true,
+            StoreRequest::Receive { .. } => true,
             StoreRequest::Salvage { .. } | StoreRequest::Replay(_) => false,
+            StoreRequest::Send { .. } => false,
             StoreRequest::Command { command, .. } => !command.only_reads(),
         }
     }
+}
+
+#[tactic(auto, unfolding(crate::specs::StoreWords::changes_by_input_word))]
+fn changes_by_input_word(word: &str) -> bool
+    ensures { result ≡ changes_by_input_word word.now }
+{
+    matches!(word, "import" | "append" | "apply" | "receive")
 }
 
 #[tactic(auto, unfolding(crate::specs::StoreWords::takes_input_word))]
 fn takes_input_word(word: &str) -> bool
     ensures { result ≡ takes_input_word word.now }
 {
-    matches!(word, "import" | "append" | "apply")
+    changes_by_input_word(word) || word == "send"
 }
 
 #[tactic(auto, unfolding(crate::specs::StoreWords::changes_word))]
 fn changes_word(word: &str) -> bool
     ensures { result ≡ changes_word word.now }
 {
-    takes_input_word(word) || matches!(word, "create" | "rename" | "drop" | "compact" | "upgrade")
+    changes_by_input_word(word)
+        || matches!(word, "create" | "rename" | "drop" | "compact" | "upgrade")
 }
 
 #[tactic(auto, unfolding(crate::specs::StoreWords::makes_word))]
@@ -221,11 +244,18 @@ fn reads_table_word(word: &str) -> bool
     matches!(word, "schema" | "export" | "salvage" | "query")
 }
 
+#[tactic(auto, unfolding(crate::specs::StoreWords::reads_tables_word))]
+fn reads_tables_word(word: &str) -> bool
+    ensures { result ≡ reads_tables_word word.now }
+{
+    matches!(word, "tables" | "check" | "info" | "have" | "send")
+}
+
 #[tactic(auto, unfolding(crate::specs::StoreWords::reads_word))]
 fn reads_word(word: &str) -> bool
     ensures { result ≡ reads_word word.now }
 {
-    reads_table_word(word) || matches!(word, "tables" | "check" | "info")
+    reads_table_word(word) || reads_tables_word(word)
 }
 
 #[tactic(auto, unfolding(crate::specs::StoreWords::is_store_word))]

@@ -41,6 +41,14 @@ pub const UPGRADE: &str =
 pub const COPY: &str =
     "Copies all tables of a store into a new store of the given number of sectors";
 
+pub const HAVE: &str = "Prints the digest of each segment, a line each";
+
+pub const SEND: &str =
+    "Writes an archive of all tables to standard output, without the segments that its receiver has";
+
+pub const RECEIVE: &str =
+    "Reads an archive from standard input, and makes its tables those of the store in one commit";
+
 pub const REPLAY: &str =
     "Plays a script on a device in memory that fails or stops, and prints what a crash leaves";
 

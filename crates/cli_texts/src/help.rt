@@ -6,7 +6,7 @@ use crate::abouts;
 use std::alloc::{AllocError, Global};
 
 /// The help of the program: strings to be joined, among them what each command does.
-pub const HELP: [&str; 39] = [
+pub const HELP: [&str; 45] = [
     "A crash-safe store of named tables in the Apache Arrow format
 
 Usage: arrowstore <COMMAND>
@@ -62,6 +62,15 @@ Commands:
     "
   copy     ",
     abouts::COPY,
+    "
+  have     ",
+    abouts::HAVE,
+    "
+  send     ",
+    abouts::SEND,
+    "
+  receive  ",
+    abouts::RECEIVE,
     "
   replay   ",
     abouts::REPLAY,

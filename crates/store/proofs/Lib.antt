@@ -33,3 +33,4 @@ mod Salvaged
 mod Heavy
 mod Streamed
 mod Sent
+mod Received

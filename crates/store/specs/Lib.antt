@@ -15,6 +15,7 @@ pub mod Exporting
 pub mod Salvaging
 pub mod SegmentStreams
 pub mod Sending
+pub mod Receiving
 pub mod Selecting
 pub mod Places
 pub mod Answering

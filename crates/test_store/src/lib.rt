@@ -46,6 +46,8 @@ mod playing;
 #[cfg(test)]
 mod read_tables;
 #[cfg(test)]
+mod receiving;
+#[cfg(test)]
 mod refused_commands;
 #[cfg(test)]
 mod salvages;

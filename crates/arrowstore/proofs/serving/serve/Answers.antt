@@ -7,8 +7,8 @@ use Rattle.cli_requests.specs.declared.store_words.StoreRequest.{StoreRequest}
 use Rattle.arrowstore.specs.OnFiles.{ServesRequest}
 use Rattle.arrowstore.specs.Serving.{Channels}
 use Rattle.cli_requests.specs.Asked.{request_word}
-use Rattle.cli_requests.specs.StoreWords.{takes_input_word}
-use Rattle.arrowstore.proofs.FileLemmas.{silent_but_io, silent_but_broken_off}
+use Rattle.cli_requests.specs.StoreWords.{changes_by_input_word, takes_input_word}
+use Rattle.arrowstore.proofs.FileLemmas.{silent_but_io, silent_but_broken_off, silent_but_unsent}
 use Rattle.arrowstore.proofs.serving.serve.Goals as goal
 
 pub returns-in-Format-clause-silent : goal.returns-in-Format-clause-silent
@@ -25,6 +25,9 @@ returns-in-Salvage-clause-silent g c = silent_but_broken_off _ _ _ c.serve_salva
 
 pub returns-in-Apply-clause-silent : goal.returns-in-Apply-clause-silent
 returns-in-Apply-clause-silent g c = silent_but_io _ _ _ c.serve_apply.result c.serve_apply.ensures.silent
+
+pub returns-in-Send-clause-silent : goal.returns-in-Send-clause-silent
+returns-in-Send-clause-silent g c = silent_but_unsent _ _ _ c.serve_send.result (ap request_word c.in-Send.is) c.serve_send.ensures.silent
 
 pub returns-in-Replay-clause-silent : goal.returns-in-Replay-clause-silent
 returns-in-Replay-clause-silent g c = silent_but_io _ _ _ c.serve_replay.result c.serve_replay.ensures.silent
@@ -54,8 +57,12 @@ pub returns-in-Salvage-clause-serves : goal.returns-in-Salvage-clause-serves
 returns-in-Salvage-clause-serves g c = served_as _ _ _ _ _ _ _ _ _ _ _ _ _ c.in-Salvage.is (c.serve_salvage.ensures.salvages, (refl, refl))
 
 takes_script : takes_input_word (codes "apply") ≡ true
-unfolding takes_input_word
+unfolding changes_by_input_word takes_input_word
 takes_script = refl
+
+takes_list : takes_input_word (codes "send") ≡ true
+unfolding changes_by_input_word takes_input_word
+takes_list = refl
 
 pub returns-in-Apply-clause-unread : goal.returns-in-Apply-clause-unread
 returns-in-Apply-clause-unread g c = inl (ap (λ (r : StoreRequest). takes_input_word (request_word r)) c.in-Apply.is ∙ takes_script)
@@ -65,3 +72,22 @@ returns-in-Apply-clause-serves g c = served_as _ _ _ _ _ _ _ _ _ _ _ _ _ c.in-Ap
 
 pub returns-in-Command-clause-serves : goal.returns-in-Command-clause-serves
 returns-in-Command-clause-serves g c = served_as _ _ _ _ _ _ _ _ _ _ _ _ _ c.in-Command.is (c.serve_command.ensures.serves, refl)
+
+pub returns-in-Send-clause-unread : goal.returns-in-Send-clause-unread
+returns-in-Send-clause-unread g c = inl (ap (λ (r : StoreRequest). takes_input_word (request_word r)) c.in-Send.is ∙ takes_list)
+
+pub returns-in-Send-clause-serves : goal.returns-in-Send-clause-serves
+returns-in-Send-clause-serves g c = served_as _ _ _ _ _ _ _ _ _ _ _ _ _ c.in-Send.is (c.serve_send.ensures.sends, (refl, refl), refl)
+
+takes_archive : takes_input_word (codes "receive") ≡ true
+unfolding changes_by_input_word takes_input_word
+takes_archive = refl
+
+pub returns-in-Receive-clause-unread : goal.returns-in-Receive-clause-unread
+returns-in-Receive-clause-unread g c = inl (ap (λ (r : StoreRequest). takes_input_word (request_word r)) c.in-Receive.is ∙ takes_archive)
+
+pub returns-in-Receive-clause-silent : goal.returns-in-Receive-clause-silent
+returns-in-Receive-clause-silent g c = silent_but_io _ _ _ c.serve_receive.result c.serve_receive.ensures.silent
+
+pub returns-in-Receive-clause-serves : goal.returns-in-Receive-clause-serves
+returns-in-Receive-clause-serves g c = served_as _ _ _ _ _ _ _ _ _ _ _ _ _ c.in-Receive.is (c.serve_receive.ensures.receives, (refl, refl), refl)

@@ -140,3 +140,11 @@ returns-in-Upgrade-clause-serves g c =
     let new = c.upgrade_store.new in
     serves_as g.R.Read.remaining g.W.Write.contents c.args.command opened.Upgrade c.args.store.now new.store (channels c.args.input.now c.args.output.now c.args.hint.now)
     (channels c.args.input.now new.output c.args.hint.now) c.upgrade_store.result c.in-Upgrade.is (record { goes = e.goes; told = e.told; written = e.written; unhinted = refl })
+
+pub returns-in-Have-clause-serves : goal.returns-in-Have-clause-serves
+unfolding Serves
+returns-in-Have-clause-serves g c =
+    let e = c.list_digests.ensures in
+    let new = c.list_digests.new in
+    serves_as g.R.Read.remaining g.W.Write.contents c.args.command opened.Have c.args.store.now new.store (channels c.args.input.now c.args.output.now c.args.hint.now)
+    (channels c.args.input.now new.output c.args.hint.now) c.list_digests.result c.in-Have.is (record { written = e.written; told = e.told; leaves = e.reads; unhinted = refl })

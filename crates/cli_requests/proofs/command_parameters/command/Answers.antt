@@ -10,6 +10,12 @@ returns-in-FileAndForm c = own_of _ _ _ _ c.parameters_of.ensures c.in-FileAndFo
 pub returns-in-FileAndSteps : goal.returns-in-FileAndSteps
 returns-in-FileAndSteps c = own_of _ _ _ _ c.parameters_of.ensures c.in-FileAndSteps.is c.with_steps.ensures
 
+pub returns-in-FileAndDigests : goal.returns-in-FileAndDigests
+returns-in-FileAndDigests c = own_of _ _ _ _ c.parameters_of.ensures c.in-FileAndDigests.is c.with_digests.ensures
+
+pub returns-in-FileAndDeletion : goal.returns-in-FileAndDeletion
+returns-in-FileAndDeletion c = own_of _ _ _ _ c.parameters_of.ensures c.in-FileAndDeletion.is c.with_deletion.ensures
+
 pub returns-in-Table : goal.returns-in-Table
 returns-in-Table c = own_of _ _ _ _ c.parameters_of.ensures c.in-Table.is c.with_table.ensures
 

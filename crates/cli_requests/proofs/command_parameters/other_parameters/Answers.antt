@@ -18,4 +18,6 @@ returns-in_default c =
     let schema = other_word (codes "schema") word other.not-schema in
     let apply = other_word (codes "apply") word other.not-apply in
     let compact = other_word (codes "compact") word other.not-compact in
-    rw (format, copy, create, append, replay, info, import, schema, apply, compact) refl
+    let send = other_word (codes "send") word other.not-send in
+    let receive = other_word (codes "receive") word other.not-receive in
+    rw (format, copy, create, append, replay, info, import, schema, apply, compact, send, receive) refl

@@ -10,7 +10,8 @@ returns-in_default-clause-word c = λ is.
     let other = c.in_default in
     c.command_request.ensures.word is
     (no_own_request word (other_word (codes "format") word other.not-format) (other_word (codes "copy") word other.not-copy) (other_word (codes "salvage") word other.not-salvage) (other_word (codes "replay") word other.not-replay)
-    (other_word (codes "apply") word other.not-apply))
+    (other_word (codes "apply") word other.not-apply) (other_word (codes "send") word other.not-send)
+    (other_word (codes "receive") word other.not-receive))
 
 pub returns-in-format-clause-taken : goal.returns-in-format-clause-taken
 returns-in-format-clause-taken c = takable_format _ (found_of c.args.words.now) _ c.in-format.is c.format_request.ensures.taken

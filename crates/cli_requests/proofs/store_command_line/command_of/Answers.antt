@@ -10,4 +10,4 @@ returns-in_default-clause-word c = λ is own.
     (other_word (codes "rename") word other.not-rename) (other_word (codes "drop") word other.not-drop) (other_word (codes "schema") word other.not-schema)
     (other_word (codes "export") word other.not-export) (other_word (codes "query") word other.not-query) (other_word (codes "check") word other.not-check)
     (other_word (codes "info") word other.not-info)
-    (other_word (codes "compact") word other.not-compact) (other_word (codes "upgrade") word other.not-upgrade)
+    (other_word (codes "compact") word other.not-compact) (other_word (codes "upgrade") word other.not-upgrade) (other_word (codes "have") word other.not-have)

@@ -1,5 +1,5 @@
 use Rattle.std.proofs.Common.{◌≡◌, ◌∙◌, false, codes, refl, sym}
-use Rattle.cli_requests.specs.StoreWords.{changes_word, takes_input_word}
+use Rattle.cli_requests.specs.StoreWords.{changes_word, changes_by_input_word}
 use Rattle.cli_requests.proofs.WordLemmas.{other_word}
 use Rattle.cli_requests.proofs.store_words.changes_word.Goals as goal
 
@@ -8,7 +8,7 @@ unfolding changes_word
 returns-in_default c =
     let word = c.args.word.now in
     let other = c.in_default in
-    let input : takes_input_word word ≡ false = sym c.takes_input_word.ensures ∙ c.if-takes_input_word.false in
+    let input : changes_by_input_word word ≡ false = sym c.changes_by_input_word.ensures ∙ c.if-changes_by_input_word.false in
     let create = other_word (codes "create") word other.not-create in
     let rename = other_word (codes "rename") word other.not-rename in
     let drops = other_word (codes "drop") word other.not-drop in

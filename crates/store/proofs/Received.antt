@@ -1,0 +1,161 @@
+-- The commands that an archive brings, step by step.
+use Rattle.std.specs.Prelude.{◌≢◌, ◌⊎◌, ◌&&◌, if◌then◌else◌, slice_get, Option, option_map, Result}
+use Rattle.std.specs.Str.{bytes_eq}
+use Rattle.std.proofs.Common.{◌≡◌, ◌+◌, ◌<◌, ◌∙◌, ◌++◌, ℕ, Bool, true, false, List, [], ◌∷◌, Some, None, Ok, Err, inl, inr, arith, get_or, length, map, take, drop, append_assoc, append-nil, refl, sym, ap, subst}
+use Rattle.std.proofs.lemmas.Bool.{cond-true, cond-false, and_right}
+use Rattle.std.proofs.lemmas.Bool.Decides.{not_from_Decides}
+use Rattle.std.proofs.lemmas.Slice.Eq.{bytes_eq-Decides}
+use Rattle.std.proofs.lemmas.List.{map-append, length-map, get_or-map}
+use Rattle.facts.specs.laws.Lists.{drop-item, take-item}
+use Rattle.sha2.specs.Sha256.{sha256}
+use Rattle.sector_dev.specs.Disk.{Image, Story}
+use Rattle.sector_dev.specs.declared.device.SectorDevice.{Ghosts}
+use Rattle.arrow_schema.specs.Column.{PlainSchema}
+use Rattle.catalogue.specs.declared.entry.Segment.{Segment}
+use Rattle.catalogue.specs.Edits.{entry_of}
+use Rattle.catalogue.specs.Entries.{PlainEntry, PlainCatalogue}
+use Rattle.table_archive.specs.declared.manifest.ListedSegment.{ListedSegment}
+use Rattle.table_archive.specs.Archive.{IsStreamOf, AreStreamsOf}
+use Rattle.table_archive.specs.Manifest.{PlainListed}
+use Rattle.tables.specs.declared.command.Command.{Command}
+use Rattle.tables.specs.Commands.{PlainCommand, append_stream}
+use Rattle.tables.specs.View.{command_of}
+use Rattle.store.specs.declared.applying_all.ListRefusal.{ListRefusal}
+use Rattle.store.specs.declared.segment_streams.SegmentInfo.{SegmentInfo}
+use Rattle.store.specs.declared.store.Store.{Store}
+use Rattle.store.specs.declared.segment_streams.SegmentStream.{SegmentStream}
+use Rattle.store.specs.SegmentStreams.{info_of, IsStreamAt, StreamsAt}
+use Rattle.store.specs.Receiving.{same_schema, has_digest, begin_with, left_of, ArePart, AreParts, received_by, AnswersAll, EndsAll, Collision}
+
+-- ---- whether a table is continued
+
+pub begin_short : (ds : List (Option (List ℕ))) (ls : List ListedSegment) → length ls < length ds → begin_with ds ls ≡ false
+begin_short [] ls less = absurd (omega (arith, less))
+begin_short (d ∷ ds) [] less = refl
+begin_short (d ∷ ds) (l ∷ ls) less = ap (λ b. has_digest d l && b) (begin_short ds ls (omega (arith, less))) ∙ and_right (has_digest d l) false refl
+
+-- a table that is there
+module _ (found : Option PlainEntry) (t : PlainListed) (s : PlainSchema) (there : option_map (λ e. e.schema) found ≡ Some s) where
+  pub left_other : same_schema s t.schema ≡ false → left_of found t ≡ None
+  left_other = by_entry found there
+    where
+      by_entry : (o : Option PlainEntry) → option_map (λ e. e.schema) o ≡ Some s → same_schema s t.schema ≡ false → left_of o t ≡ None
+      by_entry None no other = refl
+      by_entry (Some e) is other =
+          let own : e.schema ≡ s = cc is in
+          cond-false _ _ _ (ap (λ (x : PlainSchema). same_schema x t.schema && begin_with (map (λ (g : Segment). g.digest) e.segments) t.segments) own
+          ∙ ap (λ b. b && begin_with (map (λ (g : Segment). g.digest) e.segments) t.segments) other)
+
+  pub left_same : (infos : List SegmentInfo) → option_map (λ e. map info_of e.segments) found ≡ Some infos → same_schema s t.schema ≡ true
+      → left_of found t ≡ (if begin_with (map (λ (i : SegmentInfo). i.digest) infos) t.segments then Some (drop (length infos) t.segments) else None)
+  left_same infos = by_entry found there
+    where
+      digests : (gs : List Segment) → map (λ (i : SegmentInfo). i.digest) (map info_of gs) ≡ map (λ (g : Segment). g.digest) gs
+      digests [] = refl
+      digests (g ∷ gs) = ap (λ (ds : List (Option (List ℕ))). g.digest ∷ ds) (digests gs)
+
+      by_entry : (o : Option PlainEntry) → option_map (λ e. e.schema) o ≡ Some s → option_map (λ e. map info_of e.segments) o ≡ Some infos → same_schema s t.schema ≡ true
+          → left_of o t ≡ (if begin_with (map (λ (i : SegmentInfo). i.digest) infos) t.segments then Some (drop (length infos) t.segments) else None)
+      by_entry None no also same = absurd (cc no)
+      by_entry (Some e) is also same =
+          let own : e.schema ≡ s = cc is in
+          let listed : map info_of e.segments ≡ infos = cc also in
+          let ds : map (λ (g : Segment). g.digest) e.segments ≡ map (λ (i : SegmentInfo). i.digest) infos =
+          sym (digests e.segments) ∙ ap (map (λ (i : SegmentInfo). i.digest)) listed in
+          let count : length e.segments ≡ length infos = sym (length-map e.segments info_of) ∙ ap (λ (is : List SegmentInfo). length is) listed in
+          ap (λ (x : PlainSchema). if same_schema x t.schema && begin_with (map (λ (g : Segment). g.digest) e.segments) t.segments
+          then Some (drop (length e.segments) t.segments) else None) own
+          ∙ ap (λ b. if b && begin_with (map (λ (g : Segment). g.digest) e.segments) t.segments then Some (drop (length e.segments) t.segments) else None) same
+          ∙ ap (λ (xs : List (Option (List ℕ))). if begin_with xs t.segments then Some (drop (length e.segments) t.segments) else None) ds
+          ∙ ap (λ (n : ℕ). if begin_with (map (λ (i : SegmentInfo). i.digest) infos) t.segments then Some (drop n t.segments) else None) count
+
+-- where there is none
+pub left_missing : (found : Option PlainEntry) (t : PlainListed) → found ≡ None → left_of found t ≡ None
+left_missing found t none = ap (λ (o : Option PlainEntry). left_of o t) none
+
+-- ---- one more
+
+streams_last : (ls : List ListedSegment) (xs : List (List ℕ)) (l : ListedSegment) (x : List ℕ) → AreStreamsOf ls xs → IsStreamOf l x → AreStreamsOf (ls ++ l ∷ []) (xs ++ x ∷ [])
+streams_last [] [] l x all one = (one, tt)
+streams_last (k ∷ ls) (y ∷ xs) l x all one = (all.0, streams_last ls xs l x all.1 one)
+streams_last [] (y ∷ xs) l x all one = absurd all
+streams_last (k ∷ ls) [] l x all one = absurd all
+
+pub streams_more : (segments : List ListedSegment) (i : ℕ) (l : ListedSegment) (xs : List (List ℕ)) (x : List ℕ) → i < length segments → l ≡ get_or segments i l
+    → AreStreamsOf (take i segments) xs → IsStreamOf l x → AreStreamsOf (take (i + 1) segments) (xs ++ x ∷ [])
+streams_more segments i l xs x within at all one =
+    subst (λ (ls : List ListedSegment). AreStreamsOf ls (xs ++ x ∷ [])) (sym (take-item segments i l within at)) (streams_last (take i segments) xs l x all one)
+
+-- the commands behind those that were there
+pub pushed_more : (before so_far then cs own : List PlainCommand) → so_far ≡ before ++ cs → then ≡ so_far ++ own → then ≡ before ++ (cs ++ own)
+pushed_more before so_far then cs own first second = second ∙ ap (λ (xs : List PlainCommand). xs ++ own) first ∙ append_assoc before cs own
+
+pub appends_more : (name : List ℕ) (xs : List (List ℕ)) (x : List ℕ) → map (append_stream name) xs ++ append_stream name x ∷ [] ≡ map (append_stream name) (xs ++ x ∷ [])
+appends_more name xs x = sym (map-append (append_stream name) xs (x ∷ []))
+
+parts_last : (c : PlainCatalogue) (ts : List PlainListed) (t : PlainListed) (cs own : List PlainCommand) → AreParts c ts cs → ArePart t (left_of (entry_of c t.name) t) own
+    → AreParts c (ts ++ t ∷ []) (cs ++ own)
+parts_last c [] t cs own none one = (own, [], one, refl, ap (λ (xs : List PlainCommand). xs ++ own) none ∙ sym (append-nil own))
+parts_last c (u ∷ ts) t cs own (first, others, here, later, whole) one =
+    (first, others ++ own, here, parts_last c ts t others own later one, ap (λ (xs : List PlainCommand). xs ++ own) whole ∙ append_assoc first others own)
+
+pub parts_more : {X : Type 0} (of : X → PlainListed) (c : PlainCatalogue) (tables : List X) (i : ℕ) (x : X) (cs own : List PlainCommand) → i < length tables → x ≡ get_or tables i x
+    → AreParts c (take i (map of tables)) cs → ArePart (of x) (left_of (entry_of c (of x).name) (of x)) own → AreParts c (take (i + 1) (map of tables)) (cs ++ own)
+parts_more of c tables i x cs own within at all one =
+    let among : i < length (map of tables) = omega (arith, within, length-map tables of) in
+    let is : of x ≡ get_or (map of tables) i (of x) = sym (get_or-map of tables i x (of x) within ∙ ap of (sym at)) in
+    subst (λ (ts : List PlainListed). AreParts c ts (cs ++ own)) (sym (take-item (map of tables) i (of x) among is)) (parts_last c (take i (map of tables)) (of x) cs own all one)
+
+-- ---- a stream of the store
+
+pub digest_at : (halted tells : Bool) (image : Image) (found : Option PlainEntry) (place : ℕ) (stream : SegmentStream) → StreamsAt halted tells image found place stream
+    → stream.digest ≡ sha256 stream.bytes.items
+digest_at true tells image found place stream at = absurd at
+digest_at false tells image None place stream at = absurd at
+digest_at false tells image (Some e) place stream at = by_segment (slice_get e.segments place) at
+  where
+    by_segment : (o : Option Segment) → IsStreamAt tells image e.schema o stream → stream.digest ≡ sha256 stream.bytes.items
+    by_segment None is = absurd is
+    by_segment (Some g) is = is.digested
+
+-- ---- how the store ends
+
+module _ {D : Type 0} {g : Ghosts D} (size : D → ℕ) (story : D → Story) (failed : D → ℕ) (tells : Bool) (mid new : Store D g) where
+  pub ends_all : (cs : List Command) (answer : Result (Unit {0}) ListRefusal) → length cs ≢ 0 → AnswersAll size story failed tells mid (map command_of cs) answer new
+      → EndsAll size story failed tells mid (map command_of cs) (received_by answer) new
+  ends_all [] answer some answers = absurd (some refl)
+  ends_all (c ∷ cs) answer some answers = (answer, answers, refl)
+
+  pub ends_none : (cs : List Command) → length cs ≡ 0 → new ≡ mid → EndsAll size story failed tells mid (map command_of cs) (Ok tt) new
+  ends_none [] none same = (refl, same)
+  ends_none (c ∷ cs) none same = absurd (omega (arith, none))
+
+-- ---- the streams of listed segments
+
+-- two lists of bytes are the same, or they are not
+same_bytes : (xs ys : List ℕ) → (xs ≡ ys) ⊎ (xs ≢ ys)
+same_bytes xs ys = by_test (bytes_eq xs ys) refl
+  where
+    by_test : (b : Bool) → bytes_eq xs ys ≡ b → (xs ≡ ys) ⊎ (xs ≢ ys)
+    by_test true is = inl ((bytes_eq-Decides xs ys).0 is)
+    by_test false is = inr (not_from_Decides (bytes_eq xs ys) (bytes_eq-Decides xs ys) is)
+
+one_stream : (l : ListedSegment) (x y : List ℕ) → IsStreamOf l x → IsStreamOf l y → (x ≡ y) ⊎ Collision
+one_stream l x y one other = by_bytes (same_bytes x y)
+  where
+    by_bytes : (x ≡ y) ⊎ (x ≢ y) → (x ≡ y) ⊎ Collision
+    by_bytes (inl same) = inl same
+    by_bytes (inr differ) = inr (record { one = x; other = y; differ = differ; alike = sym one.digest ∙ other.digest })
+
+pub streams_told : (ls : List ListedSegment) (xs ys : List (List ℕ)) → AreStreamsOf ls xs → AreStreamsOf ls ys → (xs ≡ ys) ⊎ Collision
+streams_told [] [] [] all also = inl refl
+streams_told (l ∷ ls) (x ∷ xs) (y ∷ ys) all also = both (one_stream l x y all.0 also.0) (streams_told ls xs ys all.1 also.1)
+  where
+    both : (x ≡ y) ⊎ Collision → (xs ≡ ys) ⊎ Collision → (x ∷ xs ≡ y ∷ ys) ⊎ Collision
+    both (inl same) (inl rest) = inl (λ i. same i ∷ rest i)
+    both (inr found) rest = inr found
+    both (inl same) (inr found) = inr found
+streams_told [] (x ∷ xs) ys all also = absurd all
+streams_told [] [] (y ∷ ys) all also = absurd also
+streams_told (l ∷ ls) [] ys all also = absurd all
+streams_told (l ∷ ls) (x ∷ xs) [] all also = absurd also
