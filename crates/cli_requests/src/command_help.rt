@@ -185,9 +185,9 @@ read whole; `upgrade` adds them.",
 
 An archive has all tables of the store, as they are at one commit, and the segments that
 the receiver lacks: all of them without --have, and with it those whose digests are not
-in FILE. It is a tar archive, so `tar -x` unpacks it. Equal stores give equal archives.
-If a segment can't be read, part of the archive may be written; it has no end then, and
-`check` names the table.",
+in FILE. It is a tar archive, so `tar -x` unpacks it. The same tables of the same epoch
+give the same archive. If a segment can't be read, part of the archive may be written; it
+has no end then, and `check` names the table.",
     },
     CommandHelp {
         name: "receive",
