@@ -1,5 +1,5 @@
 -- An archive that is listed and sent, step by step.
-use Rattle.std.specs.Prelude.{◌||◌, not, flat_map, slice_get, Option, option_map, if◌then◌else◌, ◌≢◌}
+use Rattle.std.specs.Prelude.{◌||◌, flat_map, slice_get, Option, option_map, if◌then◌else◌, ◌≢◌}
 use Rattle.std.specs.Io.KnownBytes.{Appends}
 use Rattle.std.proofs.Common.{◌≡◌, ◌+◌, ◌<◌, ◌∙◌, ◌++◌, ℕ, Bool, true, false, List, [], ◌∷◌, Some, None, arith, get_or, length, map, take, drop, append_assoc, append-nil, refl, sym, ap, subst}
 use Rattle.std.proofs.KnownBytes.{Appends-trans}
@@ -70,7 +70,7 @@ module _ {D : Type 0} {g : Ghosts D} (size : D → ℕ) (story : D → Story) (f
     pub same_halted : b.halted ≡ a.halted
     same_halted = reads.halts ∙ or_false a.halted
 
--- ---- why it is not halted
+-- ---- a refusal of a store that is not halted
 
 at_place_awake : (tells : Bool) (image : Image) (s : PlainSchema) (o : Option Segment) (place : ℕ) → RefusesAt tells image s o place refusals.Halted → ⊥
 at_place_awake tells image s None place is = absurd (cc is)
@@ -99,8 +99,8 @@ pub memory_awake : (r : Refusal) → r ≡ refusals.OutOfMemory → r ≢ refusa
 memory_awake r is = λ halted. cc (sym is ∙ halted)
 
 pub says_awake : (h : Bool) (r : Refusal) → h ≡ false → r ≢ refusals.Halted → SaysHalted h r
-says_awake h refusals.Halted on not = absurd (not refl)
-says_awake h _ on not = on
+says_awake h refusals.Halted on other = absurd (other refl)
+says_awake h _ on other = on
 
 pub says_tables : (h : Bool) (r : Refusal) → RefusesTables h r → SaysHalted h r
 says_tables h refusals.Halted is = is
