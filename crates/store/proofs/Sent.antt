@@ -21,7 +21,6 @@ use Rattle.segments.specs.laws.Usages.{or_false}
 use Rattle.table_archive.specs.declared.manifest.ListedSegment.{ListedSegment}
 use Rattle.table_archive.specs.Archive.{is_among, lacked_by, segments_of, segment_member, archive_of}
 use Rattle.table_archive.specs.Manifest.{PlainListed}
-use Rattle.tables.specs.declared.refusal.Refusal.TheVariants as refusals
 use Rattle.store_runs.specs.Calls.{PlainReply, done, is_device_reply}
 use Rattle.store_changes.specs.laws.Digests.{copy_then}
 use Rattle.store_changes.specs.laws.ReadTables.{reads_more, reads_quiet, image_then}
