@@ -1,9 +1,9 @@
 -- An archive that is listed and sent, step by step.
-use Rattle.std.specs.Prelude.{◌||◌, not, flat_map, slice_get, Option, option_map, if◌then◌else◌, ◌≢◌}
+use Rattle.std.specs.Prelude.{◌||◌, flat_map, Option, option_map, if◌then◌else◌}
 use Rattle.std.specs.Io.KnownBytes.{Appends}
 use Rattle.std.proofs.Common.{◌≡◌, ◌+◌, ◌<◌, ◌∙◌, ◌++◌, ℕ, Bool, true, false, List, [], ◌∷◌, Some, None, arith, get_or, length, map, take, drop, append_assoc, append-nil, refl, sym, ap, subst}
 use Rattle.std.proofs.KnownBytes.{Appends-trans}
-use Rattle.std.proofs.lemmas.Bool.{true≢false, cond-true, cond-false}
+use Rattle.std.proofs.lemmas.Bool.{cond-true, cond-false}
 use Rattle.std.proofs.lemmas.Grind.{flat_map-append}
 use Rattle.std.proofs.lemmas.List.{map-append, get_or-map, length-map}
 use Rattle.std.proofs.lemmas.Option.{same_Some}
@@ -21,9 +21,6 @@ use Rattle.segments.specs.laws.Usages.{or_false}
 use Rattle.table_archive.specs.declared.manifest.ListedSegment.{ListedSegment}
 use Rattle.table_archive.specs.Archive.{is_among, lacked_by, segments_of, segment_member, archive_of}
 use Rattle.table_archive.specs.Manifest.{PlainListed}
-use Rattle.table_archive.specs.Texts.{HasTexts}
-use Rattle.tables.specs.declared.refusal.Refusal.{Refusal}
-use Rattle.tables.specs.declared.refusal.Refusal.TheVariants as refusals
 use Rattle.store_runs.specs.Calls.{PlainReply, done, is_device_reply}
 use Rattle.store_changes.specs.laws.Digests.{copy_then}
 use Rattle.store_changes.specs.laws.ReadTables.{reads_more, reads_quiet, image_then}
@@ -32,10 +29,9 @@ use Rattle.store.specs.declared.sending.Item.{Item}
 use Rattle.store.specs.Fits.{listed_in, commit_of}
 use Rattle.store.specs.Reading.{OnlyReadsStore}
 use Rattle.store.specs.declared.segment_streams.SegmentInfo.{SegmentInfo}
-use Rattle.store.specs.Listing.{RefusesTables, RefusesSchema}
-use Rattle.store.specs.SegmentStreams.{HasStream, RefusesAt, RefusesStream, info_of}
-use Rattle.store.specs.Sending.{HasListedDigest, ListsSegment, ListsSegments, ListsTable, ListsTables, Located, located_in, located_from, IsSent, AreSent, Sends, SaysHalted, digests_of}
-use Rattle.store.specs.inner.Sending.{plain_item, FailsMaking, FailsSending}
+use Rattle.store.specs.SegmentStreams.{HasStream, info_of}
+use Rattle.store.specs.Sending.{HasListedDigest, ListsSegment, ListsSegments, ListsTable, ListsTables, Located, located_in, located_from, IsSent, AreSent, Sends, digests_of}
+use Rattle.store.specs.inner.Sending.{plain_item}
 
 -- ---- a store that was only read
 
@@ -69,43 +65,6 @@ module _ {D : Type 0} {g : Ghosts D} (size : D → ℕ) (story : D → Story) (f
 
     pub same_halted : b.halted ≡ a.halted
     same_halted = reads.halts ∙ or_false a.halted
-
--- ---- why it is not halted
-
-at_place_awake : (tells : Bool) (image : Image) (s : PlainSchema) (o : Option Segment) (place : ℕ) → RefusesAt tells image s o place refusals.Halted → ⊥
-at_place_awake tells image s None place is = absurd (cc is)
-at_place_awake tells image s (Some g) place is = is
-
-stream_at_awake : (tells : Bool) (image : Image) (found : Option PlainEntry) (place : ℕ) → RefusesStream false tells image found place refusals.Halted → ⊥
-stream_at_awake tells image None place is = absurd (cc is)
-stream_at_awake tells image (Some e) place is = at_place_awake tells image e.schema (slice_get e.segments place) place is
-
-pub stream_awake : (h tells : Bool) (image : Image) (found : Option PlainEntry) (place : ℕ) (r : Refusal) → h ≡ false
-    → RefusesStream h tells image found place r → r ≢ refusals.Halted
-stream_awake h tells image found place r on is = λ halted.
-    stream_at_awake tells image found place
-    (subst (RefusesStream false tells image found place) halted (subst (λ (b : Bool). RefusesStream b tells image found place r) on is))
-
-pub schema_awake : (h : Bool) (found : Option PlainEntry) (r : Refusal) → h ≡ false → RefusesSchema h found r → r ≢ refusals.Halted
-schema_awake h found r on is = λ halted. true≢false (sym (subst (RefusesSchema h found) halted is) ∙ on)
-
-pub sending_awake : (r : Refusal) → FailsSending r → r ≢ refusals.Halted
-sending_awake r is = λ halted. subst FailsSending halted is
-
-pub making_awake : (r : Refusal) → FailsMaking r → r ≢ refusals.Halted
-making_awake r is = λ halted. subst FailsMaking halted is
-
-pub memory_awake : (r : Refusal) → r ≡ refusals.OutOfMemory → r ≢ refusals.Halted
-memory_awake r is = λ halted. cc (sym is ∙ halted)
-
-pub says_awake : (h : Bool) (r : Refusal) → h ≡ false → r ≢ refusals.Halted → SaysHalted h r
-says_awake h refusals.Halted on not = absurd (not refl)
-says_awake h _ on not = on
-
-pub says_tables : (h : Bool) (r : Refusal) → RefusesTables h r → SaysHalted h r
-says_tables h refusals.Halted is = is
-says_tables h refusals.OutOfMemory is = is
-says_tables h _ is = absurd is
 
 -- ---- as it was shown at first
 
@@ -244,19 +203,6 @@ written_more a b d ss s all one =
 
 -- ---- which are sent
 
-pub items_more : (items more : List Item) (item : Item) (name : List ℕ) (segments : List ListedSegment) (place : ℕ) (l : ListedSegment) (all : List Located) → more ≡ items ++ item ∷ []
-    → plain_item item ≡ record { name = name; place = place; digest = l.digest } → place < length segments → l ≡ get_or segments place l
-    → map plain_item items ++ located_from name place (drop place segments) ≡ all
-    → map plain_item more ++ located_from name (place + 1) (drop (place + 1) segments) ≡ all
-items_more items more item name segments place l all longer is lt at so_far =
-    let rest = located_from name (place + 1) (drop (place + 1) segments) in
-    ap (λ (xs : List Item). map plain_item xs ++ rest) longer
-    ∙ ap (λ (xs : List Located). xs ++ rest) (map-append plain_item items (item ∷ []))
-    ∙ append_assoc (map plain_item items) (plain_item item ∷ []) rest
-    ∙ ap (λ (x : Located). map plain_item items ++ x ∷ rest) is
-    ∙ ap (λ (ls : List ListedSegment). map plain_item items ++ located_from name place ls) (sym (drop-item segments place l lt at))
-    ∙ so_far
-
 module _ (items : List Item) (i : ℕ) (item : Item) (lt : i < length items) (at : item ≡ get_or items i item) (had : List (List ℕ)) (lacked : List Item) (all : List Located)
     (so_far : map plain_item lacked ++ lacked_by (λ (x : Located). x.digest) had (map plain_item (drop i items)) ≡ all) where
   here : lacked_by (λ (x : Located). x.digest) had (map plain_item (drop i items)) ≡ lacked_by (λ (x : Located). x.digest) had (plain_item item ∷ map plain_item (drop (i + 1) items))
@@ -318,27 +264,7 @@ digests_listed items all digests ts are lacked listed =
     ∙ ap (map (λ (x : Located). x.digest)) (lacked ∙ ap (lacked_by (λ (x : Located). x.digest) []) listed)
     ∙ same_digests ts
 
-pub digests_more : (items : List Item) (i : ℕ) (item : Item) (digests more : List (List ℕ)) → i < length items → item ≡ get_or items i item
-    → more ≡ digests ++ item.digest ∷ []
-    → digests ≡ map (λ (x : Item). x.digest) (take i items) → more ≡ map (λ (x : Item). x.digest) (take (i + 1) items)
-digests_more items i item digests more lt at longer are =
-    longer ∙ ap (λ (ds : List (List ℕ)). ds ++ item.digest ∷ []) are ∙ sym (map-append (λ (x : Item). x.digest) (take i items) (item ∷ []))
-    ∙ sym (ap (map (λ (x : Item). x.digest)) (take-item items i item lt at))
-
 -- ---- a table
-
-pub table_listed : (tells : Bool) (image : Image) (c : PlainCatalogue) (name : List ℕ) (e : PlainEntry) (t : PlainListed)
-    → option_map (λ (x : PlainEntry). x.schema) (entry_of c name) ≡ Some t.schema
-    → entry_of c name ≡ Some e → t.name ≡ name → HasTexts t.schema t.fields → ListsSegments tells image e.schema e.segments t.segments
-    → ListsTable tells image c name t
-table_listed tells image c name e t found there named fields segments =
-    let same : t.schema ≡ e.schema = same_Some t.schema e.schema (sym found ∙ ap (option_map (λ (x : PlainEntry). x.schema)) there) in
-    record {
-      named = named;
-      entry = e;
-      there = there;
-      listed = record { schema = same; fields = subst (λ (s : PlainSchema). HasTexts s t.fields) same fields; segments = segments };
-    }
 
 pub some_entry : {X : Type 0} (f : PlainEntry → X) (o : Option PlainEntry) (x : X) → option_map f o ≡ Some x → (e : PlainEntry) × (o ≡ Some e)
 some_entry f None x is = absurd (cc is)
