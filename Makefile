@@ -82,6 +82,7 @@ vectors: bin/arrowstore
 	tests/program bin/arrowstore
 	tests/stores bin/arrowstore
 	tests/apply bin/arrowstore
+	tests/archives bin/arrowstore
 	tests/images_open bin/arrowstore
 	tests/sizes bin/arrowstore
 	tests/queries bin/arrowstore
