@@ -34,7 +34,6 @@ impl fmt::Display for HexDigits<'_> {
 
     ghost output = { λ digits. Some (encode_lower digits.digest.now) };
 
-    #[tactic(auto, using(crate::proofs::DigitLemmas::digits_are_text))]
     fn fmt<W: fmt::Write>(&self, f: &mut fmt::Formatter<W>) -> fmt::Result {
         let digits = digits_of(self.digest);
         f.write_str(text_of(&digits))
