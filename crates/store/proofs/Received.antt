@@ -1,8 +1,8 @@
 -- The commands that an archive brings, step by step.
 use Rattle.std.specs.Prelude.{◌≢◌, ◌⊎◌, ◌&&◌, if◌then◌else◌, Option, option_map, Result, IfErr, OnOk}
 use Rattle.std.specs.Str.{bytes_eq}
-use Rattle.std.proofs.Common.{◌≡◌, ◌+◌, ◌<◌, ◌∙◌, ◌++◌, ℕ, Bool, true, false, List, [], ◌∷◌, Some, None, Ok, Err, inl, inr, arith, get_or, length, map, take, drop, append_assoc, append-nil, refl, sym, ap, subst}
-use Rattle.std.proofs.lemmas.Bool.{cond-true, cond-false, and_right}
+use Rattle.std.proofs.Common.{◌≡◌, ◌+◌, ◌<◌, ◌≤◌, ◌∙◌, ◌++◌, ℕ, Bool, true, false, List, [], ◌∷◌, Some, None, Ok, Err, inl, inr, arith, get_or, length, map, take, drop, append_assoc, append-nil, refl, sym, ap, subst}
+use Rattle.std.proofs.lemmas.Bool.{true≢false, cond-true, cond-false, and_right, and_parts}
 use Rattle.std.proofs.lemmas.Bool.Decides.{not_from_Decides}
 use Rattle.std.proofs.lemmas.Slice.Eq.{bytes_eq-Decides}
 use Rattle.std.proofs.lemmas.List.{map-append, length-map, get_or-map}
@@ -12,7 +12,7 @@ use Rattle.sector_dev.specs.Disk.{Story}
 use Rattle.sector_dev.specs.declared.device.SectorDevice.{Ghosts}
 use Rattle.arrow_schema.specs.Column.{PlainSchema}
 use Rattle.catalogue.specs.declared.entry.Segment.{Segment}
-use Rattle.catalogue.specs.Edits.{entry_of}
+use Rattle.catalogue.specs.Edits.{entry_of, tables_of}
 use Rattle.catalogue.specs.Entries.{PlainEntry, PlainCatalogue}
 use Rattle.table_archive.specs.declared.manifest.ListedSegment.{ListedSegment}
 use Rattle.table_archive.specs.Archive.{IsStreamOf, AreStreamsOf}
@@ -29,7 +29,7 @@ use Rattle.store.specs.declared.store.Store.{Store}
 use Rattle.store.specs.Fits.{listed_in}
 use Rattle.store.specs.Reading.{OnlyReadsStore}
 use Rattle.store.specs.SegmentStreams.{info_of}
-use Rattle.store.specs.Receiving.{same_schema, has_digest, begin_with, left_of, ArePart, AreParts, AreReceived, ended_receiving, received_by, AnswersAll, EndsAll, Receives, Collision}
+use Rattle.store.specs.Receiving.{same_schema, has_digest, begin_with, left_of, ArePart, AreParts, AreReceived, drops_if, ended_receiving, received_by, AnswersAll, EndsAll, Receives, Collision}
 
 -- ---- whether a table is continued
 
@@ -37,6 +37,11 @@ pub begin_short : (ds : List (Option (List ℕ))) (ls : List ListedSegment) → 
 begin_short [] ls less = absurd (omega (arith, less))
 begin_short (d ∷ ds) [] less = refl
 begin_short (d ∷ ds) (l ∷ ls) less = ap (λ b. has_digest d l && b) (begin_short ds ls (omega (arith, less))) ∙ and_right (has_digest d l) false refl
+
+pub begin_within : (ds : List (Option (List ℕ))) (ls : List ListedSegment) → begin_with ds ls ≡ true → length ds ≤ length ls
+begin_within [] ls is = omega arith
+begin_within (d ∷ ds) [] is = absurd (true≢false (sym is))
+begin_within (d ∷ ds) (l ∷ ls) is = let rest = begin_within ds ls (and_parts (has_digest d l) (begin_with ds ls) is).1 in omega (arith, rest)
 
 -- a table that is there
 module _ (found : Option PlainEntry) (t : PlainListed) (s : PlainSchema) (there : option_map (λ e. e.schema) found ≡ Some s) where
@@ -126,6 +131,15 @@ module _ {D : Type 0} {g : Ghosts D} (size : D → ℕ) (story : D → Story) (f
   pub ends_none : (cs : List Command) → length cs ≡ 0 → new ≡ mid → EndsAll size story failed tells mid (map command_of cs) (Ok tt) new
   ends_none [] none same = (refl, same)
   ends_none (c ∷ cs) none same = absurd (omega (arith, none))
+
+-- the commands that drop tables, and then those of the listed ones
+pub received_list : (c : PlainCatalogue) (ts : List PlainListed) (delete : Bool) (names : List (List ℕ × ℕ)) (first later parts : List PlainCommand) → names ≡ tables_of c
+    → first ≡ drops_if delete names ts → AreParts c ts parts → later ≡ first ++ parts → AreReceived c ts delete later
+received_list c ts delete names first later parts own drop each whole = record {
+  parts = parts;
+  each = each;
+  whole = whole ∙ ap (λ (xs : List PlainCommand). xs ++ parts) (drop ∙ ap (λ (ns : List (List ℕ × ℕ)). drops_if delete ns ts) own);
+}
 
 -- the commands of an archive were made by reads
 module _ {D : Type 0} {g : Ghosts D} (size : D → ℕ) (story : D → Story) (failed : D → ℕ) (tells : Bool) (old mid new : Store D g) (ts : List PlainListed) (delete : Bool)

@@ -91,19 +91,18 @@ appended_all [] t u name table found is =
       mean = refl;
       there = subst (λ (v : Tables). table_at v name ≡ Some (joined table [])) same (found ∙ ap (λ (rs : List (List Cell)). Some (record { schema = table.schema; rows = rs })) (sym (append-nil table.rows)));
     }
-appended_all (x ∷ xs) t u name table found is = by_first (verdict t (append_stream name x)) refl
+appended_all (x ∷ xs) t u name table found is =
+    by_first (λ v new there turn. appended_all xs v u name (joined table new.rows) there turn) (verdict t (append_stream name x)) refl
   where
-    rest : PlainCommands
-    rest = commands_of (map (append_stream name) xs)
-
-    by_first : (r : Result Tables Refusal) → verdict t (append_stream name x) ≡ r → HasRowsOf u name (x ∷ xs) table
-    by_first (Err e) first =
-        let no : after_one rest (Err e) ≡ Ok u = subst (λ (r : Result Tables Refusal). after_one rest r ≡ Ok u) first (sym (more_in_turn t (append_stream name x) rest) ∙ is) in
+    by_first : ((v : Tables) (new : PlainTable) → table_at v name ≡ Some (joined table new.rows) → verdict_in_turn v (commands_of (map (append_stream name) xs)) ≡ Ok u
+        → HasRowsOf u name xs (joined table new.rows)) → (r : Result Tables Refusal) → verdict t (append_stream name x) ≡ r → HasRowsOf u name (x ∷ xs) table
+    by_first next (Err e) first =
+        let no : after_one (commands_of (map (append_stream name) xs)) (Err e) ≡ Ok u = subst (λ (r : Result Tables Refusal). after_one (commands_of (map (append_stream name) xs)) r ≡ Ok u) first (sym (more_in_turn t (append_stream name x) (commands_of (map (append_stream name) xs))) ∙ is) in
         absurd (cc no)
-    by_first (Ok v) first =
+    by_first next (Ok v) first =
         let one = appended_one t v name x table found first in
-        let then_rest : after_one rest (Ok v) ≡ Ok u = subst (λ (r : Result Tables Refusal). after_one rest r ≡ Ok u) first (sym (more_in_turn t (append_stream name x) rest) ∙ is) in
-        let later = appended_all xs v u name (joined table one.new.rows) one.there then_rest in
+        let then_rest : after_one (commands_of (map (append_stream name) xs)) (Ok v) ≡ Ok u = subst (λ (r : Result Tables Refusal). after_one (commands_of (map (append_stream name) xs)) r ≡ Ok u) first (sym (more_in_turn t (append_stream name x) (commands_of (map (append_stream name) xs))) ∙ is) in
+        let later = next v one.new one.there then_rest in
         record {
           rows = one.new.rows ++ later.rows;
           mean = (one.new, later.rows, one.means, later.mean, refl);
@@ -129,15 +128,12 @@ pub imported_then : (xs : List (List ℕ)) (t u : Tables) (name bytes : List ℕ
     → verdict_in_turn t (and_command (import_stream name bytes) (commands_of (map (append_stream name) xs))) ≡ Ok u → HasRowsOf u name xs table
 imported_then xs t u name bytes table means is = by_first (verdict t (import_stream name bytes)) refl
   where
-    rest : PlainCommands
-    rest = commands_of (map (append_stream name) xs)
-
     by_first : (r : Result Tables Refusal) → verdict t (import_stream name bytes) ≡ r → HasRowsOf u name xs table
     by_first (Err e) first =
-        let no : after_one rest (Err e) ≡ Ok u = subst (λ (r : Result Tables Refusal). after_one rest r ≡ Ok u) first (sym (more_in_turn t (import_stream name bytes) rest) ∙ is) in
+        let no : after_one (commands_of (map (append_stream name) xs)) (Err e) ≡ Ok u = subst (λ (r : Result Tables Refusal). after_one (commands_of (map (append_stream name) xs)) r ≡ Ok u) first (sym (more_in_turn t (import_stream name bytes) (commands_of (map (append_stream name) xs))) ∙ is) in
         absurd (cc no)
     by_first (Ok v) first =
-        let then_rest : after_one rest (Ok v) ≡ Ok u = subst (λ (r : Result Tables Refusal). after_one rest r ≡ Ok u) first (sym (more_in_turn t (import_stream name bytes) rest) ∙ is) in
+        let then_rest : after_one (commands_of (map (append_stream name) xs)) (Ok v) ≡ Ok u = subst (λ (r : Result Tables Refusal). after_one (commands_of (map (append_stream name) xs)) r ≡ Ok u) first (sym (more_in_turn t (import_stream name bytes) (commands_of (map (append_stream name) xs))) ∙ is) in
         appended_all xs v u name table (imported_one t v name bytes table means first) then_rest
 
 -- ---- the commands of a listed table

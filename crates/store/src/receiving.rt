@@ -13,7 +13,7 @@ ghost use Rattle.tables.specs.Verdict.{verdict, empty_table};
 ghost use Rattle.store.specs.ReceivedRows.{HasRowsBehind};
 ghost use Rattle.tables.specs.View.{command_of};
 ghost use Rattle.store_runs.specs.Calls.{is_failure, is_device_reply};
-ghost use Rattle.store.specs.Receiving.{same_schema, has_digest, begin_with, is_listed, drops, ended_receiving, received_by, Append, ArePart, Collision};
+ghost use Rattle.store.specs.Receiving.{same_schema, has_digest, begin_with, is_listed, drops, drops_if, ended_receiving, received_by, Append, ArePart, Collision};
 
 use crate::Store;
 use crate::applying_all::ListRefusal;
@@ -201,6 +201,22 @@ fn push_drops(
     Ok(())
 }
 
+fn drops_for(
+    alloc: Global,
+    delete: bool,
+    names: &[(String, u64)],
+    tables: &[ListedTable],
+) -> Result<Vec<Command>, AllocError>
+    ensures { IfOk result (λ commands. map command_of commands.items
+        ≡ drops_if delete (map (λ t. (string_bytes t.0, t.1)) names.now) (map plain_listed tables.now)) }
+{
+    let mut commands = Vec::new(alloc);
+    if delete {
+        push_drops(alloc, names, tables, &mut commands)?;
+    }
+    Ok(commands)
+}
+
 fn received_by(answer: Result<(), ListRefusal>) -> Result<(), ReceiveRefusal>
     ensures { result ≡ received_by answer }
 {
@@ -346,7 +362,8 @@ impl<D: SectorDevice> Store<D> {
             Err(Refusal::NoTable) => return Ok(None),
             Err(refusal) => return Err(refusal),
         };
-        if !is_same_schema(alloc, &own, &table.schema)? {
+        let same = is_same_schema(alloc, &own, &table.schema)?;
+        if !same {
             return Ok(None);
         }
         let infos = self.segments(alloc, name)?;
@@ -421,10 +438,7 @@ impl<D: SectorDevice> Store<D> {
             archive: &*archive,
             own,
         };
-        let mut commands = Vec::new(alloc);
-        if delete {
-            push_drops(alloc, &names, &archive.tables, &mut commands)?;
-        }
+        let mut commands = drops_for(alloc, delete, &names, &archive.tables)?;
         match self.push_parts(alloc, &sources, &archive.tables, &mut commands) {
             Ok(()) => Ok(commands),
             Err(refusal) => Err(refusal),

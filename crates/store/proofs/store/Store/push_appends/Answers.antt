@@ -1,9 +1,8 @@
-use Rattle.std.proofs.Common.{◌∙◌, ◌++◌, ◌∷◌, [], ℕ, List, map, append-nil, refl, sym, ap}
+use Rattle.std.proofs.Common.{◌∙◌, ◌++◌, ◌∷◌, [], List, map, ap}
 use Rattle.std.proofs.lemmas.List.{get_or_default}
 use Rattle.tables.specs.Commands.{PlainCommand, append_stream}
 use Rattle.tables.specs.View.{command_of}
 use Rattle.store_runs.specs.Calls.{done}
-use Rattle.store.specs.Receiving.{ended_receiving}
 use Rattle.store.proofs.Sent.{reads_then}
 use Rattle.store.proofs.Received.{streams_more, pushed_more, appends_more}
 use Rattle.store.proofs.store.Store.push_appends.Goals as goal
@@ -11,8 +10,8 @@ use Rattle.store.proofs.store.Store.push_appends.Goals as goal
 pub returns-in-Err-clause-reads : goal.returns-in-Err-clause-reads
 returns-in-Err-clause-reads g c =
     let D = g.D.SectorDevice in
-    reads_then D.size D.story D.failed D.tells (ended_receiving c.push_append.result) c.args.self.now c.loop-listed.self c.push_append.new.self
-    c.loop-listed.invariant.reads c.push_append.ensures.reads
+    reads_then D.size D.story D.failed D.tells _ c.args.self.now c.loop-listed.self c.push_append.new.self
+    c.loop-listed.invariant.reads c.in-Err.ensures.reads
 
 pub loop-listed-preserved : goal.loop-listed-preserved
 loop-listed-preserved g c =
