@@ -34,3 +34,4 @@ mod Heavy
 mod Streamed
 mod Sent
 mod Received
+mod ReceivedRows

@@ -1,18 +1,18 @@
 -- The commands that an archive brings, step by step.
-use Rattle.std.specs.Prelude.{◌≢◌, ◌⊎◌, ◌&&◌, if◌then◌else◌, slice_get, Option, option_map, Result}
+use Rattle.std.specs.Prelude.{◌≢◌, ◌⊎◌, ◌&&◌, if◌then◌else◌, Option, option_map, Result, IfErr, OnOk}
 use Rattle.std.specs.Str.{bytes_eq}
-use Rattle.std.proofs.Common.{◌≡◌, ◌+◌, ◌<◌, ◌∙◌, ◌++◌, ℕ, Bool, true, false, List, [], ◌∷◌, Some, None, Ok, Err, inl, inr, arith, get_or, length, map, take, drop, append_assoc, append-nil, refl, sym, ap, subst}
-use Rattle.std.proofs.lemmas.Bool.{cond-true, cond-false, and_right}
+use Rattle.std.proofs.Common.{◌≡◌, ◌+◌, ◌<◌, ◌≤◌, ◌∙◌, ◌++◌, ℕ, Bool, true, false, List, [], ◌∷◌, Some, None, Ok, Err, inl, inr, arith, get_or, length, map, take, drop, append_assoc, append-nil, refl, sym, ap, subst}
+use Rattle.std.proofs.lemmas.Bool.{true≢false, cond-true, cond-false, and_right, and_parts}
 use Rattle.std.proofs.lemmas.Bool.Decides.{not_from_Decides}
 use Rattle.std.proofs.lemmas.Slice.Eq.{bytes_eq-Decides}
 use Rattle.std.proofs.lemmas.List.{map-append, length-map, get_or-map}
 use Rattle.facts.specs.laws.Lists.{drop-item, take-item}
 use Rattle.sha2.specs.Sha256.{sha256}
-use Rattle.sector_dev.specs.Disk.{Image, Story}
+use Rattle.sector_dev.specs.Disk.{Story}
 use Rattle.sector_dev.specs.declared.device.SectorDevice.{Ghosts}
 use Rattle.arrow_schema.specs.Column.{PlainSchema}
 use Rattle.catalogue.specs.declared.entry.Segment.{Segment}
-use Rattle.catalogue.specs.Edits.{entry_of}
+use Rattle.catalogue.specs.Edits.{entry_of, tables_of}
 use Rattle.catalogue.specs.Entries.{PlainEntry, PlainCatalogue}
 use Rattle.table_archive.specs.declared.manifest.ListedSegment.{ListedSegment}
 use Rattle.table_archive.specs.Archive.{IsStreamOf, AreStreamsOf}
@@ -20,12 +20,16 @@ use Rattle.table_archive.specs.Manifest.{PlainListed}
 use Rattle.tables.specs.declared.command.Command.{Command}
 use Rattle.tables.specs.Commands.{PlainCommand, append_stream}
 use Rattle.tables.specs.View.{command_of}
+use Rattle.store_runs.specs.Calls.{done}
+use Rattle.store.proofs.ReadsStore.{fits_reading}
 use Rattle.store.specs.declared.applying_all.ListRefusal.{ListRefusal}
+use Rattle.store.specs.declared.receiving.ReceiveRefusal.{ReceiveRefusal}
 use Rattle.store.specs.declared.segment_streams.SegmentInfo.{SegmentInfo}
 use Rattle.store.specs.declared.store.Store.{Store}
-use Rattle.store.specs.declared.segment_streams.SegmentStream.{SegmentStream}
-use Rattle.store.specs.SegmentStreams.{info_of, IsStreamAt, StreamsAt}
-use Rattle.store.specs.Receiving.{same_schema, has_digest, begin_with, left_of, ArePart, AreParts, received_by, AnswersAll, EndsAll, Collision}
+use Rattle.store.specs.Fits.{listed_in}
+use Rattle.store.specs.Reading.{OnlyReadsStore}
+use Rattle.store.specs.SegmentStreams.{info_of}
+use Rattle.store.specs.Receiving.{same_schema, has_digest, begin_with, left_of, ArePart, AreParts, AreReceived, drops_if, ended_receiving, received_by, AnswersAll, EndsAll, Receives, Collision}
 
 -- ---- whether a table is continued
 
@@ -34,13 +38,18 @@ begin_short [] ls less = absurd (omega (arith, less))
 begin_short (d ∷ ds) [] less = refl
 begin_short (d ∷ ds) (l ∷ ls) less = ap (λ b. has_digest d l && b) (begin_short ds ls (omega (arith, less))) ∙ and_right (has_digest d l) false refl
 
+pub begin_within : (ds : List (Option (List ℕ))) (ls : List ListedSegment) → begin_with ds ls ≡ true → length ds ≤ length ls
+begin_within [] ls is = omega arith
+begin_within (d ∷ ds) [] is = absurd (true≢false (sym is))
+begin_within (d ∷ ds) (l ∷ ls) is = let rest = begin_within ds ls (and_parts (has_digest d l) (begin_with ds ls) is).1 in omega (arith, rest)
+
 -- a table that is there
 module _ (found : Option PlainEntry) (t : PlainListed) (s : PlainSchema) (there : option_map (λ e. e.schema) found ≡ Some s) where
   pub left_other : same_schema s t.schema ≡ false → left_of found t ≡ None
   left_other = by_entry found there
     where
       by_entry : (o : Option PlainEntry) → option_map (λ e. e.schema) o ≡ Some s → same_schema s t.schema ≡ false → left_of o t ≡ None
-      by_entry None no other = refl
+      by_entry None gone other = refl
       by_entry (Some e) is other =
           let own : e.schema ≡ s = cc is in
           cond-false _ _ _ (ap (λ (x : PlainSchema). same_schema x t.schema && begin_with (map (λ (g : Segment). g.digest) e.segments) t.segments) own
@@ -56,7 +65,7 @@ module _ (found : Option PlainEntry) (t : PlainListed) (s : PlainSchema) (there 
 
       by_entry : (o : Option PlainEntry) → option_map (λ e. e.schema) o ≡ Some s → option_map (λ e. map info_of e.segments) o ≡ Some infos → same_schema s t.schema ≡ true
           → left_of o t ≡ (if begin_with (map (λ (i : SegmentInfo). i.digest) infos) t.segments then Some (drop (length infos) t.segments) else None)
-      by_entry None no also same = absurd (cc no)
+      by_entry None gone also same = absurd (cc gone)
       by_entry (Some e) is also same =
           let own : e.schema ≡ s = cc is in
           let listed : map info_of e.segments ≡ infos = cc also in
@@ -87,8 +96,8 @@ streams_more segments i l xs x within at all one =
     subst (λ (ls : List ListedSegment). AreStreamsOf ls (xs ++ x ∷ [])) (sym (take-item segments i l within at)) (streams_last (take i segments) xs l x all one)
 
 -- the commands behind those that were there
-pub pushed_more : (before so_far then cs own : List PlainCommand) → so_far ≡ before ++ cs → then ≡ so_far ++ own → then ≡ before ++ (cs ++ own)
-pushed_more before so_far then cs own first second = second ∙ ap (λ (xs : List PlainCommand). xs ++ own) first ∙ append_assoc before cs own
+pub pushed_more : (before so_far later cs own : List PlainCommand) → so_far ≡ before ++ cs → later ≡ so_far ++ own → later ≡ before ++ (cs ++ own)
+pushed_more before so_far later cs own first second = second ∙ ap (λ (xs : List PlainCommand). xs ++ own) first ∙ append_assoc before cs own
 
 pub appends_more : (name : List ℕ) (xs : List (List ℕ)) (x : List ℕ) → map (append_stream name) xs ++ append_stream name x ∷ [] ≡ map (append_stream name) (xs ++ x ∷ [])
 appends_more name xs x = sym (map-append (append_stream name) xs (x ∷ []))
@@ -106,17 +115,10 @@ parts_more of c tables i x cs own within at all one =
     let is : of x ≡ get_or (map of tables) i (of x) = sym (get_or-map of tables i x (of x) within ∙ ap of (sym at)) in
     subst (λ (ts : List PlainListed). AreParts c ts (cs ++ own)) (sym (take-item (map of tables) i (of x) among is)) (parts_last c (take i (map of tables)) (of x) cs own all one)
 
--- ---- a stream of the store
-
-pub digest_at : (halted tells : Bool) (image : Image) (found : Option PlainEntry) (place : ℕ) (stream : SegmentStream) → StreamsAt halted tells image found place stream
-    → stream.digest ≡ sha256 stream.bytes.items
-digest_at true tells image found place stream at = absurd at
-digest_at false tells image None place stream at = absurd at
-digest_at false tells image (Some e) place stream at = by_segment (slice_get e.segments place) at
-  where
-    by_segment : (o : Option Segment) → IsStreamAt tells image e.schema o stream → stream.digest ≡ sha256 stream.bytes.items
-    by_segment None is = absurd is
-    by_segment (Some g) is = is.digested
+-- told of a store that was only read since
+pub part_of_first : (now before : PlainCatalogue) → now ≡ before → (t : PlainListed) (own : List PlainCommand) → ArePart t (left_of (entry_of now t.name) t) own
+    → ArePart t (left_of (entry_of before t.name) t) own
+part_of_first now before same t own one = subst (λ (c : PlainCatalogue). ArePart t (left_of (entry_of c t.name) t) own) same one
 
 -- ---- how the store ends
 
@@ -129,6 +131,41 @@ module _ {D : Type 0} {g : Ghosts D} (size : D → ℕ) (story : D → Story) (f
   pub ends_none : (cs : List Command) → length cs ≡ 0 → new ≡ mid → EndsAll size story failed tells mid (map command_of cs) (Ok tt) new
   ends_none [] none same = (refl, same)
   ends_none (c ∷ cs) none same = absurd (omega (arith, none))
+
+-- the commands that drop tables, and then those of the listed ones
+pub received_list : (c : PlainCatalogue) (ts : List PlainListed) (delete : Bool) (names : List (List ℕ × ℕ)) (first later parts : List PlainCommand) → names ≡ tables_of c
+    → first ≡ drops_if delete names ts → AreParts c ts parts → later ≡ first ++ parts → AreReceived c ts delete later
+received_list c ts delete names first later parts own drop each whole = record {
+  parts = parts;
+  each = each;
+  whole = whole ∙ ap (λ (xs : List PlainCommand). xs ++ parts) (drop ∙ ap (λ (ns : List (List ℕ × ℕ)). drops_if delete ns ts) own);
+}
+
+-- the commands of an archive were made by reads
+module _ {D : Type 0} {g : Ghosts D} (size : D → ℕ) (story : D → Story) (failed : D → ℕ) (tells : Bool) (old mid new : Store D g) (ts : List PlainListed) (delete : Bool)
+    (cs : List Command) (reads : OnlyReadsStore size story failed tells done old mid) (are : AreReceived (listed_in old) ts delete (map command_of cs)) where
+  pub receives : (result : Result (Unit {0}) ReceiveRefusal) → EndsAll size story failed tells mid (map command_of cs) result new
+      → Receives size story failed tells old ts delete result new
+  receives result ends = record {
+    mid = mid;
+    reads = reads;
+    fits = λ told base m fits. fits_reading size story failed base m tells told old mid fits done refl reads;
+    commands = map command_of cs;
+    are = are;
+    ends = ends;
+  }
+
+-- also where they are refused
+module _ {D : Type 0} {g : Ghosts D} (size : D → ℕ) (story : D → Story) (failed : D → ℕ) (tells : Bool) (old new : Store D g) (ts : List PlainListed) (delete : Bool) where
+  pub received_ok : (result : Result (Unit {0}) ReceiveRefusal) → Receives size story failed tells old ts delete result new
+      → OnOk result (Receives size story failed tells old ts delete result new)
+  received_ok (Ok x) receives = receives
+  received_ok (Err e) receives = tt
+
+  pub received_err : (result : Result (Unit {0}) ReceiveRefusal) → Receives size story failed tells old ts delete result new
+      → IfErr result (λ e. OnlyReadsStore size story failed tells (ended_receiving result) old new ⊎ Receives size story failed tells old ts delete (Err e) new)
+  received_err (Ok x) receives = tt
+  received_err (Err e) receives = inr receives
 
 -- ---- the streams of listed segments
 

@@ -16,6 +16,7 @@ pub mod Salvaging
 pub mod SegmentStreams
 pub mod Sending
 pub mod Receiving
+pub mod ReceivedRows
 pub mod Selecting
 pub mod Places
 pub mod Answering

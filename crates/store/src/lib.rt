@@ -50,7 +50,7 @@ pub use commit::{Cause, FormatVersion, OpeningRefusal};
 pub use input::read_at_most;
 pub use laws::{segments_have_digests, used_runs_are_named};
 pub use pages::StoredCatalogue;
-pub use receiving::{ReceiveRefusal, digests_tell_streams};
+pub use receiving::{ReceiveRefusal, digests_tell_streams, received_rows_are_of_the_streams};
 pub use running::{answer, run};
 pub use salvaging::LeftOut;
 pub use segment_streams::{SegmentInfo, SegmentStream, streams_have_their_rows};

@@ -1,21 +1,26 @@
 // Makes the tables of an archive those of a store.
-ghost use Rattle.std.specs.Prelude.{◌≡◌, ◌⊎◌, ◌++◌, ◌∷◌, [], ℕ, false, List, map, string_bytes, IfOk, IfErr, OnOk};
+ghost use Rattle.std.specs.Prelude.{◌≡◌, ◌⊎◌, ◌++◌, ◌∷◌, [], ℕ, false, List, map, string_bytes, Some, None, Ok, IfOk, IfErr, OnOk};
 ghost use Rattle.sha2.specs.Sha256.{sha256};
 ghost use Rattle.arrow_schema.specs.Limits.{IsWithinLimits};
 ghost use Rattle.arrow_schema.specs.View.{schema_of};
-ghost use Rattle.table_archive.specs.Manifest.{plain_listed, empty_stream};
+ghost use Rattle.cells.specs.Cell.{PlainTable};
+ghost use Rattle.table_archive.specs.Manifest.{PlainListed, plain_listed, empty_stream};
 ghost use Rattle.table_archive.specs.Archive.{IsStreamOf, AreStreamsOf};
 ghost use Rattle.table_archive.specs.declared.manifest.ListedSegment as manifests;
-ghost use Rattle.tables.specs.Commands.{import_stream};
+ghost use Rattle.tables.specs.Commands.{PlainCommand, import_stream, all_of, commands_of};
+ghost use Rattle.tables.specs.Tables.{Tables, table_at};
+ghost use Rattle.tables.specs.Verdict.{verdict, empty_table};
+ghost use Rattle.store.specs.ReceivedRows.{HasRowsBehind};
 ghost use Rattle.tables.specs.View.{command_of};
 ghost use Rattle.store_runs.specs.Calls.{is_failure, is_device_reply};
-ghost use Rattle.store.specs.Receiving.{same_schema, has_digest, begin_with, is_listed, drops, ended_receiving, received_by, Collision};
+ghost use Rattle.store.specs.Receiving.{same_schema, has_digest, begin_with, is_listed, drops, drops_if, ended_receiving, received_by, Append, ArePart, Collision};
 
 use crate::Store;
 use crate::applying_all::ListRefusal;
 use crate::segment_streams::{SegmentInfo, SegmentStream, copy_of};
 use arrow_schema::Schema;
 use indexmap::IndexMap;
+use ipc_canonical::canonical_means_its_table;
 use ipc_write::{encode_schema, write_end};
 use sector_dev::SectorDevice;
 use std::alloc::{AllocError, AllocFailed, Global};
@@ -196,6 +201,22 @@ fn push_drops(
     Ok(())
 }
 
+fn drops_for(
+    alloc: Global,
+    delete: bool,
+    names: &[(String, u64)],
+    tables: &[ListedTable],
+) -> Result<Vec<Command>, AllocError>
+    ensures { IfOk result (λ commands. map command_of commands.items
+        ≡ drops_if delete (map (λ t. (string_bytes t.0, t.1)) names.now) (map plain_listed tables.now)) }
+{
+    let mut commands = Vec::new(alloc);
+    if delete {
+        push_drops(alloc, names, tables, &mut commands)?;
+    }
+    Ok(commands)
+}
+
 fn received_by(answer: Result<(), ListRefusal>) -> Result<(), ReceiveRefusal>
     ensures { result ≡ received_by answer }
 {
@@ -213,14 +234,25 @@ pub fn digests_tell_streams()
         → AreStreamsOf segments one → AreStreamsOf segments other → (one ≡ other) ⊎ Collision }
 {}
 
+/// The rows of a listed table after its commands, where they are accepted: those that it had, or none if it is made anew, and then those of a stream of each
+/// segment that is appended, one after another.
+pub fn received_rows_are_of_the_streams()
+    ensures behind { (t u : Tables) (table : PlainTable) (name : List ℕ) (segments : List manifests.ListedSegment) (commands : List PlainCommand)
+        → table_at t name ≡ Some table → Append name segments commands → verdict t (all_of (commands_of commands)) ≡ Ok u → HasRowsBehind u name segments table }
+    ensures anew { (t u : Tables) (listed : PlainListed) (commands : List PlainCommand) → IsWithinLimits listed.schema → ArePart listed None commands
+        → verdict t (all_of (commands_of commands)) ≡ Ok u → HasRowsBehind u listed.name listed.segments (empty_table listed.schema) }
+{
+    canonical_means_its_table();
+}
+
 impl<D: SectorDevice> Store<D> {
     ghost use Rattle.std.specs.Prelude.{◌≤◌, option_map, drop, length, IfSome, Err};
     ghost use Rattle.catalogue.specs.Edits.{entry_of};
     ghost use Rattle.table_archive.specs.Manifest.{AreWithin};
-    ghost use Rattle.tables.specs.Commands.{append_stream, PlainCommand};
+    ghost use Rattle.tables.specs.Commands.{append_stream};
     ghost use Rattle.store.specs.Fits.{listed_in};
     ghost use Rattle.store.specs.Reading.{OnlyReadsStore};
-    ghost use Rattle.store.specs.Receiving.{left_of, Append, ArePart, AreParts, AreReceived, Receives};
+    ghost use Rattle.store.specs.Receiving.{left_of, AreParts, AreReceived, Receives};
 
     fn own_places<'a>(
         &self,
@@ -330,7 +362,8 @@ impl<D: SectorDevice> Store<D> {
             Err(Refusal::NoTable) => return Ok(None),
             Err(refusal) => return Err(refusal),
         };
-        if !is_same_schema(alloc, &own, &table.schema)? {
+        let same = is_same_schema(alloc, &own, &table.schema)?;
+        if !same {
             return Ok(None);
         }
         let infos = self.segments(alloc, name)?;
@@ -405,10 +438,7 @@ impl<D: SectorDevice> Store<D> {
             archive: &*archive,
             own,
         };
-        let mut commands = Vec::new(alloc);
-        if delete {
-            push_drops(alloc, &names, &archive.tables, &mut commands)?;
-        }
+        let mut commands = drops_for(alloc, delete, &names, &archive.tables)?;
         match self.push_parts(alloc, &sources, &archive.tables, &mut commands) {
             Ok(()) => Ok(commands),
             Err(refusal) => Err(refusal),
@@ -426,9 +456,9 @@ impl<D: SectorDevice> Store<D> {
     /// ```
     ///
     /// # Errors
-    /// `Lacks` with the digest of the first listed segment that neither the archive nor the store has. `Store` with a refusal of [`Store::tables`], of
-    /// [`Store::segment_stream`] or of [`Store::apply_all`]. After `Store(Device)` the store is halted, and only opening the device again shows whether the
-    /// tables were made. After any other error nothing has changed.
+    /// `Lacks` with the digest of the first listed segment that neither the archive nor the store has, with the listed size; that neither has it is not proved.
+    /// `Store` with a refusal of [`Store::tables`], of [`Store::segment_stream`] or of [`Store::apply_all`]. After `Store(Device)` the store is halted, and only
+    /// opening the device again shows whether the tables were made. After any other error nothing has changed.
     pub fn receive(
         &mut self,
         alloc: Global,
