@@ -1,7 +1,8 @@
 -- The commands that an archive brings, step by step.
 use Rattle.std.specs.Prelude.{◌≢◌, ◌⊎◌, ◌&&◌, if◌then◌else◌, Option, option_map, Result, IfErr, OnOk}
 use Rattle.std.specs.Str.{bytes_eq}
-use Rattle.std.proofs.Common.{◌≡◌, ◌+◌, ◌<◌, ◌≤◌, ◌∙◌, ◌++◌, ℕ, Bool, true, false, List, [], ◌∷◌, Some, None, Ok, Err, inl, inr, arith, get_or, length, map, take, drop, append_assoc, append-nil, refl, sym, ap, subst}
+use Rattle.std.proofs.Common.{◌≡◌, ◌+◌, ◌<◌, ◌≤◌, ◌∙◌, ◌++◌, ℕ, Bool, true, false, List, [], ◌∷◌, Some, None, Ok, Err, inl, inr, arith, get_or}
+use Rattle.std.proofs.Common.{length, map, take, drop, append_assoc, append-nil, refl, sym, ap, subst}
 use Rattle.std.proofs.lemmas.Bool.{true≢false, cond-true, cond-false, and_right, and_parts}
 use Rattle.std.proofs.lemmas.Bool.Decides.{not_from_Decides}
 use Rattle.std.proofs.lemmas.Slice.Eq.{bytes_eq-Decides}
@@ -29,7 +30,8 @@ use Rattle.store.specs.declared.store.Store.{Store}
 use Rattle.store.specs.Fits.{listed_in}
 use Rattle.store.specs.Reading.{OnlyReadsStore}
 use Rattle.store.specs.SegmentStreams.{info_of}
-use Rattle.store.specs.Receiving.{same_schema, has_digest, begin_with, left_of, ArePart, AreParts, AreReceived, drops_if, ended_receiving, received_by, AnswersAll, EndsAll, Receives, Collision}
+use Rattle.store.specs.Receiving.{same_schema, has_digest, begin_with, left_of, ArePart, AreParts, AreReceived, drops_if, ended_receiving}
+use Rattle.store.specs.Receiving.{received_by, AnswersAll, EndsAll, Receives, Collision}
 
 -- ---- whether a table is continued
 
@@ -63,7 +65,8 @@ module _ (found : Option PlainEntry) (t : PlainListed) (s : PlainSchema) (there 
       digests [] = refl
       digests (g ∷ gs) = ap (λ (ds : List (Option (List ℕ))). g.digest ∷ ds) (digests gs)
 
-      by_entry : (o : Option PlainEntry) → option_map (λ e. e.schema) o ≡ Some s → option_map (λ e. map info_of e.segments) o ≡ Some infos → same_schema s t.schema ≡ true
+      by_entry : (o : Option PlainEntry) → option_map (λ e. e.schema) o ≡ Some s → option_map (λ e. map info_of e.segments) o ≡ Some infos
+          → same_schema s t.schema ≡ true
           → left_of o t ≡ (if begin_with (map (λ (i : SegmentInfo). i.digest) infos) t.segments then Some (drop (length infos) t.segments) else None)
       by_entry None gone also same = absurd (cc gone)
       by_entry (Some e) is also same =
@@ -84,7 +87,8 @@ left_missing found t none = ap (λ (o : Option PlainEntry). left_of o t) none
 
 -- ---- one more
 
-streams_last : (ls : List ListedSegment) (xs : List (List ℕ)) (l : ListedSegment) (x : List ℕ) → AreStreamsOf ls xs → IsStreamOf l x → AreStreamsOf (ls ++ l ∷ []) (xs ++ x ∷ [])
+streams_last : (ls : List ListedSegment) (xs : List (List ℕ)) (l : ListedSegment) (x : List ℕ) → AreStreamsOf ls xs → IsStreamOf l x
+    → AreStreamsOf (ls ++ l ∷ []) (xs ++ x ∷ [])
 streams_last [] [] l x all one = (one, tt)
 streams_last (k ∷ ls) (y ∷ xs) l x all one = (all.0, streams_last ls xs l x all.1 one)
 streams_last [] (y ∷ xs) l x all one = absurd all
@@ -99,21 +103,26 @@ streams_more segments i l xs x within at all one =
 pub pushed_more : (before so_far later cs own : List PlainCommand) → so_far ≡ before ++ cs → later ≡ so_far ++ own → later ≡ before ++ (cs ++ own)
 pushed_more before so_far later cs own first second = second ∙ ap (λ (xs : List PlainCommand). xs ++ own) first ∙ append_assoc before cs own
 
-pub appends_more : (name : List ℕ) (xs : List (List ℕ)) (x : List ℕ) → map (append_stream name) xs ++ append_stream name x ∷ [] ≡ map (append_stream name) (xs ++ x ∷ [])
+pub appends_more : (name : List ℕ) (xs : List (List ℕ)) (x : List ℕ)
+    → map (append_stream name) xs ++ append_stream name x ∷ [] ≡ map (append_stream name) (xs ++ x ∷ [])
 appends_more name xs x = sym (map-append (append_stream name) xs (x ∷ []))
 
-parts_last : (c : PlainCatalogue) (ts : List PlainListed) (t : PlainListed) (cs own : List PlainCommand) → AreParts c ts cs → ArePart t (left_of (entry_of c t.name) t) own
+parts_last : (c : PlainCatalogue) (ts : List PlainListed) (t : PlainListed) (cs own : List PlainCommand) → AreParts c ts cs
+    → ArePart t (left_of (entry_of c t.name) t) own
     → AreParts c (ts ++ t ∷ []) (cs ++ own)
 parts_last c [] t cs own none one = (own, [], one, refl, ap (λ (xs : List PlainCommand). xs ++ own) none ∙ sym (append-nil own))
 parts_last c (u ∷ ts) t cs own (first, others, here, later, whole) one =
     (first, others ++ own, here, parts_last c ts t others own later one, ap (λ (xs : List PlainCommand). xs ++ own) whole ∙ append_assoc first others own)
 
-pub parts_more : {X : Type 0} (of : X → PlainListed) (c : PlainCatalogue) (tables : List X) (i : ℕ) (x : X) (cs own : List PlainCommand) → i < length tables → x ≡ get_or tables i x
-    → AreParts c (take i (map of tables)) cs → ArePart (of x) (left_of (entry_of c (of x).name) (of x)) own → AreParts c (take (i + 1) (map of tables)) (cs ++ own)
+pub parts_more : {X : Type 0} (of : X → PlainListed) (c : PlainCatalogue) (tables : List X) (i : ℕ) (x : X) (cs own : List PlainCommand)
+    → i < length tables → x ≡ get_or tables i x
+    → AreParts c (take i (map of tables)) cs → ArePart (of x) (left_of (entry_of c (of x).name) (of x)) own
+    → AreParts c (take (i + 1) (map of tables)) (cs ++ own)
 parts_more of c tables i x cs own within at all one =
     let among : i < length (map of tables) = omega (arith, within, length-map tables of) in
     let is : of x ≡ get_or (map of tables) i (of x) = sym (get_or-map of tables i x (of x) within ∙ ap of (sym at)) in
-    subst (λ (ts : List PlainListed). AreParts c ts (cs ++ own)) (sym (take-item (map of tables) i (of x) among is)) (parts_last c (take i (map of tables)) (of x) cs own all one)
+    subst (λ (ts : List PlainListed). AreParts c ts (cs ++ own)) (sym (take-item (map of tables) i (of x) among is))
+    (parts_last c (take i (map of tables)) (of x) cs own all one)
 
 -- told of a store that was only read since
 pub part_of_first : (now before : PlainCatalogue) → now ≡ before → (t : PlainListed) (own : List PlainCommand) → ArePart t (left_of (entry_of now t.name) t) own
@@ -123,7 +132,8 @@ part_of_first now before same t own one = subst (λ (c : PlainCatalogue). ArePar
 -- ---- how the store ends
 
 module _ {D : Type 0} {g : Ghosts D} (size : D → ℕ) (story : D → Story) (failed : D → ℕ) (tells : Bool) (mid new : Store D g) where
-  pub ends_all : (cs : List Command) (answer : Result (Unit {0}) ListRefusal) → length cs ≢ 0 → AnswersAll size story failed tells mid (map command_of cs) answer new
+  pub ends_all : (cs : List Command) (answer : Result (Unit {0}) ListRefusal) → length cs ≢ 0
+      → AnswersAll size story failed tells mid (map command_of cs) answer new
       → EndsAll size story failed tells mid (map command_of cs) (received_by answer) new
   ends_all [] answer some answers = absurd (some refl)
   ends_all (c ∷ cs) answer some answers = (answer, answers, refl)
@@ -133,7 +143,8 @@ module _ {D : Type 0} {g : Ghosts D} (size : D → ℕ) (story : D → Story) (f
   ends_none (c ∷ cs) none same = absurd (omega (arith, none))
 
 -- the commands that drop tables, and then those of the listed ones
-pub received_list : (c : PlainCatalogue) (ts : List PlainListed) (delete : Bool) (names : List (List ℕ × ℕ)) (first later parts : List PlainCommand) → names ≡ tables_of c
+pub received_list : (c : PlainCatalogue) (ts : List PlainListed) (delete : Bool) (names : List (List ℕ × ℕ)) (first later parts : List PlainCommand)
+    → names ≡ tables_of c
     → first ≡ drops_if delete names ts → AreParts c ts parts → later ≡ first ++ parts → AreReceived c ts delete later
 received_list c ts delete names first later parts own drop each whole = record {
   parts = parts;
@@ -142,7 +153,8 @@ received_list c ts delete names first later parts own drop each whole = record {
 }
 
 -- the commands of an archive were made by reads
-module _ {D : Type 0} {g : Ghosts D} (size : D → ℕ) (story : D → Story) (failed : D → ℕ) (tells : Bool) (old mid new : Store D g) (ts : List PlainListed) (delete : Bool)
+module _ {D : Type 0} {g : Ghosts D} (size : D → ℕ) (story : D → Story) (failed : D → ℕ)
+    (tells : Bool) (old mid new : Store D g) (ts : List PlainListed) (delete : Bool)
     (cs : List Command) (reads : OnlyReadsStore size story failed tells done old mid) (are : AreReceived (listed_in old) ts delete (map command_of cs)) where
   pub receives : (result : Result (Unit {0}) ReceiveRefusal) → EndsAll size story failed tells mid (map command_of cs) result new
       → Receives size story failed tells old ts delete result new
@@ -156,7 +168,8 @@ module _ {D : Type 0} {g : Ghosts D} (size : D → ℕ) (story : D → Story) (f
   }
 
 -- also where they are refused
-module _ {D : Type 0} {g : Ghosts D} (size : D → ℕ) (story : D → Story) (failed : D → ℕ) (tells : Bool) (old new : Store D g) (ts : List PlainListed) (delete : Bool) where
+module _ {D : Type 0} {g : Ghosts D} (size : D → ℕ) (story : D → Story) (failed : D → ℕ)
+    (tells : Bool) (old new : Store D g) (ts : List PlainListed) (delete : Bool) where
   pub received_ok : (result : Result (Unit {0}) ReceiveRefusal) → Receives size story failed tells old ts delete result new
       → OnOk result (Receives size story failed tells old ts delete result new)
   received_ok (Ok x) receives = receives

@@ -16,7 +16,8 @@ use Rattle.table_archive.specs.Manifest.{PlainListed, empty_stream}
 use Rattle.tables.specs.declared.refusal.Refusal.{Refusal}
 use Rattle.tables.specs.Commands.{PlainCommand, PlainCommands, import_stream, append_stream, all_of, no_command, and_command, commands_of}
 use Rattle.tables.specs.Tables.{Tables, table_at, with_table}
-use Rattle.tables.specs.Verdict.{too_many_bytes, too_many_tables, import_tests, other_shape, of_table, of_meaning, put, appended, appended_table, appended_stream, joined, empty_table, verdict, verdict_in_turn}
+use Rattle.tables.specs.Verdict.{too_many_bytes, too_many_tables, import_tests, other_shape, of_table, of_meaning, put, appended, appended_table}
+use Rattle.tables.specs.Verdict.{appended_stream, joined, empty_table, verdict, verdict_in_turn}
 use Rattle.tables.specs.laws.Maps.{found_here}
 use Rattle.tables.specs.laws.Steps.{passed}
 use Rattle.store.specs.Receiving.{Append, ArePart}
@@ -28,7 +29,8 @@ appends : (t : Tables) (name bytes : List ℕ) → verdict t (append_stream name
 unfolding verdict
 appends t name bytes = refl
 
-imports : (t : Tables) (name bytes : List ℕ) → verdict t (import_stream name bytes) ≡ unless (import_tests name bytes) (of_meaning (meaning supported_codes bytes) (put t name))
+imports : (t : Tables) (name bytes : List ℕ) → verdict t (import_stream name bytes)
+    ≡ unless (import_tests name bytes) (of_meaning (meaning supported_codes bytes) (put t name))
 unfolding verdict
 imports t name bytes = refl
 
@@ -63,17 +65,24 @@ pub record Joins (t u : Tables) (name bytes : List ℕ) (table : PlainTable) : T
   means : meaning supported_codes bytes ≡ Ok new
   there : table_at u name ≡ Some (joined table new.rows)
 
-appended_one : (t u : Tables) (name bytes : List ℕ) (table : PlainTable) → table_at t name ≡ Some table → verdict t (append_stream name bytes) ≡ Ok u → Joins t u name bytes table
+appended_one : (t u : Tables) (name bytes : List ℕ) (table : PlainTable) → table_at t name ≡ Some table → verdict t (append_stream name bytes) ≡ Ok u
+    → Joins t u name bytes table
 appended_one t u name bytes table found is = by_meaning (meaning supported_codes bytes) refl
   where
     one : of_meaning (meaning supported_codes bytes) (appended_table t name table) ≡ Ok u
-    one = unless_passed (too_many_bytes bytes) _ u (subst (λ (o : Option PlainTable). of_table o (appended_stream t name bytes) ≡ Ok u) found (sym (appends t name bytes) ∙ is))
+    one = unless_passed (too_many_bytes bytes) _ u (subst (λ (o : Option PlainTable). of_table o (appended_stream t name bytes) ≡ Ok u) found
+        (sym (appends t name bytes) ∙ is))
 
     by_meaning : (r : Result PlainTable Fault) → meaning supported_codes bytes ≡ r → Joins t u name bytes table
-    by_meaning (Err fault) means = let no : of_meaning (Err fault) (appended_table t name table) ≡ Ok u = subst (λ (x : Result PlainTable Fault). of_meaning x (appended_table t name table) ≡ Ok u) means one in absurd (cc no)
+    by_meaning (Err fault) means =
+        let no : of_meaning (Err fault) (appended_table t name table) ≡ Ok u =
+        subst (λ (x : Result PlainTable Fault). of_meaning x (appended_table t name table) ≡ Ok u) means one in
+        absurd (cc no)
     by_meaning (Ok new) means =
-        let two : appended_table t name table new ≡ Ok u = subst (λ (x : Result PlainTable Fault). of_meaning x (appended_table t name table) ≡ Ok u) means one in
-        let same : u ≡ with_table t name (joined table new.rows) = passed _ (with_table t name (joined table new.rows)) u (unless_passed (other_shape table.schema new.schema) (appended t name new.rows table) u two) in
+        let two : appended_table t name table new ≡ Ok u =
+        subst (λ (x : Result PlainTable Fault). of_meaning x (appended_table t name table) ≡ Ok u) means one in
+        let same : u ≡ with_table t name (joined table new.rows) =
+        passed _ (with_table t name (joined table new.rows)) u (unless_passed (other_shape table.schema new.schema) (appended t name new.rows table) u two) in
         record { new = new; means = means; there = ap (λ (v : Tables). table_at v name) same ∙ found_here t name (joined table new.rows) }
 
 -- the streams of segments are appended
@@ -89,24 +98,31 @@ appended_all [] t u name table found is =
     record {
       rows = [];
       mean = refl;
-      there = subst (λ (v : Tables). table_at v name ≡ Some (joined table [])) same (found ∙ ap (λ (rs : List (List Cell)). Some (record { schema = table.schema; rows = rs })) (sym (append-nil table.rows)));
+      there = subst (λ (v : Tables). table_at v name ≡ Some (joined table [])) same (found
+          ∙ ap (λ (rs : List (List Cell)). Some (record { schema = table.schema; rows = rs })) (sym (append-nil table.rows)));
     }
 appended_all (x ∷ xs) t u name table found is =
     by_first (λ v new there turn. appended_all xs v u name (joined table new.rows) there turn) (verdict t (append_stream name x)) refl
   where
-    by_first : ((v : Tables) (new : PlainTable) → table_at v name ≡ Some (joined table new.rows) → verdict_in_turn v (commands_of (map (append_stream name) xs)) ≡ Ok u
+    by_first : ((v : Tables) (new : PlainTable) → table_at v name ≡ Some (joined table new.rows)
+        → verdict_in_turn v (commands_of (map (append_stream name) xs)) ≡ Ok u
         → HasRowsOf u name xs (joined table new.rows)) → (r : Result Tables Refusal) → verdict t (append_stream name x) ≡ r → HasRowsOf u name (x ∷ xs) table
     by_first next (Err e) first =
-        let no : after_one (commands_of (map (append_stream name) xs)) (Err e) ≡ Ok u = subst (λ (r : Result Tables Refusal). after_one (commands_of (map (append_stream name) xs)) r ≡ Ok u) first (sym (more_in_turn t (append_stream name x) (commands_of (map (append_stream name) xs))) ∙ is) in
+        let no : after_one (commands_of (map (append_stream name) xs)) (Err e) ≡ Ok u =
+        subst (λ (r : Result Tables Refusal). after_one (commands_of (map (append_stream name) xs)) r ≡ Ok u) first
+        (sym (more_in_turn t (append_stream name x) (commands_of (map (append_stream name) xs))) ∙ is) in
         absurd (cc no)
     by_first next (Ok v) first =
         let one = appended_one t v name x table found first in
-        let then_rest : after_one (commands_of (map (append_stream name) xs)) (Ok v) ≡ Ok u = subst (λ (r : Result Tables Refusal). after_one (commands_of (map (append_stream name) xs)) r ≡ Ok u) first (sym (more_in_turn t (append_stream name x) (commands_of (map (append_stream name) xs))) ∙ is) in
+        let then_rest : after_one (commands_of (map (append_stream name) xs)) (Ok v) ≡ Ok u =
+        subst (λ (r : Result Tables Refusal). after_one (commands_of (map (append_stream name) xs)) r ≡ Ok u) first
+        (sym (more_in_turn t (append_stream name x) (commands_of (map (append_stream name) xs))) ∙ is) in
         let later = next v one.new one.there then_rest in
         record {
           rows = one.new.rows ++ later.rows;
           mean = (one.new, later.rows, one.means, later.mean, refl);
-          there = later.there ∙ ap (λ (rs : List (List Cell)). Some (record { schema = table.schema; rows = rs })) (append_assoc table.rows one.new.rows later.rows);
+          there = later.there ∙ ap (λ (rs : List (List Cell)). Some (record { schema = table.schema; rows = rs }))
+              (append_assoc table.rows one.new.rows later.rows);
         }
 
 -- ---- a table that is made anew
@@ -114,11 +130,13 @@ appended_all (x ∷ xs) t u name table found is =
 empty_is : (s : PlainSchema) → IsWithinLimits s → IsTable (empty_table s)
 empty_is s within = record { schema = within; rows = λ k d less. absurd (omega (arith, less)); weight = omega arith }
 
-empty_means : ((t : PlainTable) → IsTable t → meaning supported_codes (canonical t) ≡ Ok t) → (s : PlainSchema) → IsWithinLimits s → meaning supported_codes (empty_stream s) ≡ Ok (empty_table s)
+empty_means : ((t : PlainTable) → IsTable t → meaning supported_codes (canonical t) ≡ Ok t) → (s : PlainSchema) → IsWithinLimits s
+    → meaning supported_codes (empty_stream s) ≡ Ok (empty_table s)
 unfolding canonical
 empty_means means s within = means (empty_table s) (empty_is s within)
 
-imported_one : (t u : Tables) (name bytes : List ℕ) (table : PlainTable) → meaning supported_codes bytes ≡ Ok table → verdict t (import_stream name bytes) ≡ Ok u → table_at u name ≡ Some table
+imported_one : (t u : Tables) (name bytes : List ℕ) (table : PlainTable) → meaning supported_codes bytes ≡ Ok table
+    → verdict t (import_stream name bytes) ≡ Ok u → table_at u name ≡ Some table
 imported_one t u name bytes table means is =
     let one : of_meaning (meaning supported_codes bytes) (put t name) ≡ Ok u = unless_passed (import_tests name bytes) _ u (sym (imports t name bytes) ∙ is) in
     let two : put t name table ≡ Ok u = subst (λ (x : Result PlainTable Fault). of_meaning x (put t name) ≡ Ok u) means one in
@@ -130,15 +148,20 @@ imported_then xs t u name bytes table means is = by_first (verdict t (import_str
   where
     by_first : (r : Result Tables Refusal) → verdict t (import_stream name bytes) ≡ r → HasRowsOf u name xs table
     by_first (Err e) first =
-        let no : after_one (commands_of (map (append_stream name) xs)) (Err e) ≡ Ok u = subst (λ (r : Result Tables Refusal). after_one (commands_of (map (append_stream name) xs)) r ≡ Ok u) first (sym (more_in_turn t (import_stream name bytes) (commands_of (map (append_stream name) xs))) ∙ is) in
+        let no : after_one (commands_of (map (append_stream name) xs)) (Err e) ≡ Ok u =
+        subst (λ (r : Result Tables Refusal). after_one (commands_of (map (append_stream name) xs)) r ≡ Ok u) first
+        (sym (more_in_turn t (import_stream name bytes) (commands_of (map (append_stream name) xs))) ∙ is) in
         absurd (cc no)
     by_first (Ok v) first =
-        let then_rest : after_one (commands_of (map (append_stream name) xs)) (Ok v) ≡ Ok u = subst (λ (r : Result Tables Refusal). after_one (commands_of (map (append_stream name) xs)) r ≡ Ok u) first (sym (more_in_turn t (import_stream name bytes) (commands_of (map (append_stream name) xs))) ∙ is) in
+        let then_rest : after_one (commands_of (map (append_stream name) xs)) (Ok v) ≡ Ok u =
+        subst (λ (r : Result Tables Refusal). after_one (commands_of (map (append_stream name) xs)) r ≡ Ok u) first
+        (sym (more_in_turn t (import_stream name bytes) (commands_of (map (append_stream name) xs))) ∙ is) in
         appended_all xs v u name table (imported_one t v name bytes table means first) then_rest
 
 -- ---- the commands of a listed table
 
-pub rows_behind : (t u : Tables) (table : PlainTable) (name : List ℕ) (ls : List ListedSegment) (cs : List PlainCommand) → table_at t name ≡ Some table → Append name ls cs
+pub rows_behind : (t u : Tables) (table : PlainTable) (name : List ℕ) (ls : List ListedSegment) (cs : List PlainCommand)
+    → table_at t name ≡ Some table → Append name ls cs
     → verdict t (all_of (commands_of cs)) ≡ Ok u → HasRowsBehind u name ls table
 rows_behind t u table name ls cs found are is =
     let turn : verdict_in_turn t (commands_of (map (append_stream name) are.streams)) ≡ Ok u =
@@ -146,7 +169,8 @@ rows_behind t u table name ls cs found are is =
     let all = appended_all are.streams t u name table found turn in
     record { streams = are.streams; are = are.are; rows = all.rows; mean = all.mean; there = all.there }
 
-pub rows_anew : ((x : PlainTable) → IsTable x → meaning supported_codes (canonical x) ≡ Ok x) → (t u : Tables) (l : PlainListed) (cs : List PlainCommand) → IsWithinLimits l.schema
+pub rows_anew : ((x : PlainTable) → IsTable x → meaning supported_codes (canonical x) ≡ Ok x)
+    → (t u : Tables) (l : PlainListed) (cs : List PlainCommand) → IsWithinLimits l.schema
     → ArePart l None cs → verdict t (all_of (commands_of cs)) ≡ Ok u → HasRowsBehind u l.name l.segments (empty_table l.schema)
 rows_anew means t u l cs within (others, are, whole) is =
     let parts : cs ≡ import_stream l.name (empty_stream l.schema) ∷ map (append_stream l.name) are.streams =

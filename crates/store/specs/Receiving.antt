@@ -1,5 +1,6 @@
 -- What a store does with an archive: a list of commands, which are done as one.
-use Rattle.std.specs.Prelude.{◌≡◌, ◌≢◌, ◌⊎◌, ◌&&◌, ℕ, Bool, true, false, if◌then◌else◌, List, [], ◌∷◌, ◌++◌, length, map, drop, Option, Some, None, Result, Ok, Err, IfErr}
+use Rattle.std.specs.Prelude.{◌≡◌, ◌≢◌, ◌⊎◌, ◌&&◌, ℕ, Bool, true, false, if◌then◌else◌, List, [], ◌∷◌, ◌++◌, length, map, drop, Option, Some, None}
+use Rattle.std.specs.Prelude.{Result, Ok, Err, IfErr}
 use Rattle.std.specs.List.{list_any}
 use Rattle.std.specs.Str.{bytes_eq}
 use Rattle.sha2.specs.Sha256.{sha256}
@@ -104,7 +105,8 @@ received_by (Ok x) = Ok x
 received_by (Err e) = Err (receives.Store (refusal_of e))
 
 -- how a store answers several commands as one: what `Store::apply_all` promises
-pub record AnswersAll {D : Type 0} {g : Ghosts D} (size : D → ℕ) (story : D → Story) (failed : D → ℕ) (tells : Bool) (old : Store D g) (commands : List PlainCommand)
+pub record AnswersAll {D : Type 0} {g : Ghosts D} (size : D → ℕ) (story : D → Story) (failed : D → ℕ)
+    (tells : Bool) (old : Store D g) (commands : List PlainCommand)
     (answer : Result (Unit {0}) ListRefusal) (new : Store D g) : Type 0 where
   pub goes : tells ≡ true → (base : Tables) (m : Machine) → StoreFits size story base m old
       → GoesOn size story failed base m (apply_call (all_of (commands_of commands))) (ended_list answer) old new
@@ -114,7 +116,8 @@ pub record AnswersAll {D : Type 0} {g : Ghosts D} (size : D → ℕ) (story : D 
   pub count : failed (device_of new) ≡ counted (ended_list answer) (failed (device_of old))
 
 -- without a command nothing is done
-abbrev pub EndsAll : {D : Type 0} {g : Ghosts D} → (size : D → ℕ) → (story : D → Story) → (failed : D → ℕ) → (tells : Bool) → (old : Store D g) → List PlainCommand
+abbrev pub EndsAll : {D : Type 0} {g : Ghosts D} → (size : D → ℕ) → (story : D → Story) → (failed : D → ℕ) → (tells : Bool) → (old : Store D g)
+    → List PlainCommand
     → Result (Unit {0}) ReceiveRefusal → (new : Store D g) → Type 0
 EndsAll size story failed tells old [] result new = (result ≡ Ok tt) × (new ≡ old)
 EndsAll size story failed tells old (c ∷ cs) result new =

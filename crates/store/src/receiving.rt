@@ -13,7 +13,8 @@ ghost use Rattle.tables.specs.Verdict.{verdict, empty_table};
 ghost use Rattle.store.specs.ReceivedRows.{HasRowsBehind};
 ghost use Rattle.tables.specs.View.{command_of};
 ghost use Rattle.store_runs.specs.Calls.{is_failure, is_device_reply};
-ghost use Rattle.store.specs.Receiving.{same_schema, has_digest, begin_with, is_listed, drops, drops_if, ended_receiving, received_by, Append, ArePart, Collision};
+ghost use Rattle.store.specs.Receiving.{same_schema, has_digest, begin_with, is_listed, drops, drops_if, ended_receiving};
+ghost use Rattle.store.specs.Receiving.{received_by, Append, ArePart, Collision};
 
 use crate::Store;
 use crate::applying_all::ListRefusal;
@@ -238,7 +239,8 @@ pub fn digests_tell_streams()
 /// segment that is appended, one after another.
 pub fn received_rows_are_of_the_streams()
     ensures behind { (t u : Tables) (table : PlainTable) (name : List ℕ) (segments : List manifests.ListedSegment) (commands : List PlainCommand)
-        → table_at t name ≡ Some table → Append name segments commands → verdict t (all_of (commands_of commands)) ≡ Ok u → HasRowsBehind u name segments table }
+        → table_at t name ≡ Some table → Append name segments commands → verdict t (all_of (commands_of commands)) ≡ Ok u
+        → HasRowsBehind u name segments table }
     ensures anew { (t u : Tables) (listed : PlainListed) (commands : List PlainCommand) → IsWithinLimits listed.schema → ArePart listed None commands
         → verdict t (all_of (commands_of commands)) ≡ Ok u → HasRowsBehind u listed.name listed.segments (empty_table listed.schema) }
 {
@@ -457,8 +459,8 @@ impl<D: SectorDevice> Store<D> {
     ///
     /// # Errors
     /// `Lacks` with the digest of the first listed segment that neither the archive nor the store has, with the listed size; that neither has it is not proved.
-    /// `Store` with a refusal of [`Store::tables`], of [`Store::segment_stream`] or of [`Store::apply_all`]. After `Store(Device)` the store is halted, and only
-    /// opening the device again shows whether the tables were made. After any other error nothing has changed.
+    /// `Store` with a refusal of [`Store::tables`], of [`Store::segment_stream`] or of [`Store::apply_all`]. After `Store(Device)` the store is halted, and
+    /// only opening the device again shows whether the tables were made. After any other error nothing has changed.
     pub fn receive(
         &mut self,
         alloc: Global,

@@ -15,7 +15,8 @@ returns-then-is_empty-clause-received g c =
     let none = eqb-true (vec_len commands) 0 (sym c.is_empty.ensures ∙ c.if-is_empty.true) in
     let mid = c.commands_for.new.self in
     receives D.size D.story D.failed D.tells c.args.self.now mid mid (map plain_listed c.args.archive.now.tables.items) c.args.delete commands.items
-    c.in-Ok.ensures.reads c.in-Ok.ensures.commands (Ok tt) (ends_none D.size D.story D.failed D.tells mid mid commands.items (omega (arith, commands.ok.0, none)) refl)
+    c.in-Ok.ensures.reads c.in-Ok.ensures.commands (Ok tt)
+    (ends_none D.size D.story D.failed D.tells mid mid commands.items (omega (arith, commands.ok.0, none)) refl)
 
 pub returns-clause-received : goal.returns-clause-received
 returns-clause-received g c =
@@ -29,7 +30,8 @@ returns-clause-received g c =
     let all = c.apply_all.ensures in
     received_ok D.size D.story D.failed D.tells store new ts c.args.delete c.received_by.result
     (receives D.size D.story D.failed D.tells store mid new ts c.args.delete commands.items c.in-Ok.ensures.reads c.in-Ok.ensures.commands c.received_by.result
-    (subst (λ (r : Result (Unit {0}) ReceiveRefusal). EndsAll D.size D.story D.failed D.tells mid (map command_of commands.items) r new) (sym c.received_by.ensures)
+    (subst (λ (r : Result (Unit {0}) ReceiveRefusal). EndsAll D.size D.story D.failed D.tells mid (map command_of commands.items) r new)
+    (sym c.received_by.ensures)
     (ends_all D.size D.story D.failed D.tells mid new commands.items c.apply_all.result (λ none. some (omega (arith, commands.ok.0, none)))
     (record { goes = all.goes; applies = all.applies; line = all.line; same = all.size; count = all.count }))))
 
@@ -45,6 +47,7 @@ returns-clause-refused g c =
     let all = c.apply_all.ensures in
     received_err D.size D.story D.failed D.tells store new ts c.args.delete c.received_by.result
     (receives D.size D.story D.failed D.tells store mid new ts c.args.delete commands.items c.in-Ok.ensures.reads c.in-Ok.ensures.commands c.received_by.result
-    (subst (λ (r : Result (Unit {0}) ReceiveRefusal). EndsAll D.size D.story D.failed D.tells mid (map command_of commands.items) r new) (sym c.received_by.ensures)
+    (subst (λ (r : Result (Unit {0}) ReceiveRefusal). EndsAll D.size D.story D.failed D.tells mid (map command_of commands.items) r new)
+    (sym c.received_by.ensures)
     (ends_all D.size D.story D.failed D.tells mid new commands.items c.apply_all.result (λ none. some (omega (arith, commands.ok.0, none)))
     (record { goes = all.goes; applies = all.applies; line = all.line; same = all.size; count = all.count }))))
