@@ -1,5 +1,6 @@
 // Imports and appends a stream that must have its end.
-ghost use Rattle.std.specs.Prelude.{◌≡◌, ◌≢◌, ◌↔◌, ◌≤◌, true, false, codes, length, IfErr, IfOk, IfSome, IsErrAnd, IsNone, IsTrue, Ok, OnOk};
+ghost use Rattle.std.specs.Prelude.{◌≡◌, ◌≢◌, ◌↔◌, ◌≤◌, true, false, codes, length, Ok};
+ghost use Rattle.std.specs.Prelude.{IfErr, IfOk, IfSome, IsErrAnd, IsNone, IsTrue, OnOk};
 ghost use Rattle.std.specs.Io.KnownBytes.{Appends};
 ghost use Rattle.ipc_message.specs.Framing.{Envelope, message, next_message, taken};
 ghost use Rattle.tables.specs.Commands.{import_stream, append_stream};

@@ -5,7 +5,8 @@
 //! [`print_selection`], [`print_summary`], [`export_table`] and [`check_tables`] read them; [`compact_tables`] joins their segments,
 //! [`upgrade_store`] gives the segments digests, [`copy_tables`] copies all tables into another store, and [`salvage_table`] writes what can be
 //! read of a damaged one. [`list_digests`] prints the digests of the segments, [`read_digests`] reads such a list, and [`send_archive`] writes an archive
-//! of the tables without the segments that its receiver has; [`archive_in`] reads one, and [`receive_archive`] makes its tables those of a store. Their contracts say which bytes are read and written, and what becomes of the store.
+//! of the tables without the segments that its receiver has; [`archive_in`] reads one, and [`receive_archive`] makes its tables those of a store. Their
+//! contracts say which bytes are read and written, and what becomes of the store.
 //! [`recode`] reads a stream and writes its canonical form.
 //!
 //! ```

@@ -151,10 +151,12 @@ fn append_or_refuse<D: SectorDevice, W: Write>(
     command: Option<Command>,
     output: &mut W,
 ) -> Result<(), Refusal>
-    ensures goes { (s : PlainSchema) (rows : List (List Cell)) → option_map (λ e. e.schema) (entry_of (listed_in store.old) name.now) ≡ Some s → AppendsRows name.now s rows command
+    ensures goes { (s : PlainSchema) (rows : List (List Cell)) → option_map (λ e. e.schema) (entry_of (listed_in store.old) name.now) ≡ Some s
+        → AppendsRows name.now s rows command
         → D.tells ≡ true → (base : Tables) (m : Machine) → StoreFits D.size D.story base m store.old
         → Answered (λ answer. GoesOn D.size D.story D.failed base m (apply_call (append_rows name.now rows)) (ended answer) store.old store.new) result }
-    ensures told { (s : PlainSchema) (rows : List (List Cell)) → option_map (λ e. e.schema) (entry_of (listed_in store.old) name.now) ≡ Some s → AppendsRows name.now s rows command
+    ensures told { (s : PlainSchema) (rows : List (List Cell)) → option_map (λ e. e.schema) (entry_of (listed_in store.old) name.now) ≡ Some s
+        → AppendsRows name.now s rows command
         → Answered (λ answer. AnswersCommand D.size D.story D.failed D.tells (append_rows name.now rows) answer store.old store.new) result }
     ensures written { OnOk result (Appends (W.contents output.old) (W.contents output.new) (codes "ok\n")) }
     ensures silent { IfErr result (λ refusal. refusal ≢ Refusal.Io Side.Output → output.new ≡ output.old) }
