@@ -35,9 +35,9 @@ fn digests_of<F: Read + OpenFile + Drop, H: Files<File = F> + AllocGlobal, R: Re
     list: Option<&str>,
     input: &mut R,
 ) -> Result<Vec<[u8; 32]>, Refusal>
-    ensures read { IfOk result (λ digests. HasDigestsOf F.remaining (R.remaining input.old) (option_map (λ l. l.now) list) digests.items) }
-    ensures told { IfErr result (RefusesDigestsOf F.remaining (R.remaining input.old) (R.remaining input.new) (option_map (λ l. l.now) list)) }
-    ensures unread { names_input (option_map (λ l. l.now) list) ≡ false → input.new ≡ input.old }
+    ensures read { IfOk result (λ digests. HasDigestsOf F.remaining (R.remaining input.old) (option_map (λ l. l.now) list.entry) digests.items) }
+    ensures told { IfErr result (RefusesDigestsOf F.remaining (R.remaining input.old) (R.remaining input.new) (option_map (λ l. l.now) list.entry)) }
+    ensures unread { names_input (option_map (λ l. l.now) list.entry) ≡ false → input.new ≡ input.old }
 {
     match list {
         Some(name) => listed_digests(rt, name, input),
@@ -53,7 +53,7 @@ pub(crate) fn serve_send<
     W: Write,
 >(rt: &H, path: &str, list: Option<&str>, input: &mut R, output: &mut W) -> Result<(), Refusal>
     ensures sends { SendsArchive ⟦<FileDevice<SystemFile<F>> as SectorDevice>⟧ IsOpenedFile F.remaining R.remaining W.contents
-        (option_map (λ l. l.now) list) input.old input.new output.old output.new result }
+        (option_map (λ l. l.now) list.entry) input.old input.new output.old output.new result }
     // A refusal writes nothing, unless the store or a write failed.
     ensures silent { IfErr result (λ refusal. ¬ IsOfSending refusal → output.new ≡ output.old) }
 {

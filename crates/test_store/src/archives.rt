@@ -1,5 +1,5 @@
-// The digests of a store's segments, and archives of it, by the SHA-256 of the whole archive. An archive with these bytes was made by hand from the page of the definition and a store of the
-// same tables, and `tar` lists its members.
+// The digests of a store's segments, and archives of it, by the SHA-256 of the whole archive. An archive with these bytes was made by hand from the page of
+// the definition and a store of the same tables, and `tar` lists its members.
 use crate::inputs::{Cell, INT};
 use crate::made::{NotMade, assert_no_row};
 use crate::playing::{Slot, Way, new_slot, play};

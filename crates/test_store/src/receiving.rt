@@ -22,10 +22,9 @@ enum Had {
     OfSender,
 }
 
-/// A store whose archive another store receives.
+/// A store that receives the archive of another one.
 #[derive(Clone, Copy)]
 struct Row {
-    sender: Steps,
     receiver: Steps,
     had: Had,
     delete: bool,
@@ -83,37 +82,30 @@ const JOINED: Steps = &[
     (Compact, "merged"),
 ];
 
-const fn row(receiver: Steps, had: Had, delete: bool, want: &'static str, commits: u64) -> Row {
-    Row {
-        sender: SENDER,
-        receiver,
-        had,
-        delete,
-        answer: "ok",
-        want,
-        commits,
-    }
-}
+// What a store with these steps makes of the archive: its values then, and its commits.
+type Received = (Steps, Had, bool, &'static str, u64);
 
-const RECEIVED: &[Row] = &[
-    row(EMPTY, Nothing, false, TABLES, 1),
-    row(EMPTY, OfReceiver, true, TABLES, 1),
-    row(BEGUN, Nothing, false, TABLES, 1),
-    row(BEGUN, OfReceiver, false, TABLES, 1),
-    row(CHANGED, Nothing, false, TABLES, 1),
-    row(CHANGED, OfReceiver, false, TABLES, 1),
-    row(LONGER, OfReceiver, false, TABLES, 1),
-    row(OTHER_FIELDS, OfReceiver, false, TABLES, 1),
-    row(JOINED, OfReceiver, false, TABLES, 1),
+const RECEIVED: &[Received] = &[
+    (EMPTY, Nothing, false, TABLES, 1),
+    (EMPTY, OfReceiver, true, TABLES, 1),
+    (BEGUN, Nothing, false, TABLES, 1),
+    (BEGUN, OfReceiver, false, TABLES, 1),
+    (CHANGED, Nothing, false, TABLES, 1),
+    (CHANGED, OfReceiver, false, TABLES, 1),
+    (LONGER, OfReceiver, false, TABLES, 1),
+    (OTHER_FIELDS, OfReceiver, false, TABLES, 1),
+    (JOINED, OfReceiver, false, TABLES, 1),
     // The segments are those of another table, which stays or goes.
-    row(RENAMED, OfReceiver, false, "t: 7 -1 5, u:, w: 7 -1 5", 1),
-    row(RENAMED, OfReceiver, true, TABLES, 1),
+    (RENAMED, OfReceiver, false, "t: 7 -1 5, u:, w: 7 -1 5", 1),
+    (RENAMED, OfReceiver, true, TABLES, 1),
     // Nothing differs.
-    row(SENDER, OfReceiver, true, TABLES, 0),
-    row(SENDER, Nothing, false, TABLES, 0),
-    // A segment is in neither.
+    (SENDER, OfReceiver, true, TABLES, 0),
+    (SENDER, Nothing, false, TABLES, 0),
+];
+
+// A segment is in neither.
+const LACKING: &[Row] = &[
     Row {
-        sender: SENDER,
         receiver: BEGUN,
         had: OfSender,
         delete: true,
@@ -122,7 +114,6 @@ const RECEIVED: &[Row] = &[
         commits: 0,
     },
     Row {
-        sender: SENDER,
         receiver: EMPTY,
         had: OfSender,
         delete: false,
@@ -207,7 +198,7 @@ fn epoch_of(alloc: Global, store: &Store<ModelDevice>) -> Result<u64, NotMade> {
 }
 
 fn is_received(alloc: Global, row: &Row) -> Result<bool, NotMade> {
-    let mut sender = opened(alloc, row.sender)?;
+    let mut sender = opened(alloc, SENDER)?;
     let mut receiver = opened(alloc, row.receiver)?;
     let bytes = sent(alloc, row.had, &mut sender, &mut receiver)?;
     let archive = read_archive(alloc, &bytes).map_err(|_| NotMade)?;
@@ -221,8 +212,29 @@ fn is_received(alloc: Global, row: &Row) -> Result<bool, NotMade> {
     Ok(well && contents(alloc, &mut receiver.close())?.as_str() == row.want)
 }
 
-fn wrong_row(alloc: Global, rows: &[Row]) -> Result<Option<usize>, NotMade> {
-    for (place, row) in rows.iter().enumerate() {
+fn row_of(received: &Received) -> Row {
+    let (receiver, had, delete, want, commits) = *received;
+    Row {
+        receiver,
+        had,
+        delete,
+        answer: "ok",
+        want,
+        commits,
+    }
+}
+
+fn wrong_received(alloc: Global) -> Result<Option<usize>, NotMade> {
+    for (place, received) in RECEIVED.iter().enumerate() {
+        if !is_received(alloc, &row_of(received))? {
+            return Ok(Some(place));
+        }
+    }
+    Ok(None)
+}
+
+fn wrong_lacking(alloc: Global) -> Result<Option<usize>, NotMade> {
+    for (place, row) in LACKING.iter().enumerate() {
         if !is_received(alloc, row)? {
             return Ok(Some(place));
         }
@@ -232,7 +244,12 @@ fn wrong_row(alloc: Global, rows: &[Row]) -> Result<Option<usize>, NotMade> {
 
 #[test]
 fn tables_are_received(rt: HostRuntime) {
-    assert_no_row(&rt, wrong_row(rt.alloc(), RECEIVED));
+    assert_no_row(&rt, wrong_received(rt.alloc()));
+}
+
+#[test]
+fn an_archive_without_a_segment_is_refused(rt: HostRuntime) {
+    assert_no_row(&rt, wrong_lacking(rt.alloc()));
 }
 
 // Returns whether a store on this device, of which one call fails, receives the archive, or none of it.
