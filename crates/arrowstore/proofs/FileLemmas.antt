@@ -41,7 +41,7 @@ use Rattle.clap.specs.declared.error.kind.ErrorKind.TheVariants.{OutOfMemory}
 use Rattle.cli_requests.specs.Apps.{IsOfMemory}
 use Rattle.cli_requests.specs.declared.store_command_line.Mistake.{Mistake}
 use Rattle.cli_requests.specs.declared.store_command_line.Mistake.TheVariants as mistakes
-use Rattle.cli_requests.specs.StoreWords.{takes_input, takes_input_word, first_word}
+use Rattle.cli_requests.specs.StoreWords.{takes_input, takes_input_word, changes_by_input_word, first_word}
 use Rattle.arrowstore.specs.OnFiles.{IsOpenedFile, IsOfFile, FailsToFormat, RefusesFormat, WritesPart, status_of}
 
 -- a file was not opened
@@ -161,7 +161,7 @@ sign_takes_none mistake is memory = subst IsOfMemory is memory
 
 -- a command whose word says that it reads the input
 pub takes_input_by : (arguments : List Text) (word : Text) → word ≡ first_word arguments → takes_input_word word ≡ true → takes_input arguments ≡ true
-unfolding takes_input first_word takes_input_word
+unfolding takes_input first_word takes_input_word changes_by_input_word
 takes_input_by [] word same takes = absurd (true≢false (sym takes ∙ ap takes_input_word same))
 takes_input_by (name ∷ []) word same takes = absurd (true≢false (sym takes ∙ ap takes_input_word same))
 takes_input_by (name ∷ other ∷ rest) word same takes = sym (ap takes_input_word same) ∙ takes
