@@ -11,7 +11,7 @@ use Step::{Append, Compact, Create, Format, Import, Rename};
 use sector_dev::{CrashChoice, ModelDevice, SectorDevice};
 use std::alloc::Global;
 use store::{ReceiveRefusal, Store, StoreOrDevice};
-use table_archive::{Archive, read_archive};
+use table_archive::read_archive;
 use tables::Refusal;
 
 /// The segments without which an archive is made.
@@ -252,14 +252,11 @@ fn an_archive_without_a_segment_is_refused(rt: HostRuntime) {
     assert_no_row(&rt, wrong_lacking(rt.alloc()));
 }
 
-// Returns whether a store on this device, of which one call fails, receives the archive, or none of it.
-fn is_all_or_none(
-    alloc: Global,
-    device: ModelDevice,
-    archive: &Archive<'_>,
-) -> Result<bool, NotMade> {
+// Returns whether a store on this device, of which one call fails, receives the archive with these bytes, or none of it.
+fn is_all_or_none(alloc: Global, device: ModelDevice, bytes: &[u8]) -> Result<bool, NotMade> {
+    let archive = read_archive(alloc, bytes).map_err(|_| NotMade)?;
     let mut receiver = Store::open(alloc, device).map_err(|_| NotMade)?;
-    let answer = text_of(receiver.receive(alloc, archive, true));
+    let answer = text_of(receiver.receive(alloc, &archive, true));
     let left = receiver.close();
     for choice in [CrashChoice::Old, CrashChoice::New, CrashChoice::Bits(1)] {
         let found = contents(alloc, &mut left.crash(choice)?)?;
@@ -276,11 +273,10 @@ fn wrong_failure(alloc: Global, before: Steps, calls: u64) -> Result<Option<usiz
     let mut sender = opened(alloc, SENDER)?;
     let mut bytes = Vec::new(alloc);
     sender.send(alloc, &[], &mut bytes).map_err(|_| NotMade)?;
-    let archive = read_archive(alloc, &bytes).map_err(|_| NotMade)?;
     for call in 2..calls {
         let mut device = device_after(alloc, before, Way::EachCall)?;
         device.fail_at(call);
-        if !is_all_or_none(alloc, device, &archive)? {
+        if !is_all_or_none(alloc, device, &bytes)? {
             return Ok(Some(call as usize));
         }
     }
