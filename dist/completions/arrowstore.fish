@@ -19,6 +19,9 @@ complete -c arrowstore -n __fish_use_subcommand -a info -d 'Prints the size of t
 complete -c arrowstore -n __fish_use_subcommand -a compact -d 'Merges small segments, moves the last ones forward, and prints the number of steps'
 complete -c arrowstore -n __fish_use_subcommand -a upgrade -d 'Adds a digest to each segment of a store of version 1, and makes it version 2'
 complete -c arrowstore -n __fish_use_subcommand -a copy -d 'Copies all tables of a store into a new store of the given number of sectors'
+complete -c arrowstore -n __fish_use_subcommand -a have -d 'Prints the digest of each segment, a line each'
+complete -c arrowstore -n __fish_use_subcommand -a send -d 'Writes an archive of all tables to standard output, without the segments that its receiver has'
+complete -c arrowstore -n __fish_use_subcommand -a receive -d 'Reads an archive from standard input, and makes its tables those of the store in one commit'
 complete -c arrowstore -n __fish_use_subcommand -a replay -d 'Plays a script on a device in memory that fails or stops, and prints what a crash leaves'
 complete -c arrowstore -n __fish_use_subcommand -a recode -d 'Reads an Arrow IPC stream from standard input, and writes the same rows as a stream in canonical form'
 complete -c arrowstore -n __fish_use_subcommand -a help -d 'Print this message or the help of the given command'
@@ -90,6 +93,17 @@ complete -c arrowstore -n '__fish_seen_subcommand_from upgrade' -s h -l help -d 
 complete -c arrowstore -n '__fish_seen_subcommand_from copy; and test (count (commandline -opc)) -eq 2' -F
 complete -c arrowstore -n '__fish_seen_subcommand_from copy' -l wait -d 'Waits for other commands on the store, instead of being refused'
 complete -c arrowstore -n '__fish_seen_subcommand_from copy' -s h -l help -d 'Print help'
+complete -c arrowstore -n '__fish_seen_subcommand_from have; and test (count (commandline -opc)) -eq 2' -F
+complete -c arrowstore -n '__fish_seen_subcommand_from have' -l wait -d 'Waits for other commands on the store, instead of being refused'
+complete -c arrowstore -n '__fish_seen_subcommand_from have' -s h -l help -d 'Print help'
+complete -c arrowstore -n '__fish_seen_subcommand_from send; and test (count (commandline -opc)) -eq 2' -F
+complete -c arrowstore -n '__fish_seen_subcommand_from send' -l wait -d 'Waits for other commands on the store, instead of being refused'
+complete -c arrowstore -n '__fish_seen_subcommand_from send' -l have -x -d 'The digests of the segments that the receiver has, as have prints them: these segments are left out; - reads them from standard input'
+complete -c arrowstore -n '__fish_seen_subcommand_from send' -s h -l help -d 'Print help'
+complete -c arrowstore -n '__fish_seen_subcommand_from receive; and test (count (commandline -opc)) -eq 2' -F
+complete -c arrowstore -n '__fish_seen_subcommand_from receive' -l wait -d 'Waits for other commands on the store, instead of being refused'
+complete -c arrowstore -n '__fish_seen_subcommand_from receive' -l delete -d 'Drops the tables that are not in the archive'
+complete -c arrowstore -n '__fish_seen_subcommand_from receive' -s h -l help -d 'Print help'
 complete -c arrowstore -n '__fish_seen_subcommand_from replay; and test (count (commandline -opc)) -eq 2' -F
 complete -c arrowstore -n '__fish_seen_subcommand_from replay' -l sectors -x -d 'The number of sectors of the device, of 512 bytes each, 16 to 4194304'
 complete -c arrowstore -n '__fish_seen_subcommand_from replay' -l fail -x -d 'The write or sync that fails once, counted from 1; 0, the default, means none'
@@ -98,4 +112,4 @@ complete -c arrowstore -n '__fish_seen_subcommand_from replay' -l choice -x -d '
 complete -c arrowstore -n '__fish_seen_subcommand_from replay' -l format-version -x -d 'The version of the store: 2, with a digest of each segment, is the default; 1 is without digests'
 complete -c arrowstore -n '__fish_seen_subcommand_from replay' -s h -l help -d 'Print help'
 complete -c arrowstore -n '__fish_seen_subcommand_from recode' -s h -l help -d 'Print help'
-complete -c arrowstore -n '__fish_seen_subcommand_from help' -a 'format create import append query export rename drop apply tables schema check salvage info compact upgrade copy replay recode refusals F1 F2 F3 F4 F5 F6 F7 F8 F9 F10 F11 F12 F13 F14 F15 F16 F17 F18 F19 F20 F21 F22 F23 F24 F25 F26 F27 F28 F29 F30 G1 G2 G3 C1 C3 C4 P1 P2 P3 X1 X2 X3 X4 X5 X6 X7 X8 X9 X10 X11 X12 X13 X14 X15 X16 X17 X18 X19 Q1 Q2 Q3 S1 S2 S3 S4 S5 S6 S7 S8 S9 S10 S12 S13 S15 T1 OutOfMemory'
+complete -c arrowstore -n '__fish_seen_subcommand_from help' -a 'format create import append query export rename drop apply tables schema check salvage info compact upgrade copy have send receive replay recode refusals F1 F2 F3 F4 F5 F6 F7 F8 F9 F10 F11 F12 F13 F14 F15 F16 F17 F18 F19 F20 F21 F22 F23 F24 F25 F26 F27 F28 F29 F30 G1 G2 G3 C1 C3 C4 P1 P2 P3 A1 A2 A3 A4 X1 X2 X3 X4 X5 X6 X7 X8 X9 X10 X11 X12 X13 X14 X15 X16 X17 X18 X19 Q1 Q2 Q3 S1 S2 S3 S4 S5 S6 S7 S8 S9 S10 S12 S13 S15 T1 OutOfMemory'
