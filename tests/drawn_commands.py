@@ -6,7 +6,7 @@ import drawn_texts
 import streams
 from advice_forms import MOST_LISTED, TYPES, nearest
 from fields import BINARIES, NUMBERS, Field, Kind, encoded, is_nested, printed, stream_of
-from text_rules import NAMES, Facts, claims_of_csv, claims_of_line, is_visible, refused_in_csv, refused_in_lines, shown, typed_integer
+from text_rules import MOST_SHOWN, NAMES, Facts, claims_of_csv, claims_of_line, is_visible, refused_in_csv, refused_in_lines, shown, typed_integer
 
 OPERATORS = ("=", "!=", "<", "<=", ">", ">=")
 CREATABLE = re.compile(r"[^ :,<>()?\"]+")
@@ -145,7 +145,10 @@ def refused_query(fields, columns, conditions, is_objects):
             return refused
     again = [name for place, name in enumerate(names) if name in names[:place]]
     if is_objects and columns is None and again:
-        return refused_name(fields, "column", next((name for name in again if len(name.encode()) <= 100), again[0]), again[0])
+        # Of names that no terminal is shown none is told.
+        if (name := next((name for name in again if len(name.encode()) <= MOST_SHOWN), None)) is None:
+            return Facts("Q1")
+        return refused_name(fields, "column", name, again[0])
     return None
 
 
@@ -177,7 +180,7 @@ def draw_query(pick, stores):
     words = ["query", stores.path, name, *([f"--columns={columns}"] if columns is not None else [])]
     words += ["--save", "saved"] if is_saved else ["--objects"] if is_objects else []
     line = {"Q1": "Q1 UnknownColumn", "Q2": "Q2 BadCondition", "Q3": "Q3 NotComparable"}[refused.code]
-    due = [f"word_{refused.role}", *refused.about] if is_visible(refused.word) else []
+    due = [f"word_{refused.role}", *refused.about] if refused.word is not None and is_visible(refused.word) else []
     # The form of a condition is tested before the store is opened.
     is_by_store = is_saved and all(parsed(condition)[3] for condition in conditions)
     return Draw([*words, "--", *conditions], b"", f"S12 Query {line}" if is_by_store else line, refused, due)
