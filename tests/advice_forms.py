@@ -12,7 +12,8 @@ TYPES = ("null bool int8 int16 int32 int64 uint8 uint16 uint32 uint64 utf8 large
 # Types that other systems name so, as far as they are drawn.
 MEANT = {"string": {"utf8"}, "text": {"utf8"}, "str": {"utf8"}, "varchar": {"utf8"}, "int": {"int64"}, "integer": {"int64"}, "bigint": {"int64"},
          "long": {"int64"}, "boolean": {"bool"}, "bytes": {"binary"}, "blob": {"binary"}, "date": {"date_day"}, "datetime": {"timestamp_us"},
-         "timestamp": {"timestamp_us"}, "smallint": {"int16"}, "tinyint": {"int8"}, "int128": {"int64"}, "uint128": {"uint64"}}
+         "timestamp": {"timestamp_us"}, "smallint": {"int16"}, "tinyint": {"int8"}, "int128": {"int64"},
+         "uint128": {"uint64"}, "uint": {"uint64"}, "short": {"int16"}, "date32": {"date_day"}, "date64": {"date_ms"}}
 
 
 def edits(one, other):
