@@ -11,7 +11,7 @@ PREFIX ?= /usr/local
 # Where this is set, the program says more than the tests expect.
 unexport ARROWSTORE_ADVICE
 
-.PHONY: all proved dist install uninstall test gate-cost gate wrong-bodies memory vectors bench bench-recode bench-dictionaries bench-shapes bench-texts bench-store bench-commits bench-device bench-bitmap
+.PHONY: all proved dist install uninstall test gate-cost gate wrong-bodies memory vectors bench bench-recode bench-dictionaries bench-shapes bench-texts bench-store bench-archives bench-commits bench-device bench-bitmap
 .DELETE_ON_ERROR:
 
 # Puts the program into bin/ and runs it once, on the stream of examples/.
@@ -106,7 +106,7 @@ vectors: bin/arrowstore
 	tests/costs bin/arrowstore
 	tests/dist bin/arrowstore
 
-bench: bench-recode bench-dictionaries bench-shapes bench-texts bench-store bench-commits bench-device bench-bitmap
+bench: bench-recode bench-dictionaries bench-shapes bench-texts bench-store bench-archives bench-commits bench-device bench-bitmap
 
 bench-recode: bin/arrowstore
 	bench/recode bin/arrowstore
@@ -123,6 +123,9 @@ bench-texts: bin/arrowstore
 
 bench-store: bin/arrowstore crates/bench/out/bench
 	bench/store $^
+
+bench-archives: bin/arrowstore
+	bench/archives bin/arrowstore
 
 bench-commits: bin/arrowstore
 	bench/commits bin/arrowstore
