@@ -1,8 +1,12 @@
-"""What the benchmarks share: the cost of a run, and the stream of one column of integers."""
+"""What the benchmarks share: the cost of a run, and the streams that several of them measure."""
+import argparse
+import importlib.machinery
+import importlib.util
 import os
 import random
 import shutil
 import struct
+import subprocess
 import sys
 
 sys.path.insert(0, os.path.join(os.path.dirname(os.path.abspath(__file__)), "..", "tests"))
@@ -11,6 +15,41 @@ import streams
 RUNS = 3
 ROWS_IN_BATCH = 65536
 CAT = shutil.which("cat")
+HERE = os.path.dirname(os.path.abspath(__file__))
+
+
+def script(name):
+    """Another benchmark, for its shapes."""
+    loader = importlib.machinery.SourceFileLoader(f"bench_{name}", os.path.join(HERE, f"{name}.py"))
+    made = importlib.util.module_from_spec(importlib.util.spec_from_loader(loader.name, loader))
+    loader.exec_module(made)
+    return made
+
+
+def compiled(name, room, *flags):
+    """A C program of this folder."""
+    made = os.path.join(room, name)
+    subprocess.run(["gcc", "-O2", *flags, "-o", made, os.path.join(HERE, f"{name}.c"), "-ldl"], check=True)
+    return made
+
+
+def quiet(words, given=None):
+    """Runs a program that is not measured."""
+    with open(given or os.devnull, "rb") as source:
+        subprocess.run(words, stdin=source, stdout=subprocess.DEVNULL, check=True)
+
+
+def parser_of(about, has_shapes=False):
+    """The arguments that every benchmark takes."""
+    parser = argparse.ArgumentParser(description=about, formatter_class=argparse.RawDescriptionHelpFormatter)
+    parser.add_argument("program", type=os.path.abspath, help="the program that is measured")
+    if has_shapes:
+        parser.add_argument("words", nargs="*", metavar="WORD", help="only the shapes whose names have one of these; all, if none is given")
+    return parser
+
+
+def is_chosen(name, words):
+    return not words or any(word in name for word in words)
 
 
 def cost(words, path=os.devnull, environment=None):

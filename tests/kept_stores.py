@@ -109,17 +109,18 @@ def laid_store(sectors, steps):
     return laid(sectors, len(steps) + 1, b"", list_text(after_all(steps)))
 
 
-def laid_segments(sectors, tables):
-    """A store of these tables of one column, each of whose rows is a segment of one sector."""
-    entries, segments = [], []
+def laid_segments(sectors, tables, place_of=lambda count: count):
+    """A store of these tables of one column, each of whose rows is a segment of one sector, at the place that its number in the list of all has."""
+    entries, segments = [], {}
     for name, table in sorted(tables.items()):
         places = []
         for value in table.values[0]:
-            segment = stream(table.columns, [[[value]]])
-            places.append(b"".join(number(part, 8) for part in (2 + len(segments), 1, len(segment), 1)))
-            segments.append(segment.ljust(SECTOR, b"\0"))
+            segment, place = stream(table.columns, [[[value]]]), place_of(len(segments))
+            places.append(b"".join(number(part, 8) for part in (2 + place, 1, len(segment), 1)))
+            segments[place] = segment.ljust(SECTOR, b"\0")
         entries.append(entry_text(name, table, b"".join(places)))
-    return laid(sectors, 2, b"".join(segments), number(len(tables), 4) + b"".join(entries))
+    front = b"".join(segments[place] for place in range(len(segments)))
+    return laid(sectors, 2, front, number(len(tables), 4) + b"".join(entries))
 
 
 def table_lines(tables):

@@ -2,6 +2,7 @@
 use Rattle.std.specs.Prelude.{◌≡◌, ◌⊎◌, ◌≤◌, ℕ, Bool, true, false, List, [], ◌∷◌, codes, bit_and, Option, Some, None, IfSome, IsSome, map, option_map, Result, Ok, Err, IfErr, OnOk, IsErrAnd}
 use Rattle.std.specs.Fs.{metadata_mode}
 use Rattle.std.specs.declared.fs.attrs.Metadata.{Metadata}
+use Rattle.std.specs.Borrow.{Bor}
 use Rattle.std.specs.Io.KnownBytes.{Appends}
 use Rattle.std.specs.Str.{bytes_eq}
 use Rattle.std.specs.declared.io.traits.Read.{Ghosts as ReadGhosts}
@@ -20,6 +21,7 @@ use Rattle.commit.specs.Standing.{is_size}
 use Rattle.store.specs.declared.store.Store.{Store}
 use Rattle.commit.specs.declared.sector.FormatVersion.{FormatVersion}
 use Rattle.catalogue.specs.Edits.{entry_of}
+use Rattle.catalogue.specs.Entries.{PlainCatalogue}
 use Rattle.tables.specs.Tables.{Tables}
 use Rattle.tables.specs.Commands.{all_of, commands_of}
 use Rattle.store.specs.Applying.{GoesOn}
@@ -74,7 +76,7 @@ use Rattle.cli_requests.specs.declared.store_words.StoreCommand.{StoreCommand}
 use Rattle.cli_requests.specs.declared.store_words.StoreRequest.{StoreRequest}
 use Rattle.cli_requests.specs.declared.store_words.StoreRequest.TheVariants as requests
 use Rattle.arrowstore.specs.declared.open_command.OpenCommand.{OpenCommand}
-use Rattle.arrowstore.specs.OpenCommands.{States, RefusesStating}
+use Rattle.arrowstore.specs.OpenCommands.{States, RefusesStating, RefusesUnreadBy, PassesUnread, reads_input}
 use Rattle.arrowstore.specs.OnDevice.{IsOpened, RefusesOpening, ServesDevice}
 use Rattle.arrowstore.specs.declared.notes.Remarks.{Remarks}
 use Rattle.arrowstore.specs.Serving.{Channels, channels, image_of, remarked}
@@ -105,13 +107,6 @@ pub record ServesStated {D : Type 0} (g : Ghosts D) (is_opened : D → Type 0) {
   pub opened : is_opened device
   pub back : D
   pub serves : ServesDevice g remaining contents stated device back before after result
-
--- a command was served so, or it was refused before a device was opened, and nothing has changed
-abbrev pub ServesCommand : {D : Type 0} → (g : Ghosts D) → (is_opened : D → Type 0) → {R W : Type 0} → (remaining : R → Option (List ℕ))
-    → (contents : W → Option (List ℕ)) → StoreCommand → (before after : Channels R W) → Result (Unit {0}) Refusal → Type 0
-ServesCommand g is_opened remaining contents command before after result =
-    IsErrAnd result (λ refusal. RefusesCommand command refusal × (after ≡ before))
-    ⊎ ServesStated g is_opened remaining contents command before after result
 
 -- why no store of this version is made on a device with this number of sectors
 unfoldable pub FailsToFormat : {D : Type 0} → (g : Ghosts D) → (sectors : ℕ) → FormatVersion → Refusal → Type 0
@@ -394,6 +389,68 @@ abbrev pub ReceivesArchive : {D : Type 0} → (g : Ghosts D) → (is_opened : D 
 ReceivesArchive g is_opened remaining contents delete input input' output output' result =
     IsErrAnd result (λ refusal. RefusesInput (remaining input) (remaining input') refusal × (output' ≡ output))
     ⊎ ((bytes : List ℕ) × IsWholeInput (remaining input) bytes × ReceivesBytes g is_opened contents bytes delete output output' result)
+
+-- ---- a command whose input may keep it waiting: the input is read while the store is not locked
+
+-- the same, with another input
+abbrev pub with_input : {R H W : Type 0} → H → Channels R W → Channels H W
+with_input input c = record { input = input; output = c.output; hint = c.hint; note = c.note }
+
+-- all but the input
+abbrev pub besides_input : {R W : Type 0} → Channels R W → Channels (Unit {0}) W
+besides_input c = with_input tt c
+
+-- what bytes in memory have left as an input
+abbrev pub left_of : Bor (List ℕ) → Option (List ℕ)
+left_of bytes = Some bytes.now
+
+-- a store was opened to test the command before its input is read, and for the tables of that store this holds
+abbrev pub IsFirst : {D : Type 0} → (g : Ghosts D) → (is_opened : D → Type 0) → (of_tables : (halted : Bool) → PlainCatalogue → Type 0) → Type 0
+IsFirst {D} g is_opened of_tables = (store : Store D g) × OpensStore g is_opened store × of_tables (is_halted store) (listed_in store)
+
+-- a command was carried out on a device that was opened for it, with these bytes as its input
+pub record ServesBytes {D : Type 0} (g : Ghosts D) (is_opened : D → Type 0) {R W : Type 0} (contents : W → Option (List ℕ)) (command : OpenCommand)
+    (bytes : List ℕ) (before after : Channels R W) (result : Result (Unit {0}) Refusal) : Type 0 where
+  pub device : D
+  pub opened : is_opened device
+  pub back : D
+  pub input : Bor (List ℕ)
+  pub given : input.now ≡ bytes
+  pub rest : Bor (List ℕ)
+  pub serves : ServesDevice g left_of contents command device back (with_input input before) (with_input rest after) result
+
+-- the whole input was read and given to the command so; or it is not read, or no file is opened then, and nothing but the input has changed
+abbrev pub ServesPassed : {D : Type 0} → (g : Ghosts D) → (is_opened : D → Type 0) → {R W : Type 0} → (remaining : R → Option (List ℕ))
+    → (contents : W → Option (List ℕ)) → OpenCommand → (before after : Channels R W) → Result (Unit {0}) Refusal → Type 0
+ServesPassed g is_opened remaining contents command before after result =
+    IsErrAnd result (λ refusal. RefusesInput (remaining before.input) (remaining after.input) refusal × (besides_input after ≡ besides_input before))
+    ⊎ ((bytes : List ℕ) × IsWholeInput (remaining before.input) bytes
+    × (IsErrAnd result (λ refusal. IsOfFile refusal × (besides_input after ≡ besides_input before))
+    ⊎ ServesBytes g is_opened contents command bytes before after result))
+
+-- a store was opened, and refuses the command unread, or none was opened: nothing has changed; or it passes the command, which is then served so
+abbrev pub ServesWaiting : {D : Type 0} → (g : Ghosts D) → (is_opened : D → Type 0) → {R W : Type 0} → (remaining : R → Option (List ℕ))
+    → (contents : W → Option (List ℕ)) → OpenCommand → (before after : Channels R W) → Result (Unit {0}) Refusal → Type 0
+ServesWaiting g is_opened remaining contents command before after result =
+    IsErrAnd result (λ refusal. (FailsToOpen g is_opened refusal ⊎ IsFirst g is_opened (λ halted c. RefusesUnreadBy command halted c refusal))
+    × (after ≡ before))
+    ⊎ (IsFirst g is_opened (PassesUnread command) × ServesPassed g is_opened remaining contents command before after result)
+
+-- what the words of a command state was served so
+pub record ServesHeld {D : Type 0} (g : Ghosts D) (is_opened : D → Type 0) {R W : Type 0} (remaining : R → Option (List ℕ)) (contents : W → Option (List ℕ))
+    (command : StoreCommand) (before after : Channels R W) (result : Result (Unit {0}) Refusal) : Type 0 where
+  pub stated : OpenCommand
+  pub states : States command stated
+  pub reads : reads_input stated ≡ true
+  pub serves : ServesWaiting g is_opened remaining contents stated before after result
+
+-- a command was served on one device or, if it reads the input, on one that was opened once that was read; or it was refused before a device was opened,
+-- and nothing has changed
+abbrev pub ServesCommand : {D : Type 0} → (g : Ghosts D) → (is_opened : D → Type 0) → {R W : Type 0} → (remaining : R → Option (List ℕ))
+    → (contents : W → Option (List ℕ)) → StoreCommand → (before after : Channels R W) → Result (Unit {0}) Refusal → Type 0
+ServesCommand g is_opened remaining contents command before after result =
+    IsErrAnd result (λ refusal. RefusesCommand command refusal × (after ≡ before))
+    ⊎ (ServesStated g is_opened remaining contents command before after result ⊎ ServesHeld g is_opened remaining contents command before after result)
 
 -- ---- requests
 

@@ -1,6 +1,7 @@
 -- The commands that the words of a store's command line state.
 use Rattle.std.specs.Prelude.{◌≡◌, ℕ, Bool, true, false, List, map, Option, Some}
 use Rattle.std.specs.Option.{option_copied}
+use Rattle.catalogue.specs.Entries.{PlainCatalogue}
 use Rattle.query.specs.Query.{PlainQuery}
 use Rattle.query.specs.View.{query_in}
 use Rattle.tables.specs.Commands as plain
@@ -10,6 +11,7 @@ use Rattle.cli_refusals.specs.declared.refusal.Refusal.{Refusal}
 use Rattle.cli_refusals.specs.declared.refusal.Refusal.TheVariants as refusals
 use Rattle.cli_commands.specs.Changing.{StateSchema, RefusesFields}
 use Rattle.cli_commands.specs.Selecting.{stated_query, RefusesWords}
+use Rattle.cli_commands.specs.Unread.{RefusesImport, RefusesAppending, PassesImport, PassesAppending}
 use Rattle.cli_requests.specs.declared.store_words.QueryWords.{QueryWords}
 use Rattle.cli_requests.specs.declared.store_words.StoreCommand.{StoreCommand}
 use Rattle.cli_requests.specs.declared.store_words.StoreCommand.TheVariants as words
@@ -74,3 +76,23 @@ reads_input (opened.Append name) = true
 reads_input (opened.AppendComplete name) = true
 reads_input (opened.AppendText name form) = true
 reads_input _ = false
+
+-- why a command that reads the input is refused before that, by the tables of its store
+abbrev pub RefusesUnreadBy : OpenCommand → (halted : Bool) → PlainCatalogue → Refusal → Type 0
+RefusesUnreadBy (opened.Import name) halted c refusal = RefusesImport false halted c name.now refusal
+RefusesUnreadBy (opened.ImportNew name) halted c refusal = RefusesImport true halted c name.now refusal
+RefusesUnreadBy (opened.ImportComplete name is_new) halted c refusal = RefusesImport is_new halted c name.now refusal
+RefusesUnreadBy (opened.Append name) halted c refusal = RefusesAppending halted c name.now refusal
+RefusesUnreadBy (opened.AppendComplete name) halted c refusal = RefusesAppending halted c name.now refusal
+RefusesUnreadBy (opened.AppendText name form) halted c refusal = RefusesAppending halted c name.now refusal
+RefusesUnreadBy _ halted c refusal = ⊥
+
+-- it is not: its store is not halted, and passes what is tested first
+abbrev pub PassesUnread : OpenCommand → (halted : Bool) → PlainCatalogue → Type 0
+PassesUnread (opened.Import name) halted c = PassesImport false halted c name.now
+PassesUnread (opened.ImportNew name) halted c = PassesImport true halted c name.now
+PassesUnread (opened.ImportComplete name is_new) halted c = PassesImport is_new halted c name.now
+PassesUnread (opened.Append name) halted c = PassesAppending halted c name.now
+PassesUnread (opened.AppendComplete name) halted c = PassesAppending halted c name.now
+PassesUnread (opened.AppendText name form) halted c = PassesAppending halted c name.now
+PassesUnread _ halted c = Unit {0}

@@ -1,5 +1,5 @@
 -- What each command of an open store reads, writes and leaves, in one definition: for each command the words of its own function.
-use Rattle.std.specs.Prelude.{◌≡◌, ◌≢◌, ℕ, Bool, true, false, List, codes, Option, Some, None, IsSome, Result, Ok, IfErr, IsErrAnd, OnOk}
+use Rattle.std.specs.Prelude.{◌≡◌, ◌≢◌, ◌⊎◌, ℕ, Bool, true, false, List, codes, Option, Some, None, IsSome, Result, Ok, IfErr, IsErrAnd, OnOk}
 use Rattle.std.specs.Io.KnownBytes.{Appends}
 use Rattle.std.specs.List.{AllByRecursion}
 use Rattle.sector_dev.specs.Disk.{Image, now, shown_image}
@@ -36,7 +36,7 @@ use Rattle.cli_refusals.specs.declared.refusal.Side.TheVariants.{Output}
 use Rattle.cli_commands.specs.Archives.{digests_text}
 use Rattle.cli_commands.specs.Changing.{Answered, AnswersCommand, AnswersInput, HandsSchema, RefusesHanding, RefusesTaken, StateSchema, is_listed}
 use Rattle.cli_commands.specs.Compacting.{Compacts}
-use Rattle.cli_commands.specs.Complete.{HandsWhole, RefusesStream, is_taken}
+use Rattle.cli_commands.specs.Complete.{HandsWhole, RefusesWhole}
 use Rattle.cli_commands.specs.Upgrading.{AnsweredUpgrade, AnswersUpgrade}
 use Rattle.cli_commands.specs.Printed.{tables_text, schema_text, summary_text, RefusesPrinting, RefusesSummary}
 use Rattle.cli_commands.specs.Reading.{OfStore, store_ended, IsReadable, RefusesCheck, IfChecked}
@@ -44,6 +44,7 @@ use Rattle.cli_commands.specs.Selecting.{QueryAnswers, RefusesQuery}
 use Rattle.query.specs.Printed.{rows_text}
 use Rattle.cli_commands.specs.TextRows.{HandsRows, RefusesText, IfOfText, IfHinted}
 use Rattle.cli_commands.specs.Typing.{HaveLines, RefusesTyping, lines_of, typed_texts}
+use Rattle.cli_commands.specs.Unread.{RefusesUnread, is_taken}
 use Rattle.cli_texts.specs.declared.notes.Note.{Note}
 use Rattle.arrowstore.specs.declared.notes.Remarks.{Remarks}
 use Rattle.arrowstore.specs.declared.open_command.OpenCommand.{OpenCommand}
@@ -116,17 +117,20 @@ pub record CarriesNew {D : Type 0} {g : Ghosts D} {R W : Type 0} (remaining : R 
   pub silent : IfErr result (λ refusal. refusal ≢ Io Output → after.output ≡ before.output)
   pub unhinted : after.hint ≡ before.hint
 
--- the command that is made of a whole input, which must have its end, is carried out so too, unless a table has the name of the new one
--- (`import_complete`, `append_complete`)
+-- the command that is made of a whole input, which must have its end, is carried out so too, unless a table has the name of the new one, the store is
+-- halted, or the first test fails: then nothing is read (`import_complete`, `append_complete`)
 pub record CarriesWhole {D : Type 0} {g : Ghosts D} {R W : Type 0} (remaining : R → Option (List ℕ)) (contents : W → Option (List ℕ))
-    (command : List ℕ → PlainCommand) (taken : Bool) (old new : Store D g) (before after : Channels R W) (result : Result (Unit {0}) Refusal) : Type 0 where
+    (command : List ℕ → PlainCommand) (taken passes : Bool) (why : tables.Refusal) (old new : Store D g) (before after : Channels R W)
+    (result : Result (Unit {0}) Refusal) : Type 0 where
   pub refused : taken ≡ true → IsErrAnd result RefusesTaken × (after.input ≡ before.input) × (new ≡ old)
+  pub unread : taken ≡ false → (is_halted old ≡ true) ⊎ (passes ≡ false)
+      → IsErrAnd result (RefusesUnread (is_halted old) passes why) × (after.input ≡ before.input) × (new ≡ old)
   pub goes : taken ≡ false → g.tells ≡ true → (base : Tables) (m : Machine) → StoreFits g.size g.story base m old
       → HandsWhole (remaining before.input)
       (λ bytes answer. GoesOn g.size g.story g.failed base m (apply_call (command bytes)) (ended answer) old new) (λ refusal. new ≡ old) result
   pub told : taken ≡ false → HandsWhole (remaining before.input)
       (λ bytes answer. AnswersCommand g.size g.story g.failed g.tells (command bytes) answer old new)
-      (λ refusal. RefusesStream (remaining before.input) (remaining after.input) refusal × (new ≡ old) × (after.output ≡ before.output)) result
+      (λ refusal. RefusesWhole remaining (is_halted old) passes why before.input after.input refusal × (new ≡ old) × (after.output ≡ before.output)) result
   pub written : OnOk result (Appends (contents before.output) (contents after.output) (codes "ok\n"))
   pub unhinted : after.hint ≡ before.hint
 
@@ -186,9 +190,10 @@ Serves remaining contents (opened.Import name) old new before after result =
     CarriesInput remaining contents (import_stream name.now) (is_name name.now) BadName old new before after result
 Serves remaining contents (opened.ImportNew name) old new before after result = CarriesNew remaining contents name.now old new before after result
 Serves remaining contents (opened.ImportComplete name is_new) old new before after result =
-    CarriesWhole remaining contents (import_stream name.now) (is_taken is_new (is_halted old) (listed_in old) name.now) old new before after result
+    CarriesWhole remaining contents (import_stream name.now) (is_taken is_new (is_halted old) (listed_in old) name.now) (is_name name.now) BadName old new
+    before after result
 Serves remaining contents (opened.AppendComplete name) old new before after result =
-    CarriesWhole remaining contents (append_stream name.now) false old new before after result
+    CarriesWhole remaining contents (append_stream name.now) false (has_entry (listed_in old) name.now) NoTable old new before after result
 Serves remaining contents (opened.Append name) old new before after result =
     CarriesInput remaining contents (append_stream name.now) (has_entry (listed_in old) name.now) NoTable old new before after result
 Serves remaining contents (opened.AppendText name form) old new before after result =

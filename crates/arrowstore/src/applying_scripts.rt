@@ -14,7 +14,8 @@ use std::io::{Read, Seek, Write};
 use std::rt::Files;
 use store::Store;
 
-fn device_to_change<
+/// Opens the device in a file, and locks it exclusively.
+pub(crate) fn device_to_change<
     F: Read + Write + Seek + OpenFile + LockFile + Drop,
     H: Files<File = F> + AllocGlobal,
 >(rt: &H, path: &str) -> Result<FileDevice<SystemFile<F>>, FileError>

@@ -91,7 +91,7 @@ fn copy_into_file<
     ensures refused { IfErr result (FailsToCopy ⟦<FileDevice<SystemFile<F>> as SectorDevice>⟧ sectors from.old) }
 {
     let device = FileDevice::create(rt, path, sectors)?;
-    let made = MadeFile::at(rt, path, sectors);
+    let made = MadeFile::of_device(&device);
     let file = remove_on_error(rt, path, made, mark_unfinished(rt, path, made, sectors))?;
     let mut to = format_new(rt, path, made, device, from.version())?;
     match copy_tables(rt.alloc(), from, &mut to) {

@@ -22,6 +22,9 @@ pub trait Input {
 
     /// Returns the system's error if the last read failed.
     fn failure(&self) -> Option<io::Error>;
+
+    /// Returns whether its bytes may come at any time, as those of a terminal or a pipe do, and not those of a file.
+    fn may_wait(&self) -> bool;
 }
 
 /// A reader that passes on what `input` gives, and keeps its first bytes, where quotation marks are open, and how the last read ended.
@@ -33,12 +36,19 @@ pub struct KeptStart<R: Read> {
     is_empty: bool,
     quotation: Option<QuotationWatch>,
     failure: Option<io::Error>,
+    may_wait: bool,
 }
 
 impl<R: Read> KeptStart<R> {
     /// Keeps at most [`MOST_KEPT`] bytes for a terminal or a script, and none for any other audience. A text that may be CSV is watched for
-    /// its quotation marks, also for those alone.
-    pub fn new(alloc: Global, input: R, audience: Audience, may_be_csv: bool) -> KeptStart<R>
+    /// its quotation marks, also for those alone. If `may_wait`, the bytes of the input may come at any time.
+    pub fn new(
+        alloc: Global,
+        input: R,
+        audience: Audience,
+        may_be_csv: bool,
+        may_wait: bool,
+    ) -> KeptStart<R>
         ensures { result.input ≡ input }
     {
         let room = match audience {
@@ -52,6 +62,7 @@ impl<R: Read> KeptStart<R> {
             is_empty: true,
             quotation: watch_for(audience, may_be_csv),
             failure: None,
+            may_wait,
         }
     }
 }
@@ -89,6 +100,10 @@ impl<R: Read> Input for KeptStart<R> {
 
     fn failure(&self) -> Option<io::Error> {
         self.failure
+    }
+
+    fn may_wait(&self) -> bool {
+        self.may_wait
     }
 }
 

@@ -1,5 +1,7 @@
 // The new file of a command, by which it is known wherever another program moves it.
+use sector_dev::{FileDevice, LockFile, SystemFile};
 use std::fs::{self, Metadata, OpenFile};
+use std::io::{Read, Seek, Write};
 use std::os::unix::fs::MetadataExt;
 use std::rt::Files;
 
@@ -22,15 +24,12 @@ impl MadeFile {
         }
     }
 
-    /// Returns the regular file of this number of sectors at the path at which one was just made. Another one of this length is not told
-    /// from it.
-    pub(crate) fn at<H: Files>(rt: &H, path: &str, sectors: u64) -> Option<MadeFile> {
-        let found = fs::symlink_metadata(rt, path).ok()?;
-        if found.len() / 512 == sectors && found.len() % 512 == 0 {
-            MadeFile::of(&found)
-        } else {
-            None
-        }
+    /// Returns the regular file over which a device was made, whatever is at its path by now.
+    pub(crate) fn of_device<F: Read + Write + Seek + OpenFile + LockFile + Drop>(
+        device: &FileDevice<SystemFile<F>>,
+    ) -> Option<MadeFile> {
+        let handle = device.handle().ok()?;
+        MadeFile::of(&handle.metadata().ok()?)
     }
 
     /// Returns whether the file is at this path.

@@ -77,7 +77,18 @@ struct FileNote<'a> {
     path: Option<String>,
 }
 
-impl FileNote<'_> {
+impl<'a> FileNote<'a> {
+    // A note at the same place. If memory for the path is refused, it clears what was noted before.
+    fn again(&self) -> FileNote<'a> {
+        FileNote {
+            failures: self.failures,
+            path: match &self.path {
+                Some(path) => path.clone().ok(),
+                None => None,
+            },
+        }
+    }
+
     // Returns `None` if memory for the path is refused.
     fn failure(&self, call: FileCall, error: io::Error) -> Option<Failure> {
         Some(Failure {
@@ -186,6 +197,16 @@ impl<F: OpenFile> OpenFile for NotedFile<'_, F> {
         self.note(FileCall::Sync, &done);
         done
     }
+
+    fn try_clone(&self) -> io::Result<Self> {
+        Ok(NotedFile {
+            file: self.file.try_clone()?,
+            note: match &self.note {
+                Some(note) => Some(note.again()),
+                None => None,
+            },
+        })
+    }
 }
 
 impl<F: LockFile> LockFile for NotedFile<'_, F> {
@@ -211,5 +232,11 @@ impl<F: LockFile> LockFile for NotedFile<'_, F> {
         let locked = self.file.wait_to_read();
         self.note(FileCall::Lock, &locked);
         locked
+    }
+
+    fn give_back(&self) -> io::Result<()> {
+        let given = self.file.give_back();
+        self.note(FileCall::Lock, &given);
+        given
     }
 }

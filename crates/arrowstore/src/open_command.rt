@@ -89,6 +89,23 @@ pub enum OpenCommand<'a> {
     Have,
 }
 
+impl OpenCommand<'_> {
+    /// Returns whether the command reads the input.
+    pub(crate) fn reads_input(&self) -> bool
+        ensures { result ≡ reads_input self.now }
+    {
+        matches!(
+            self,
+            OpenCommand::Import { .. }
+                | OpenCommand::ImportNew { .. }
+                | OpenCommand::ImportComplete { .. }
+                | OpenCommand::Append { .. }
+                | OpenCommand::AppendComplete { .. }
+                | OpenCommand::AppendText { .. }
+        )
+    }
+}
+
 fn create(alloc: Global, name: &str, fields: &[&str]) -> Result<Command, Refusal>
     ensures stated { IfOk result (λ c. StatesTable name.now (map (λ t. t.now) fields.now) (command_of c)) }
     ensures refused { IfErr result (RefusesFields (map (λ t. t.now) fields.now)) }

@@ -13,8 +13,8 @@ use std::fs::OpenFile;
 use std::io::{Read, Seek, Write};
 use std::rt::Files;
 
-// Reads the whole input.
-fn whole_input<R: Read>(alloc: Global, input: &mut R) -> Result<Vec<u8>, Refusal>
+/// Reads the whole input.
+pub(crate) fn whole_input<R: Read>(alloc: Global, input: &mut R) -> Result<Vec<u8>, Refusal>
     ensures read { IfOk result (λ bytes. IsWholeInput (R.remaining input.old) bytes.items) }
     ensures told { IfErr result (RefusesInput (R.remaining input.old) (R.remaining input.new)) }
 {

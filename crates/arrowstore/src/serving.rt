@@ -8,7 +8,6 @@ ghost use Rattle.cli_requests.specs.StoreWords.{takes_input_word};
 ghost use Rattle.arrowstore.specs.OnFiles.{IsOpenedFile, FailsToFormat, RefusesFormat, Formats, Replays, ServesCommand, ServesRequest, WritesPart};
 ghost use Rattle.arrowstore.specs.Serving.{remarked};
 
-use crate::Remarks;
 use crate::applying_scripts::serve_apply;
 use crate::block_devices::is_device_at;
 use crate::copying_files::serve_copy;
@@ -20,6 +19,8 @@ use crate::replaying::serve_replay;
 use crate::salvaging_files::serve_salvage;
 use crate::sending_archives::serve_send;
 use crate::serving_device::serve_device;
+use crate::waiting_input::serve_waiting;
+use crate::{Input, Remarks};
 use cli_commands::DeviceKind;
 use cli_refusals::{Refusal, Side, write_whole};
 use cli_requests::{StoreCommand, StoreRequest};
@@ -202,7 +203,7 @@ pub(crate) fn format_file<
     ensures refused { IfErr result (RefusesFormat ⟦<FileDevice<SystemFile<F>> as SectorDevice>⟧ sectors version) }
 {
     let device = FileDevice::create(rt, path, sectors)?;
-    let made = MadeFile::at(rt, path, sectors);
+    let made = MadeFile::of_device(&device);
     format_new(rt, path, made, device, version)
 }
 
@@ -227,11 +228,12 @@ fn kind_told<H: Files>(rt: &H, path: &str, command: &StoreCommand<'_>) -> Device
     }
 }
 
-// Serves a command on the store in a file. Its texts are parsed before any system call.
+// Serves a command on the store in a file. Its texts are parsed before any system call. An input that may keep it waiting is read before the file is locked
+// to be changed.
 fn serve_command<
     F: Read + Write + Seek + OpenFile + LockFile + Drop,
     H: Files<File = F> + AllocGlobal,
-    R: Read,
+    R: Read + Input,
     W: Write,
 >(
     rt: &H,
@@ -250,6 +252,9 @@ fn serve_command<
     let kind = kind_told(rt, path, command);
     let command = stated(rt.alloc(), command, kind)?;
     let _places = reserve_standard_descriptors(rt)?;
+    if input.may_wait() && command.reads_input() {
+        return serve_waiting(rt, path, command, input, output, remarks);
+    }
     let device = device_of(rt, path, access)?;
     let (done, _device) = serve_device(rt.alloc(), device, command, input, output, remarks);
     done
@@ -260,7 +265,7 @@ fn serve_command<
 pub(crate) fn serve<
     F: Read + Write + Seek + OpenFile + LockFile + Drop,
     H: Files<File = F> + AllocGlobal,
-    R: Read,
+    R: Read + Input,
     W: Write,
 >(
     rt: &H,

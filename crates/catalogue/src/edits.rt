@@ -32,6 +32,7 @@ pub(crate) fn put_entry(
 }
 
 pub(crate) fn take_entry(entries: &mut Vec<TableEntry>, name: &str) -> Option<TableEntry>
+    requires { ascends (names_of (map plain_entry entries.old.items)) ≡ true }
     ensures removed { map plain_entry entries.new.items ≡ without (map plain_entry entries.old.items) name.now }
     ensures stood { option_map plain_entry result ≡ entry_of (map plain_entry entries.old.items) name.now }
     ensures room { IsSome result → vec_len entries.new < vec_capacity entries.new }
@@ -75,6 +76,9 @@ fn append_more(entry: &mut TableEntry, more: &[Segment]) -> Result<(), AllocErro
     ensures more { OnOk result (plain_entry entry.new ≡ refilled (plain_entry entry.old) ((plain_entry entry.old).segments ++ more.now)) }
     ensures err { OnErr result (plain_entry entry.new ≡ plain_entry entry.old) }
 {
+    if entry.append_own(more)? {
+        return Ok(());
+    }
     let all = joined(entry.alloc(), entry.segments(), more)?;
     *entry = entry.refilled(all)?;
     Ok(())
@@ -86,6 +90,7 @@ pub(crate) fn append_to(
     name: &str,
     more: &[Segment],
 ) -> Result<(), AllocError>
+    requires { ascends (names_of (map plain_entry entries.old.items)) ≡ true }
     ensures appended { OnOk result (map plain_entry entries.new.items ≡ with_more (map plain_entry entries.old.items) name.now more.now) }
     ensures err { OnErr result (map plain_entry entries.new.items ≡ map plain_entry entries.old.items) }
 {
@@ -142,6 +147,7 @@ pub(crate) fn exchange_in(
     count: usize,
     others: &[Segment],
 ) -> Result<(), AllocError>
+    requires { ascends (names_of (map plain_entry entries.old.items)) ≡ true }
     ensures exchanged { OnOk result (map plain_entry entries.new.items ≡ with_exchanged (map plain_entry entries.old.items) name.now place count others.now) }
     ensures err { OnErr result (map plain_entry entries.new.items ≡ map plain_entry entries.old.items) }
 {

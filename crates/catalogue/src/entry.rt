@@ -1,5 +1,5 @@
 // A table as the catalogue keeps it.
-ghost use Rattle.std.specs.Prelude.{◌≡◌, ◌<◌, ◌^◌, string_bytes, IfOk};
+ghost use Rattle.std.specs.Prelude.{◌≡◌, ◌<◌, ◌^◌, ◌++◌, true, false, string_bytes, IfOk, OnErr};
 ghost use Rattle.std.specs.List.{list_all};
 ghost use Rattle.arrow_schema.specs.View.{schema_of};
 ghost use Rattle.catalogue.specs.Schemas.{is_within_limits};
@@ -215,6 +215,23 @@ impl TableEntry {
         let name = String::from_str(alloc, self.name())?;
         let schema = self.schema().copy(alloc)?;
         TableEntry::new(alloc, name, schema, segments, None)
+    }
+
+    // Appends segments where no copy shares the table, which then loses its page. Returns whether it did.
+    pub(crate) fn append_own(&mut self, more: &[Segment]) -> Result<bool, AllocError>
+        ensures appended { IfOk result (λ done. done ≡ true
+            → plain_entry self.new ≡ refilled (plain_entry self.old) ((plain_entry self.old).segments ++ more.now)) }
+        ensures shared { IfOk result (λ done. done ≡ false → plain_entry self.new ≡ plain_entry self.old) }
+        ensures err { OnErr result (plain_entry self.new ≡ plain_entry self.old) }
+    {
+        match Rc::get_mut(&mut self.table) {
+            Some(table) => {
+                table.segments.extend_from_slice(more)?;
+                self.page = None;
+                Ok(true)
+            }
+            None => Ok(false),
+        }
     }
 
     /// Copies the entry. Everything but the page is shared, and no memory is allocated.

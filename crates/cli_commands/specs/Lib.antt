@@ -14,3 +14,4 @@ pub mod Reading
 pub mod Salvaging
 pub mod Typing
 pub mod Complete
+pub mod Unread

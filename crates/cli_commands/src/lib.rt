@@ -7,7 +7,7 @@
 //! read of a damaged one. [`list_digests`] prints the digests of the segments, [`read_digests`] reads such a list, and [`send_archive`] writes an archive
 //! of the tables without the segments that its receiver has; [`archive_in`] reads one, and [`receive_archive`] makes its tables those of a store. Their
 //! contracts say which bytes are read and written, and what becomes of the store.
-//! [`recode`] reads a stream and writes its canonical form.
+//! [`test_import`] and [`test_append`] tell what is refused before an input is read. [`recode`] reads a stream and writes its canonical form.
 //!
 //! ```
 //! let mut output = Vec::new(alloc);
@@ -31,6 +31,7 @@ mod stream;
 mod summing;
 mod text_rows;
 mod typing;
+mod unread;
 mod upgrading;
 
 pub use applying::{ListedCommand, apply_listed};
@@ -49,4 +50,5 @@ pub use stream::recode;
 pub use summing::{DeviceKind, print_summary};
 pub use text_rows::append_text;
 pub use typing::print_fields;
+pub use unread::{test_append, test_import};
 pub use upgrading::upgrade_store;

@@ -28,9 +28,9 @@ pub(crate) struct WrittenPlaces<'a> {
     pub(crate) first: u32,
 }
 
-// Returns the place that is written as `written`, or `None` if that is less than `first`.
+/// Returns the place that is written as `written`, or `None` if that is less than `first`.
 #[inline]
-fn place_from(first: u32, written: u32) -> Option<usize>
+pub(crate) fn place_from(first: u32, written: u32) -> Option<usize>
     ensures { result ≡ place_from first written }
 {
     if written < first {

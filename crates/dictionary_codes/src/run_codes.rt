@@ -20,7 +20,7 @@ use crate::known_entries::KnownEntries;
 use crate::masked_codes::put_part_codes;
 use crate::number_places::WrittenPlaces;
 use crate::run_slots::run_len;
-use crate::stamped_numbers::StampedNumbers;
+use crate::stamped_numbers::{NUMBER_LIMIT, StampedNumbers};
 use arrow_schema::{BitWidth, DictSpec, Field};
 use columns::{ArrayView, CodedSlots, SlotRun, value};
 use std::alloc::{AllocError, Global};
@@ -49,17 +49,19 @@ fn guessed_code(known: &StampedNumbers, number: Option<u64>) -> Option<usize> {
     }
 }
 
-// Returns a number if it has at most 32 bits. Larger ones are not noted.
+// Returns a number if it is below the limit. Larger ones are not noted.
 fn small_code(code: Option<usize>) -> Option<u32>
-    ensures { IfSome result (λ small. code ≡ Some small) }
+    ensures same { IfSome result (λ small. code ≡ Some small) }
+    ensures small { IfSome result (λ small. small < NUMBER_LIMIT) }
 {
     match code {
-        Some(code) if code <= u32::MAX as usize => Some(code as u32),
+        Some(code) if code < NUMBER_LIMIT as usize => Some(code as u32),
         _ => None,
     }
 }
 
 fn note_code(known: &mut StampedNumbers, number: Option<u64>, code: Option<u32>)
+    requires { IfSome code (λ small. small < NUMBER_LIMIT) }
     ensures { known.new ≡ noted known.old number code }
 {
     match (number, code) {

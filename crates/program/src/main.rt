@@ -15,6 +15,7 @@ use arrowstore::{
 };
 use progress::{ProgressFiles, ProgressLine, ProgressReader, ProgressWriter, Target};
 use std::env::{self, Env};
+use std::fs;
 use std::io::{self, IsTerminal};
 use std::process::ExitCode;
 
@@ -43,6 +44,7 @@ fn main(rt: HostRuntime) -> ExitCode {
                 ProgressReader::new(rt.reader(), line.as_ref()),
                 audience,
                 asks_csv(arguments.as_slice()),
+                !is_input_a_file(&rt),
             ),
             &mut WatchedOutput::new(ShownOutput::new(
                 ProgressWriter::new(rt.stdout(), line.as_ref(), target),
@@ -67,6 +69,14 @@ fn audience_of(rt: &HostRuntime, reader: Audience) -> Audience {
     match rt.var("ARROWSTORE_ADVICE", &mut value) {
         Ok(1) if value[0] == b'1' => Audience::Script,
         _ => reader,
+    }
+}
+
+// Returns whether standard input is a regular file, which has all its bytes.
+fn is_input_a_file(rt: &HostRuntime) -> bool {
+    match fs::metadata(rt, "/dev/stdin") {
+        Ok(found) => found.is_file(),
+        Err(_) => false,
     }
 }
 

@@ -1,8 +1,8 @@
 -- A sector that is written again before a sync.
-use Rattle.std.proofs.Common.{◌≡◌, ◌≢◌, ◌⊎◌, ◌<◌, ◌≤◌, ◌+◌, ℕ, true, List, [], ◌∷◌, Option, Some, None, length, ap, ◌∙◌, arith, inl, inr, subst, sym, zero, suc}
+use Rattle.std.proofs.Common.{◌≡◌, ◌≢◌, ◌⊎◌, ℕ, true, List, [], ◌∷◌, Option, Some, None, length, ap, ◌∙◌, arith, inl, inr, subst, sym, zero, suc}
 use Rattle.std.specs.Prelude.{Result, Ok, Err, OnOk}
 use Rattle.std.proofs.lemmas.Option.{none-some}
-use Rattle.sector_dev.specs.Disk.{Sector, Story, now, put, IsSafe}
+use Rattle.sector_dev.specs.Disk.{Sector, Story, now, IsSafe}
 use Rattle.sector_dev.specs.Rows.{row_from, grown, Marks}
 use Rattle.sector_dev.specs.Confirming.{HasWritten, seen_in, noted_in}
 use Rattle.sector_dev.specs.laws.Crash.{put_same, put_other}

@@ -33,4 +33,4 @@ pub use file::{FileDevice, FileError, LEAST_SECTORS, MOST_SECTORS};
 pub use model::ModelDevice;
 pub use model_file::ModelFile;
 pub use sector_file::{FileFault, SectorFile};
-pub use system_file::{LockFile, PlainFile, SystemFile};
+pub use system_file::{FileHandle, LockFile, PlainFile, SystemFile};

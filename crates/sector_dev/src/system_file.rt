@@ -10,9 +10,11 @@ use crate::{ConfirmedFile, FileFault, SECTOR_BYTES, SectorFile};
 use std::fs::OpenFile;
 use std::io::{self, Read, Seek, SeekFrom, Write};
 
+mod handle;
 mod locking;
 mod made;
 
+pub use handle::FileHandle;
 pub use locking::LockFile;
 
 /// A file of the system, which another program may have left in doubt.

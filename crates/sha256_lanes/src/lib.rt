@@ -5,10 +5,11 @@
 //!
 //! ```
 //! let [first, second, third, fourth] = four_digests(b"a", b"bc", b"", b"d");
+//! let all = digests_of(alloc, &[b"a", b"bc"])?;
 //! ```
 #![tactic(auto)]
 
-ghost use Rattle.std.specs.Prelude.{◌≡◌, ◌^◌, ◌<◌, true, [], ◌∷◌};
+ghost use Rattle.std.specs.Prelude.{◌≡◌, ◌^◌, ◌<◌, ◌++◌, true, [], ◌∷◌, length, map, IfOk, OnOk};
 ghost use Rattle.sha2.specs.Sha256.{sha256};
 
 mod block;
@@ -18,6 +19,7 @@ mod padding;
 
 use lanes::digests_at_once;
 use sha2::{Digest, Sha256};
+use std::alloc::{AllocError, Global};
 
 // The longest message that is digested beside others.
 const LONGEST: usize = 1 << 32;
@@ -50,4 +52,31 @@ pub fn four_digests(first: &[u8], second: &[u8], third: &[u8], fourth: &[u8]) ->
     let three = Sha256::digest(third);
     let four = Sha256::digest(fourth);
     [one, two, three, four]
+}
+
+// Appends the digests of four messages.
+fn push_four(digests: &mut Vec<[u8; 32]>, messages: &[&[u8]]) -> Result<(), AllocError>
+    requires { length messages.now ≡ 4 }
+    ensures { OnOk result (digests.new.items ≡ digests.old.items ++ map (λ m. sha256 m.now) messages.now) }
+{
+    let four = four_digests(messages[0], messages[1], messages[2], messages[3]);
+    digests.extend_from_slice(&four)
+}
+
+/// Returns the SHA-256 of each of these messages, of four at once as far as there are four.
+///
+/// # Errors
+/// `AllocError` if memory is refused.
+pub fn digests_of(alloc: Global, messages: &[&[u8]]) -> Result<Vec<[u8; 32]>, AllocError>
+    ensures { IfOk result (λ digests. digests.items ≡ map (λ m. sha256 m.now) messages.now) }
+{
+    let mut digests = Vec::with_capacity(alloc, messages.len())?;
+    for group in 0..messages.len() / 4 {
+        let place = 4 * group;
+        push_four(&mut digests, &messages[place..place + 4])?;
+    }
+    for place in digests.len()..messages.len() {
+        digests.push(Sha256::digest(messages[place]))?;
+    }
+    Ok(digests)
 }

@@ -33,6 +33,7 @@ use Rattle.store.specs.Answering.{Applies}
 use Rattle.store.specs.Fits.{setting_of, listed_in}
 use Rattle.store.specs.Lists.{refusal_at, ended_by}
 use Rattle.store.specs.Reading.{OnlyReadsStore}
+use Rattle.store.specs.Drafted.{KnowsWeight}
 use Rattle.store.specs.Transactions.{drafted, Drafts, EndsBehind, RefusesAsOne, RefusesNext}
 use Rattle.store.specs.inner.Drafting.{Shows, StepsTo}
 use Rattle.store.proofs.AllApplied.{reads_alike, applies_first, applies_halted, names_line, goes_refused}
@@ -112,8 +113,9 @@ module _ {D : Type 0} {g : Ghosts D} (size : D → ℕ) (story : D → Story) (f
 
   -- one more
   pub drafts_more : (x : PlainCommand) (new : Store D g) (next : Transaction) → IsNoList x → BringsTables x → OnlyReadsStore size story failed tells done old new → (reads_device x ≡ false → story new.device ≡ story old.device)
-      → IsDraft next.draft → (next.draft.from ≡ t.draft.from) × (catalogue_of next.draft.old ≡ catalogue_of t.draft.old) → StepsTo tells shown_first t.draft x next.draft → Drafts size story failed tells first new next (commands ++ x ∷ [])
-  drafts_more x new next single brings reads still draft same step = record {
+      → IsDraft next.draft → (next.draft.from ≡ t.draft.from) × (catalogue_of next.draft.old ≡ catalogue_of t.draft.old) → StepsTo tells shown_first t.draft x next.draft
+      → KnowsWeight tells shown_first next.draft next.weighed → Drafts size story failed tells first new next (commands ++ x ∷ [])
+  drafts_more x new next single brings reads still draft same step weighed = record {
     on = begun.on;
     before = begun.before;
     reads = reads_after size story failed tells done first old new begun.reads reads;
@@ -124,6 +126,7 @@ module _ {D : Type 0} {g : Ghosts D} (size : D → ℕ) (story : D → Story) (f
     from = same.0 ∙ begun.from;
     old = same.1 ∙ begun.old;
     leads = leads_on tells (size first.device) shown_first (listed_in first) commands t.draft.next over (drafted t) x step.0 next.draft.next (laid next.draft.from (streams_of next.draft) shown_first) (drafted next) begun.leads step.1 step.2;
+    weighed = weighed;
   }
 
   -- where they end

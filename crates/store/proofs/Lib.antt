@@ -14,6 +14,7 @@ mod Roomed
 mod Applied
 mod AllApplied
 mod Listed
+mod KnownWeights
 mod Begun
 mod Replied
 mod Selected
@@ -33,5 +34,6 @@ mod Salvaged
 mod Heavy
 mod Streamed
 mod Sent
+mod SentAhead
 mod Received
 mod ReceivedRows

@@ -1,7 +1,7 @@
 -- The commands that an archive brings, step by step.
 use Rattle.std.specs.Prelude.{◌≢◌, ◌⊎◌, ◌&&◌, if◌then◌else◌, Option, option_map, Result, IfErr, OnOk}
 use Rattle.std.specs.Str.{bytes_eq}
-use Rattle.std.proofs.Common.{◌≡◌, ◌+◌, ◌<◌, ◌≤◌, ◌∙◌, ◌++◌, ℕ, Bool, true, false, List, [], ◌∷◌, Some, None, Ok, Err, inl, inr, arith, get_or}
+use Rattle.std.proofs.Common.{◌≡◌, ◌+◌, ◌<◌, ◌≤◌, ◌∙◌, ◌++◌, ℕ, Bool, true, false, List, [], ◌∷◌, Some, None, Ok, Err, inl, inr, arith, refl, get_or}
 use Rattle.std.proofs.Common.{length, map, take, drop, append_assoc, append-nil, refl, sym, ap, subst}
 use Rattle.std.proofs.lemmas.Bool.{true≢false, cond-true, cond-false, and_right, and_parts}
 use Rattle.std.proofs.lemmas.Bool.Decides.{not_from_Decides}
@@ -25,6 +25,7 @@ use Rattle.store_runs.specs.Calls.{done}
 use Rattle.store.proofs.ReadsStore.{fits_reading}
 use Rattle.store.specs.declared.applying_all.ListRefusal.{ListRefusal}
 use Rattle.store.specs.declared.receiving.ReceiveRefusal.{ReceiveRefusal}
+use Rattle.store.specs.declared.receiving.ReceiveRefusal.TheVariants as reasons
 use Rattle.store.specs.declared.segment_streams.SegmentInfo.{SegmentInfo}
 use Rattle.store.specs.declared.store.Store.{Store}
 use Rattle.store.specs.Fits.{listed_in}
@@ -209,3 +210,8 @@ streams_told [] (x ∷ xs) ys all also = absurd all
 streams_told [] [] (y ∷ ys) all also = absurd also
 streams_told (l ∷ ls) [] ys all also = absurd all
 streams_told (l ∷ ls) (x ∷ xs) [] all also = absurd also
+
+-- how a reading ends does not depend on what it gives
+pub ended_alike : (T U : Type 0) (e : ReceiveRefusal) → ended_receiving {T = T} (Err e) ≡ ended_receiving {T = U} (Err e)
+ended_alike T U (reasons.Store r) = refl
+ended_alike T U (reasons.Lacks digest) = refl

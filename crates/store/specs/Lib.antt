@@ -20,6 +20,7 @@ pub mod ReceivedRows
 pub mod Selecting
 pub mod Places
 pub mod Answering
+pub mod Drafted
 pub mod Transactions
 pub mod laws
 pub mod inner

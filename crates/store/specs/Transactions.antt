@@ -20,6 +20,7 @@ use Rattle.store.specs.declared.store.Store.{Store}
 use Rattle.store.specs.declared.transacting.Transaction.{Transaction}
 use Rattle.store.specs.Answering.{Applies}
 use Rattle.store.specs.Applying.{GoesOn}
+use Rattle.store.specs.Drafted.{KnowsWeight}
 use Rattle.store.specs.Fits.{StoreFits, device_of, listed_in, is_halted}
 use Rattle.store.specs.Lists.{refusal_of, ended_by, refusal_at, NamesLine}
 use Rattle.store.specs.Reading.{OnlyReadsStore}
@@ -43,6 +44,7 @@ pub record Drafts {D : Type 0} {g : Ghosts D} (size : D → ℕ) (story : D → 
   pub old : catalogue_of transaction.draft.old ≡ listed_in first
   pub leads : LeadsThrough tells (size (device_of first)) (shown_image (now (story (device_of first)))) (listed_in first) commands transaction.draft.next
       (laid transaction.draft.from (streams_of transaction.draft) (shown_image (now (story (device_of first))))) (drafted transaction)
+  pub weighed : KnowsWeight tells (shown_image (now (story (device_of first)))) transaction.draft transaction.weighed
 
 -- it was begun on some store, which was only read since then: on this one
 pub record IsBegun {D : Type 0} {g : Ghosts D} (size : D → ℕ) (story : D → Story) (failed : D → ℕ) (tells : Bool) (store : Store D g)

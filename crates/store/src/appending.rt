@@ -15,7 +15,7 @@ use crate::Store;
 use crate::reading::halts;
 use sector_dev::SectorDevice;
 use std::alloc::Global;
-use store_changes::{Change, NewRows, append_to_entry, decisions_are_verdicts};
+use store_changes::{Change, Known, NewRows, append_to_entry, decisions_are_verdicts};
 use tables::{Limit, Refusal};
 
 impl<D: SectorDevice> Store<D> {
@@ -46,7 +46,11 @@ impl<D: SectorDevice> Store<D> {
         let opened = &self.opened;
         match opened.catalogue.list.get(&name) {
             Some(entry) => {
-                let change = append_to_entry(alloc, &mut self.device, entry, name, new, false);
+                let mut known = Known {
+                    is_read: false,
+                    weight: None,
+                };
+                let change = append_to_entry(alloc, &mut self.device, entry, name, new, &mut known);
                 self.halted = halts(&change);
                 change
             }

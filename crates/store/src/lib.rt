@@ -37,6 +37,7 @@ mod saving;
 mod segment_streams;
 mod selecting;
 mod sending;
+mod sending_ahead;
 mod store;
 mod summary;
 mod taking;

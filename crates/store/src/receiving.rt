@@ -101,6 +101,47 @@ fn push_places<'a>(
     Ok(())
 }
 
+// Returns the segments of a table that have no digests.
+fn undigested_places<'a>(
+    alloc: Global,
+    name: &'a str,
+    infos: &[SegmentInfo],
+) -> Result<Vec<OwnPlace<'a>>, Refusal>
+    ensures memory { IfErr result (λ e. e ≡ Refusal.OutOfMemory) }
+{
+    let mut places = Vec::new(alloc);
+    for place in 0..infos.len() {
+        if infos[place].digest.is_none() {
+            places.push(OwnPlace { name, place })?;
+        }
+    }
+    Ok(places)
+}
+
+// Returns whether there is a listed segment whose stream neither the archive has nor a segment with its digest.
+fn lacks_any(
+    archive: &Archive<'_>,
+    own: &IndexMap<[u8; 32], OwnPlace<'_>>,
+    segments: &[ListedSegment],
+) -> bool {
+    for listed in segments {
+        if archive.stream(&listed.digest).is_none() && !own.contains_key(&listed.digest) {
+            return true;
+        }
+    }
+    false
+}
+
+// Returns whether a listed table has such a segment.
+fn lacks_streams(archive: &Archive<'_>, own: &IndexMap<[u8; 32], OwnPlace<'_>>) -> bool {
+    for table in &archive.tables {
+        if lacks_any(archive, own, &table.segments) {
+            return true;
+        }
+    }
+    false
+}
+
 fn has_digest(own: Option<[u8; 32]>, listed: &ListedSegment) -> bool
     ensures { result ≡ has_digest own listed.now }
 {
@@ -255,6 +296,7 @@ impl<D: SectorDevice> Store<D> {
     ghost use Rattle.store.specs.Fits.{listed_in};
     ghost use Rattle.store.specs.Reading.{OnlyReadsStore};
     ghost use Rattle.store.specs.Receiving.{left_of, AreParts, AreReceived, Receives};
+    ghost use Rattle.store_runs.specs.Reading.{ended};
 
     fn own_places<'a>(
         &self,
@@ -271,6 +313,67 @@ impl<D: SectorDevice> Store<D> {
             }
         }
         Ok(own)
+    }
+
+    // Reads a segment without a digest, and adds it by the digest of its stream. One whose stream can't be read is left out.
+    fn read_place<'a>(
+        &mut self,
+        alloc: Global,
+        found: OwnPlace<'a>,
+        own: &mut IndexMap<[u8; 32], OwnPlace<'a>>,
+    ) -> Result<(), Refusal>
+        ensures reads { OnlyReadsStore D.size D.story D.failed D.tells (ended result) self.old self.new }
+    {
+        match self.segment_stream(alloc, found.name, found.place) {
+            Ok(stream) => match own.insert(stream.digest, found) {
+                Ok(_) => Ok(()),
+                Err(_) => Err(Refusal::OutOfMemory),
+            },
+            Err(Refusal::SegmentUnread(_)) => Ok(()),
+            Err(refusal) => Err(refusal),
+        }
+    }
+
+    // The same of all segments of a table that have no digests.
+    fn read_table_places<'a>(
+        &mut self,
+        alloc: Global,
+        name: &'a str,
+        own: &mut IndexMap<[u8; 32], OwnPlace<'a>>,
+    ) -> Result<(), Refusal>
+        ensures reads { OnlyReadsStore D.size D.story D.failed D.tells (ended result) self.old self.new }
+    {
+        let infos = self.segments(alloc, name)?;
+        let places = undigested_places(alloc, name, &infos)?;
+        for found in &places {
+            match self.read_place(alloc, *found, own) {
+                Ok(()) => {}
+                Err(refusal) => return Err(refusal),
+            }
+        }
+        Ok(())
+    }
+
+    // The same of all tables, if the archive leaves out a stream that no segment with a digest has: a store without digests is read only then.
+    fn read_places<'a>(
+        &mut self,
+        alloc: Global,
+        archive: &Archive<'_>,
+        names: &'a [(String, u64)],
+        own: &mut IndexMap<[u8; 32], OwnPlace<'a>>,
+    ) -> Result<(), Refusal>
+        ensures reads { OnlyReadsStore D.size D.story D.failed D.tells (ended result) self.old self.new }
+    {
+        if !lacks_streams(archive, own) {
+            return Ok(());
+        }
+        for name in names {
+            match self.read_table_places(alloc, name.0.as_str(), own) {
+                Ok(()) => {}
+                Err(refusal) => return Err(refusal),
+            }
+        }
+        Ok(())
     }
 
     // Reads the stream of a segment of the store, for a listed one.
@@ -435,7 +538,11 @@ impl<D: SectorDevice> Store<D> {
         ensures reads { OnlyReadsStore D.size D.story D.failed D.tells (ended_receiving result) self.old self.new }
     {
         let names = self.tables(alloc)?;
-        let own = self.own_places(alloc, &names)?;
+        let mut own = self.own_places(alloc, &names)?;
+        match self.read_places(alloc, archive, &names, &mut own) {
+            Ok(()) => {}
+            Err(refusal) => return Err(ReceiveRefusal::Store(refusal)),
+        }
         let sources = Sources {
             archive: &*archive,
             own,
@@ -449,8 +556,9 @@ impl<D: SectorDevice> Store<D> {
 
     /// Makes the tables of an archive those of the store, by one commit: all of it is done, or none. Where the segments of a table of the same name and schema
     /// are the first ones that are listed, by their digests, the others are appended; else the table is made anew. With `delete`, tables that are not listed
-    /// are dropped; without it they stay. A stream that the archive does not have is read of a segment of the store with its digest. Where nothing differs the
-    /// store is only read. The streams that are appended are in memory, beside the archive.
+    /// are dropped; without it they stay. A stream that the archive does not have is read of a segment of the store with its digest; for one that no entry
+    /// has, the segments without digests are read too. Where nothing differs the store is only read. The streams that are appended are in memory, beside the
+    /// archive.
     ///
     /// ```
     /// let archive = read_archive(alloc, &bytes)?;

@@ -50,6 +50,17 @@ fn digest_of(bytes: &[u8]) -> [u8; 32]
     Sha256::digest(bytes)
 }
 
+/// Returns the digest of bytes that have that of a segment, if its entry has one: then it is not computed again.
+pub(crate) fn tested_digest(segment: Segment, bytes: &[u8]) -> [u8; 32]
+    requires { is_undamaged segment.digest (Some bytes.now) ≡ true }
+    ensures { result ≡ sha256 bytes.now }
+{
+    match segment.digest {
+        Some(own) => own,
+        None => digest_of(bytes),
+    }
+}
+
 // Returns whether this is the digest in the entry of a segment, if it has one.
 fn has_digest(segment: Segment, digest: &[u8; 32]) -> bool
     ensures { (bytes : List ℕ) → digest.now ≡ sha256 bytes → result ≡ is_undamaged segment.digest (Some bytes) }
@@ -60,8 +71,13 @@ fn has_digest(segment: Segment, digest: &[u8; 32]) -> bool
     }
 }
 
-// Returns whether some bytes are a stream of this number of rows that begins with `front`, the message of its schema.
-fn has_rows(alloc: Global, front: &[u8], rows: u64, bytes: Vec<u8>) -> Result<bool, Refusal>
+/// Returns whether some bytes are a stream of this number of rows that begins with `front`, the message of its schema.
+pub(crate) fn has_rows(
+    alloc: Global,
+    front: &[u8],
+    rows: u64,
+    bytes: Vec<u8>,
+) -> Result<bool, Refusal>
     ensures means { IfOk result (λ has. (s : PlainSchema) → front.now ≡ schema_message s
         → has ≡ is_some (rows_in_bytes s rows (Some bytes.items))) }
     ensures memory { IfErr result (λ e. e ≡ Refusal.OutOfMemory) }

@@ -10,7 +10,9 @@ ghost use Rattle.store.specs.Sending.{Located, located_in, digests_of};
 ghost use Rattle.store.specs.inner.Sending.{plain_item, FailsMaking, FailsSending};
 
 use crate::Store;
-use crate::segment_streams::{SegmentInfo, SegmentStream};
+use crate::reading::halts;
+use crate::segment_streams::SegmentInfo;
+use crate::sending_ahead::{picked_segments, send_picked};
 use arrow_schema::Schema;
 use sector_dev::SectorDevice;
 use std::alloc::Global;
@@ -23,10 +25,10 @@ use tables::{Limit, Refusal};
 
 // A segment that may be sent: the name of its table, its place, and its digest as it is listed.
 #[derive(Clone, Copy)]
-struct Item<'a> {
-    name: &'a str,
-    place: usize,
-    digest: [u8; 32],
+pub(crate) struct Item<'a> {
+    pub(crate) name: &'a str,
+    pub(crate) place: usize,
+    pub(crate) digest: [u8; 32],
 }
 
 // Appends the segments of a table.
@@ -105,8 +107,8 @@ fn write_bytes<W: Write>(writer: &mut W, bytes: &[u8]) -> Result<(), Refusal>
     writer.write_all(bytes).map_err(|_| Refusal::Write)
 }
 
-// Writes the member of a stream.
-fn write_member<W: Write>(
+/// Writes the member of a stream.
+pub(crate) fn write_member<W: Write>(
     alloc: Global,
     digest: &[u8; 32],
     mut bytes: Vec<u8>,
@@ -146,7 +148,7 @@ impl<D: SectorDevice> Store<D> {
     ghost use Rattle.store.specs.Fits.{commit_of, device_of, listed_in, is_halted};
     ghost use Rattle.store.specs.Reading.{OnlyReadsStore};
     ghost use Rattle.store.specs.SegmentStreams.{info_of};
-    ghost use Rattle.store.specs.Sending.{ListsSegment, ListsSegments, ListsTable, ListsTables, IsSent, AreSent, SendsAt, HasDigestsAt, SaysHalted};
+    ghost use Rattle.store.specs.Sending.{ListsSegment, ListsSegments, ListsTable, ListsTables, AreSent, SendsAt, HasDigestsAt, SaysHalted};
 
     // Returns the segment at this place of a table as it is listed. One without a digest is read.
     fn list_segment(
@@ -233,27 +235,7 @@ impl<D: SectorDevice> Store<D> {
         Ok(tables)
     }
 
-    // Reads the stream of a segment, tests whether it has the digest that is listed, and writes its member.
-    fn send_item<W: Write>(
-        &mut self,
-        alloc: Global,
-        item: &Item<'_>,
-        writer: &mut W,
-    ) -> Result<(), Refusal>
-        requires on { is_halted self.old ≡ false }
-        ensures sent { OnOk result ((stream : List ℕ) × IsSent D.tells (shown_image (now (D.story (device_of self.old)))) (listed_in self.old)
-            (plain_item item.now) stream × Appends (W.contents writer.old) (W.contents writer.new) (segment_member stream)) }
-        ensures awake { IfErr result (λ e. e ≢ Refusal.Halted) }
-        ensures reads { OnlyReadsStore D.size D.story D.failed D.tells (ended result) self.old self.new }
-    {
-        let stream = self.segment_stream(alloc, item.name, item.place)?;
-        if stream.digest != item.digest {
-            return Err(Refusal::SegmentDamaged(item.place));
-        }
-        let SegmentStream { digest, bytes } = stream;
-        write_member(alloc, &digest, bytes, writer)
-    }
-
+    // Writes the members of these segments, which are read ahead.
     fn send_items<W: Write>(
         &mut self,
         alloc: Global,
@@ -266,13 +248,14 @@ impl<D: SectorDevice> Store<D> {
         ensures awake { IfErr result (λ e. e ≢ Refusal.Halted) }
         ensures reads { OnlyReadsStore D.size D.story D.failed D.tells (ended result) self.old self.new }
     {
-        for item in items {
-            match self.send_item(alloc, item, writer) {
-                Ok(()) => {}
-                Err(refusal) => return Err(refusal),
-            }
-        }
-        Ok(())
+        let list = &self.opened.catalogue.list;
+        let segments = match picked_segments(alloc, list, items) {
+            Ok(segments) => segments,
+            Err(refusal) => return Err(refusal),
+        };
+        let sent = send_picked(alloc, &mut self.device, list, items, &segments, writer);
+        self.halted = halts(&sent);
+        sent
     }
 
     // Writes the archive of these tables.
@@ -318,7 +301,8 @@ impl<D: SectorDevice> Store<D> {
     }
 
     /// Writes an archive of all tables of the ruling commit, without the segments with the digests that its receiver has, and flushes: a POSIX tape archive
-    /// (docs/definitions/archive.md). Only reads the store. One segment is in memory at a time. A store without digests is read twice.
+    /// (docs/definitions/archive.md). Only reads the store. At most four segments and 4 MB of them, or one longer segment, are read
+    /// ahead. A store without digests is read twice.
     ///
     /// # Errors
     /// `Halted` after a failure of the device, and only then; those of [`Store::segment_stream`]; `TooMany(Bytes)` if the manifest or a stream has 8 GiB or

@@ -11,7 +11,7 @@ ghost use Rattle.store_runs.specs.Reading.{ended};
 
 use crate::Store;
 use crate::applying_all::ListRefusal;
-use crate::drafting::{add_line, heavy_line};
+use crate::drafting::{NamedWeight, add_line, heavy_line};
 use crate::listing::schema_named;
 use arrow_schema::Schema;
 use sector_dev::SectorDevice;
@@ -24,6 +24,7 @@ use tables::{Command, Refusal, commands_bring_tables};
 #[derive(Drop)]
 pub struct Transaction {
     pub(crate) draft: Draft,
+    pub(crate) weighed: Option<NamedWeight>,
 }
 
 // Returns whether a refusal halts the store, since its device failed.
@@ -71,7 +72,10 @@ impl<D: SectorDevice> Store<D> {
         }
         let list = &self.opened.catalogue.list;
         match Draft::begin(alloc, list, self.opened.commit.device_sectors) {
-            Ok(draft) => Ok(Transaction { draft }),
+            Ok(draft) => Ok(Transaction {
+                draft,
+                weighed: None,
+            }),
             Err(_) => Err(Refusal::OutOfMemory),
         }
     }
@@ -101,9 +105,9 @@ impl<D: SectorDevice> Store<D> {
     {
         commands_bring_tables(&command);
         decisions_are_verdicts();
-        let Transaction { draft } = transaction;
-        match add_line(alloc, &mut self.device, draft, command) {
-            Ok(draft) => Ok(Transaction { draft }),
+        let Transaction { draft, mut weighed } = transaction;
+        match add_line(alloc, &mut self.device, draft, command, &mut weighed) {
+            Ok(draft) => Ok(Transaction { draft, weighed }),
             Err(refusal) => {
                 self.halted = fails(refusal);
                 Err(refusal)
@@ -183,7 +187,9 @@ impl<D: SectorDevice> Store<D> {
         ensures count { D.failed (device_of self.new) ≡ counted (ended result) (D.failed (device_of self.old)) }
     {
         decisions_are_verdicts();
-        let Transaction { draft } = transaction;
+        let Transaction { draft, weighed } = transaction;
+        // Dropped by a call, since its drop would be inlined at each end.
+        drop(weighed);
         match draft.finish(alloc) {
             Ok(change) => {
                 let all = self.carry_out(alloc, &change);

@@ -25,13 +25,14 @@ use Rattle.tables.specs.declared.refusal.Refusal.TheVariants.{NoTable, OutOfMemo
 use Rattle.tables.specs.Commands.{PlainCommand, append_stream, append_rows}
 use Rattle.tables.specs.Tables.{Tables, table_at, with_table}
 use Rattle.tables.specs.Verdict.{too_many_bytes, other_shape, unfit_row, too_heavy, of_table, of_meaning, appended, appended_table, appended_stream, verdict}
-use Rattle.store_runs.specs.Changes.{PlainChange, extend, rows_under}
+use Rattle.store_runs.specs.Changes.{PlainChange, extend, rows_under, stream_rows}
 use Rattle.store_runs.specs.Deciding.{of_entry, Addition, given_rows, rows_of_table, streamed_rows, pieces_put, decided_extension, IsAdded, IsSurelyLight}
 use Rattle.store_runs.specs.Held.{table_held}
 use Rattle.store_runs.specs.Reading.{IsRead}
 use Rattle.store_changes.specs.Appending.{IsAppended}
 use Rattle.store_changes.specs.LawsBelow.{LawsBelow}
 use Rattle.store_changes.specs.Verdicts.{TellsTable, AreListed, IsVerdict}
+use Rattle.store_changes.specs.Weights.{WeighsAfter}
 
 -- ---- tests in turn
 
@@ -286,3 +287,23 @@ pub behind_by : (name : List ℕ) (a : Addition) (standing : List (List Cell)) (
     → when (not (nat_le weight MAX_TABLE_WEIGHT)) (TooMany limits.Weight) ≡ o → decided_extension name a standing ≡ unless o (Ok (pieces_put (extend name) (rows_under a.entry.schema a.rows)))
 behind_by name a standing weight o is tested =
     ap (λ (x : Option Refusal). unless x (Ok (pieces_put (extend name) (rows_under a.entry.schema a.rows)))) (ap (λ (n : ℕ). when (not (nat_le n MAX_TABLE_WEIGHT)) (TooMany limits.Weight)) (sym is) ∙ tested)
+
+-- where the test of a weight passed
+pub light_passed : (weight : ℕ) → when (not (nat_le weight MAX_TABLE_WEIGHT)) (TooMany limits.Weight) ≡ None → weight ≤ MAX_TABLE_WEIGHT
+light_passed weight none = leb-true weight MAX_TABLE_WEIGHT (light_none (nat_le weight MAX_TABLE_WEIGHT) none)
+
+-- the table with rows that were appended to it, as they weigh together
+pub weighs_after : LawsBelow → (tells : Bool) (image : Image) (e : PlainEntry) (name : List ℕ) (change : PlainChange) (standing : PlainTable) (rows : List (List Cell)) (weight : ℕ)
+    → IsRead tells image e standing → IsTable (rows_under e.schema rows) → change ≡ pieces_put (extend name) (rows_under e.schema rows) → weight ≤ MAX_TABLE_WEIGHT
+    → weight ≡ table_weight e.schema (standing.rows ++ rows) → WeighsAfter tells image e name change weight
+weighs_after laws tells image e name change standing rows weight read own is light weighs =
+    let old : IsTable (rows_under e.schema standing.rows) = subst (λ (s : PlainSchema). IsTable (rows_under s standing.rows)) read.schema read.kept in
+    record {
+      standing = standing;
+      read = read;
+      rows = rows;
+      extends = ap (λ (x : PlainChange). x.edit) is;
+      new = (λ i. stream_rows e.schema (is i).streams (is i).counts) ∙ laws.held (rows_under e.schema rows) own;
+      kept = laws.tables.joined e.schema standing.rows rows old own (omega (arith, light, weighs));
+      is = weighs;
+    }

@@ -12,6 +12,7 @@ pub mod Verdicts
 pub mod Digests
 pub mod Tests
 pub mod Appending
+pub mod Weights
 pub mod Prepared
 pub mod LawsBelow
 pub mod laws

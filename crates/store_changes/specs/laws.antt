@@ -35,3 +35,4 @@ pub mod Leading
 pub mod StepParts
 pub mod StepChanges
 pub mod Ahead
+pub mod Weighed

@@ -236,9 +236,12 @@ fn read_at_once<D: SegmentSource>(
     }
 }
 
-// Returns the bytes of the segment at this place, with their digest. Those behind it may be read too, of all of which no more
-// than 4 MB are kept. A device that fails while one of these is read is told at once.
-pub(crate) fn next_bytes<D: SegmentSource>(
+/// Returns the bytes of the segment at this place, with the digest of its entry if that has one. Those behind it may be read
+/// too, of all of which no more than 4 MB are kept.
+///
+/// # Errors
+/// `SegmentUnread` and `SegmentDamaged` with this place; `Device`, also if it fails while a segment behind it is read; `OutOfMemory`.
+pub fn next_bytes<D: SegmentSource>(
     alloc: Global,
     device: &mut D,
     ahead: &mut ReadAhead<'_>,

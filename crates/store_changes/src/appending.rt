@@ -1,5 +1,5 @@
 // Appends rows to the table of an entry, which is read for its weight unless its segments are short enough.
-ghost use Rattle.std.specs.Prelude.{◌≡◌, ◌≢◌, ◌⊎◌, ◌++◌, List, Option, Some, Result, Ok, Err, IfOk, IfErr, IfSome, false, true, not, nat_le, string_bytes};
+ghost use Rattle.std.specs.Prelude.{◌≡◌, ◌≢◌, ◌⊎◌, ◌++◌, List, Option, Some, Result, Ok, Err, IfOk, IfErr, IfSome, ◌≤◌, false, true, not, nat_le, string_bytes};
 ghost use Rattle.facts.specs.Checks.{when};
 ghost use Rattle.sector_dev.specs.Disk.{now, shown_image};
 ghost use Rattle.cells.specs.Cell.{Cell};
@@ -13,12 +13,14 @@ ghost use Rattle.store_runs.specs.Calls.{is_failure};
 ghost use Rattle.store_changes.specs.Change.{change_of};
 ghost use Rattle.store_runs.specs.Changes.{CanChange, extend, rows_under};
 ghost use Rattle.store_runs.specs.Deciding.{Addition, decided_extension, pieces_put};
-ghost use Rattle.store_runs.specs.Reading.{OnlyReadsDevice, ended};
+ghost use Rattle.store_runs.specs.Reading.{OnlyReadsDevice, Unreads, ended};
 ghost use Rattle.store_changes.specs.Appending.{added_to, ArePassed, IsAppended};
 ghost use Rattle.store_changes.specs.Source.{AreReadable};
 ghost use Rattle.store_changes.specs.Tests.{Tests, decision_of};
+ghost use Rattle.store_changes.specs.Weights.{Weighs, WeighsAfter};
 
 use crate::change::{Change, Edit, NewSegments, SegmentRows};
+use crate::laws::laws_below;
 use crate::lightness::stays_light;
 use crate::new_rows::{NewRows, pass_new};
 use crate::source::SegmentSource;
@@ -80,6 +82,8 @@ fn decide_extension(
     ensures answers { (decision_of result ≡ Err Refusal.OutOfMemory) ⊎ ((standing : List (List Cell))
         → weight ≡ table_weight (plain_entry entry.now).schema (standing ++ (table_of new).rows)
         → decision_of result ≡ decided_extension (string_bytes name) (record { entry = plain_entry entry.now; rows = (table_of new).rows }) standing) }
+    ensures light { IfOk result (λ change. (weight ≤ MAX_TABLE_WEIGHT) × (change_of change
+        ≡ pieces_put (extend (string_bytes name)) (rows_under (plain_entry entry.now).schema (table_of new).rows))) }
     ensures no_device { IfErr result (λ e. is_failure e ≡ false) }
     ensures not_halted { IfErr result (λ e. e ≢ Refusal.Halted) }
 {
@@ -113,27 +117,55 @@ fn append_unread(
     }
 }
 
-// The same where the table is read for its weight. Rows that are too heavy for any table are not kept.
-fn append_after_reading<D: SegmentSource>(
+// Returns the weight of the table of an entry. It is read unless its weight is known.
+fn standing_weight<D: SegmentSource>(
+    alloc: Global,
+    device: &mut D,
+    entry: &TableEntry,
+    known: Option<u64>,
+) -> Result<u64, Refusal>
+    requires size { is_size (D.size device.old) ≡ true }
+    requires readable { AreReadable (D.can_read device.old) (plain_entry entry.now).segments }
+    requires sound { is_entry (plain_entry entry.now) ≡ true }
+    requires known { IfSome known (Weighs D.tells (shown_image (now (D.story device.old))) (plain_entry entry.now)) }
+    ensures reads { OnlyReadsDevice D.size D.story D.failed D.tells (ended result) device.old device.new }
+    ensures goes_on { D.goes_on device.old device.new }
+    ensures weight { IfOk result (Weighs D.tells (shown_image (now (D.story device.old))) (plain_entry entry.now)) }
+    ensures unread { IfErr result (Unreads D.tells (shown_image (now (D.story device.old))) (plain_entry entry.now)) }
+{
+    match known {
+        Some(weight) => Ok(weight),
+        None => weigh_entry(alloc, device, entry),
+    }
+}
+
+// The same where the table is weighed, for which it is read unless its weight is known. Then its weight with the new rows is. Rows that are too heavy for any
+// table are not kept.
+fn append_weighed<D: SegmentSource>(
     alloc: Global,
     device: &mut D,
     entry: &TableEntry,
     name: String,
     passed: Option<WeighedTable>,
+    known: &mut Option<u64>,
 ) -> Result<Change, Refusal>
     requires size { is_size (D.size device.old) ≡ true }
     requires readable { AreReadable (D.can_read device.old) (plain_entry entry.now).segments }
     requires sound { is_entry (plain_entry entry.now) ≡ true }
     requires passed { IfSome passed (λ w. IsTable (rows_under (plain_entry entry.now).schema (table_of w.table).rows)) }
+    requires known { IfSome known.old (Weighs D.tells (shown_image (now (D.story device.old))) (plain_entry entry.now)) }
     ensures reads { OnlyReadsDevice D.size D.story D.failed D.tells (ended result) device.old device.new }
     ensures goes_on { D.goes_on device.old device.new }
     ensures ok { IfOk result (λ change. (c : PlainCatalogue) → entry_of c (string_bytes name) ≡ Some (plain_entry entry.now)
         → CanChange c (change_of change)) }
     ensures answers { (tested : Result Addition Refusal) → ArePassed (plain_entry entry.now) tested passed
         → IsAppended D.tells (shown_image (now (D.story device.old))) (string_bytes name) tested (decision_of result) }
+    ensures known { (tested : Result Addition Refusal) → ArePassed (plain_entry entry.now) tested passed → IfOk result (λ change. IfSome known.new
+        (WeighsAfter D.tells (shown_image (now (D.story device.old))) (plain_entry entry.now) (string_bytes name) (change_of change))) }
     ensures not_halted { IfErr result (λ e. e ≢ Refusal.Halted) }
 {
-    let standing = match weigh_entry(alloc, device, entry) {
+    laws_below();
+    let standing = match standing_weight(alloc, device, entry, *known) {
         Ok(standing) => standing,
         Err(refusal) => {
             // Dropped by a call, since its inlined drop is long.
@@ -143,14 +175,25 @@ fn append_after_reading<D: SegmentSource>(
     };
     match passed {
         Some(WeighedTable { table, weight }) => {
-            decide_extension(alloc, entry, name, table, standing + weight)
+            let together = standing + weight;
+            *known = Some(together);
+            decide_extension(alloc, entry, name, table, together)
         }
         None => Err(Refusal::TooMany(Limit::Weight)),
     }
 }
 
-/// Decides on an append to the table of an entry: its tests in order. For the last one the table is read, unless it is surely light enough with the new rows.
-/// `is_known` is whether a command before this one had to read it, or made it: then a small table is not read either.
+/// What is known of a table before rows are appended to it.
+#[derive(Clone, Copy)]
+pub struct Known {
+    /// A command before this one had to read it, or made it: then a small table is not read either.
+    pub is_read: bool,
+    /// What it weighs.
+    pub weight: Option<u64>,
+}
+
+/// Decides on an append to the table of an entry: its tests in order. For the last one the table is read, unless its weight is known, or it is surely light
+/// enough with the new rows. After a change `known` is what is known then.
 ///
 /// # Errors
 /// Those of the new rows, in their order; those of reading the table; `TooMany(Weight)`; `OutOfMemory`.
@@ -160,28 +203,31 @@ pub fn append_to_entry<D: SegmentSource>(
     entry: &TableEntry,
     name: String,
     new: NewRows,
-    is_known: bool,
+    known: &mut Known,
 ) -> Result<Change, Refusal>
     requires size { is_size (D.size device.old) ≡ true }
     requires readable { AreReadable (D.can_read device.old) (plain_entry entry.now).segments }
     requires sound { is_entry (plain_entry entry.now) ≡ true }
+    requires known { IfSome known.old.weight (Weighs D.tells (shown_image (now (D.story device.old))) (plain_entry entry.now)) }
     ensures reads { OnlyReadsDevice D.size D.story D.failed D.tells (ended result) device.old device.new }
     ensures goes_on { D.goes_on device.old device.new }
     ensures ok { IfOk result (λ change. (c : PlainCatalogue) → entry_of c (string_bytes name) ≡ Some (plain_entry entry.now)
         → CanChange c (change_of change)) }
     ensures answers { IsAppended D.tells (shown_image (now (D.story device.old))) (string_bytes name) (added_to new (plain_entry entry.now))
         (decision_of result) }
+    ensures known { IfOk result (λ change. IfSome known.new.weight
+        (WeighsAfter D.tells (shown_image (now (D.story device.old))) (plain_entry entry.now) (string_bytes name) (change_of change))) }
     ensures not_halted { IfErr result (λ e. e ≢ Refusal.Halted) }
 {
     match pass_new(alloc, entry, new) {
         Ok(Some(weighed)) => {
-            if stays_light(entry, weighed.weight, is_known) {
+            if stays_light(entry, weighed.weight, known) {
                 append_unread(alloc, entry, name, weighed.table)
             } else {
-                append_after_reading(alloc, device, entry, name, Some(weighed))
+                append_weighed(alloc, device, entry, name, Some(weighed), &mut known.weight)
             }
         }
-        Ok(None) => append_after_reading(alloc, device, entry, name, None),
+        Ok(None) => append_weighed(alloc, device, entry, name, None, &mut known.weight),
         Err(refusal) => Err(refusal),
     }
 }

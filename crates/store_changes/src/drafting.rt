@@ -15,7 +15,7 @@ ghost use Rattle.store_changes.specs.laws.Drafting.{IsLine, low_runs, rows_in};
 ghost use Rattle.store_changes.specs.laws.Laid.{HaveStreams};
 
 use crate::change::{Change, Edit, NewSegments};
-use crate::editing::{edited, given_up, segments_after};
+use crate::editing::{edited_in_place, given_up, segments_after};
 use crate::rebuilding::new_segments;
 use batch_build::Buffer;
 use catalogue::{Catalogue, MAX_SEGMENTS, Segment, one_page_each};
@@ -192,7 +192,7 @@ fn with_pieces(
     let lost = given_up(alloc, &made, &change.edit, &placed.segments)?;
     let low = low_runs(alloc, from, &lost)?;
     gone.extend_from_slice(&low)?;
-    let made = edited(alloc, &made, &change.edit, &placed.segments)?;
+    let made = edited_in_place(alloc, made, &change.edit, &placed.segments)?;
     streams.append(&mut more)?;
     starts.extend_from_slice(&placed.starts)?;
     Ok(Draft {

@@ -102,22 +102,22 @@ fn new_entry(
     TableEntry::new(alloc, name, schema, segments, page)
 }
 
-// Returns the catalogue after an edit with these new segments.
-pub(crate) fn edited(
+// Edits a catalogue with these new segments. A table that no copy shares takes appended ones in place.
+pub(crate) fn edited_in_place(
     alloc: Global,
-    catalogue: &Catalogue,
+    catalogue: Catalogue,
     edit: &Edit,
     segments: &[Segment],
 ) -> Result<Catalogue, AllocError>
-    requires edit { (streams : List (List ℕ)) × IsEdit (catalogue_of catalogue.now) (edit_of edit.now) streams }
+    requires edit { (streams : List (List ℕ)) × IsEdit (catalogue_of catalogue) (edit_of edit.now) streams }
     requires sound { list_all is_segment segments.now ≡ true }
-    requires stands { IsCatalogue (edited (catalogue_of catalogue.now) (edit_of edit.now) segments.now) }
-    ensures { IfOk result (λ c. catalogue_of c ≡ edited (catalogue_of catalogue.now) (edit_of edit.now) segments.now) }
+    requires stands { IsCatalogue (edited (catalogue_of catalogue) (edit_of edit.now) segments.now) }
+    ensures { IfOk result (λ c. catalogue_of c ≡ edited (catalogue_of catalogue) (edit_of edit.now) segments.now) }
 {
-    let mut changed = catalogue.copy(alloc)?;
+    let mut changed = catalogue;
     match edit {
         Edit::Put { name, schema } => {
-            let page = page_instead(alloc, catalogue, name, schema, segments)?;
+            let page = page_instead(alloc, &changed, name, schema, segments)?;
             changed.put(new_entry(alloc, name, schema, segments, page)?)?;
         }
         Edit::Extend { name } => changed.append_segments(name, segments)?,
@@ -137,6 +137,22 @@ pub(crate) fn edited(
         } => changed = filled(alloc, *from, made, segments)?,
     }
     Ok(changed)
+}
+
+// Returns the catalogue after an edit with these new segments.
+pub(crate) fn edited(
+    alloc: Global,
+    catalogue: &Catalogue,
+    edit: &Edit,
+    segments: &[Segment],
+) -> Result<Catalogue, AllocError>
+    requires edit { (streams : List (List ℕ)) × IsEdit (catalogue_of catalogue.now) (edit_of edit.now) streams }
+    requires sound { list_all is_segment segments.now ≡ true }
+    requires stands { IsCatalogue (edited (catalogue_of catalogue.now) (edit_of edit.now) segments.now) }
+    ensures { IfOk result (λ c. catalogue_of c ≡ edited (catalogue_of catalogue.now) (edit_of edit.now) segments.now) }
+{
+    let changed = catalogue.copy(alloc)?;
+    edited_in_place(alloc, changed, edit, segments)
 }
 
 // Returns `count` segments of a table, from a place on.

@@ -26,8 +26,8 @@ mod source;
 mod table_builder;
 mod weighing;
 
-pub use ahead::ReadAhead;
-pub use appending::append_to_entry;
+pub use ahead::{ReadAhead, next_bytes};
+pub use appending::{Known, append_to_entry};
 pub use change::{Change, Edit, NewSegments, SegmentRows};
 pub use compacting::{Step, decide_step};
 pub use deciding::{

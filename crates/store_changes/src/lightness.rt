@@ -1,10 +1,11 @@
 // Whether a table stays light enough with new rows, by the catalogue alone: whatever its segments hold, they have no more bytes than it says.
-ghost use Rattle.std.specs.Prelude.{◌≡◌, true, List, sum_by, IfSome};
+ghost use Rattle.std.specs.Prelude.{◌≡◌, true, List, None, sum_by, IfSome};
 ghost use Rattle.cells.specs.Cell.{Cell};
 ghost use Rattle.cells.specs.Weight.{table_weight};
 ghost use Rattle.catalogue.specs.Entries.{is_entry, plain_entry};
 ghost use Rattle.store_runs.specs.Deciding.{IsSurelyLight};
 
+use crate::appending::Known;
 use catalogue::{Segment, TableEntry};
 use ipc_write::schema_message_is_read_again;
 use weight_bounds::streams_weigh_at_most;
@@ -28,28 +29,33 @@ fn sizes_of(segments: &[Segment]) -> Option<(u64, u64)>
     Some((rows, bytes))
 }
 
-// Returns whether the table of an entry is surely light enough together with new rows of this weight. Reads nothing.
-fn is_surely_light(entry: &TableEntry, new: u64) -> bool
+// Returns whether the table of an entry, which has so many rows and bytes, is surely light enough together with new rows of this weight. Reads nothing.
+fn is_surely_light(entry: &TableEntry, rows: u64, bytes: u64, new: u64) -> bool
     requires sound { is_entry (plain_entry entry.now) ≡ true }
+    requires rows { rows ≡ sum_by (λ g. g.rows) (plain_entry entry.now).segments }
+    requires bytes { bytes ≡ sum_by (λ g. g.place.bytes) (plain_entry entry.now).segments }
     ensures { result ≡ true → (rows : List (List Cell)) → new ≡ table_weight (plain_entry entry.now).schema rows
         → IsSurelyLight (record { entry = plain_entry entry.now; rows = rows }) }
 {
     streams_weigh_at_most();
     schema_message_is_read_again();
-    match sizes_of(entry.segments()) {
-        Some((rows, bytes)) => weight_bounds::stays_light(entry.schema(), rows, bytes, new),
-        None => false,
-    }
+    weight_bounds::stays_light(entry.schema(), rows, bytes, new)
 }
 
-/// Returns the same for a table that is not read anyway. `is_known` is whether a command before this one had to read it, or made it.
-pub(crate) fn stays_light(entry: &TableEntry, new: u64, is_known: bool) -> bool
+/// Returns the same for a table that is not read anyway, and whose weight is not known.
+pub(crate) fn stays_light(entry: &TableEntry, new: u64, known: &Known) -> bool
     requires sound { is_entry (plain_entry entry.now) ≡ true }
-    ensures { result ≡ true → (rows : List (List Cell)) → new ≡ table_weight (plain_entry entry.now).schema rows
+    ensures light { result ≡ true → (rows : List (List Cell)) → new ≡ table_weight (plain_entry entry.now).schema rows
         → IsSurelyLight (record { entry = plain_entry entry.now; rows = rows }) }
+    ensures unknown { result ≡ true → known.now.weight ≡ None }
 {
+    if known.weight.is_some() {
+        return false;
+    }
     match sizes_of(entry.segments()) {
-        Some((_, bytes)) => (is_known || bytes > FEW_BYTES) && is_surely_light(entry, new),
+        Some((rows, bytes)) => {
+            (known.is_read || bytes > FEW_BYTES) && is_surely_light(entry, rows, bytes, new)
+        }
         None => false,
     }
 }

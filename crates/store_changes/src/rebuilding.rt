@@ -1,5 +1,5 @@
 // Gives the new segments of a catalogue their places.
-ghost use Rattle.std.specs.Prelude.{◌≡◌, ◌≢◌, ◌≤◌, ◌++◌, [], true, false, length, IfOk, OnOk};
+ghost use Rattle.std.specs.Prelude.{◌≡◌, ◌≢◌, ◌<◌, ◌≤◌, ◌++◌, [], true, false, length, IfOk, OnOk};
 ghost use Rattle.catalogue.specs.Entries.{plain_entry, IsCatalogue};
 ghost use Rattle.catalogue.specs.View.{catalogue_of};
 ghost use Rattle.store_runs.specs.Filling.{has_place, placed_in, new_in, new_segments, entry_filled, filled};
@@ -27,12 +27,26 @@ fn new_count(from: u64, segments: &[Segment]) -> usize
     count
 }
 
+// Returns whether the segment at a place is new.
+fn is_new_at(from: u64, segments: &[Segment], place: usize) -> bool
+    requires { place < length segments.now }
+    ensures { result ≡ true → new_in from segments.now ≢ [] }
+{
+    !has_place(from, segments[place])
+}
+
 /// Returns whether a table has new segments, which start at this sector or later.
 pub fn has_new(from: u64, entry: &TableEntry) -> bool
     ensures new { result ≡ true → new_in from (plain_entry entry.now).segments ≢ [] }
     ensures none { result ≡ false → new_in from (plain_entry entry.now).segments ≡ [] }
 {
-    new_count(from, entry.segments()) != 0
+    let segments = entry.segments();
+    let count = segments.len();
+    // New segments stand behind all others.
+    if count > 0 && is_new_at(from, segments, count - 1) {
+        return true;
+    }
+    new_count(from, segments) != 0
 }
 
 // Appends the new ones among some segments.

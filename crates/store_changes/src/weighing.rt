@@ -17,6 +17,7 @@ ghost use Rattle.store_runs.specs.Reading.{IsRead, Unreads, OnlyReadsDevice, end
 ghost use Rattle.store_changes.specs.Ahead.{segments_ahead, segment_ahead, IsAhead, IsNext};
 ghost use Rattle.store_changes.specs.ReadSegment.{UnreadsSegment};
 ghost use Rattle.store_changes.specs.Source.{AreReadable};
+ghost use Rattle.store_changes.specs.Weights.{Weighs};
 ghost use Rattle.store_changes.specs.inner.ReadRows.{WeighsRows, WeighsNext};
 
 use crate::ahead::ReadAhead;
@@ -102,8 +103,7 @@ pub fn weigh_entry<D: SegmentSource>(
     requires sound { is_entry (plain_entry entry.now) ≡ true }
     ensures reads { OnlyReadsDevice D.size D.story D.failed D.tells (ended result) device.old device.new }
     ensures goes_on { D.goes_on device.old device.new }
-    ensures weight { IfOk result (λ w. (table : PlainTable) × IsRead D.tells (shown_image (now (D.story device.old))) (plain_entry entry.now) table
-        × (w ≡ table_weight table.schema table.rows)) }
+    ensures weight { IfOk result (Weighs D.tells (shown_image (now (D.story device.old))) (plain_entry entry.now)) }
     ensures unread { IfErr result (Unreads D.tells (shown_image (now (D.story device.old))) (plain_entry entry.now)) }
 {
     table_laws();

@@ -6,4 +6,5 @@ pub mod KnownLemmas
 pub mod FrontLemmas
 pub mod LackedLemmas
 pub mod WalkLemmas
+pub mod NamedLemmas
 pub mod FoundLemmas

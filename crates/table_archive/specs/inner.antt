@@ -1,3 +1,4 @@
 pub mod Written
 pub mod Texts
 pub mod Members
+pub mod Named

@@ -15,6 +15,7 @@ mod archive;
 mod digests;
 mod manifest;
 mod members;
+mod named;
 mod names;
 mod parsing;
 mod reading;

@@ -1,12 +1,8 @@
--- Numbers that were written under stamps.
-use Rattle.std.specs.Prelude.{◌≤◌, ◌==◌, ℕ, List, [], ◌∷◌, Option, Some, None, if◌then◌else◌}
-use Rattle.dictionary_codes.specs.declared.stamped_numbers.StampedNumber.{StampedNumber}
+-- Numbers that are written with a first number, which is advanced by 4,194,304 at a time.
+use Rattle.std.specs.Prelude.{◌≤◌, ◌+◌, ◌^◌, ℕ, List}
+use Rattle.dictionary_codes.specs.inner.PlaceFrom.{AreBelow}
 
--- the number, if it was written under this stamp
-abbrev pub number_under : ℕ → StampedNumber → Option ℕ
-number_under stamp written = if written.stamp == stamp then Some written.number else None
-
--- none was written under a later stamp
-abbrev pub AreStamped : ℕ → List StampedNumber → Type 0
-AreStamped stamp [] = Unit {0}
-AreStamped stamp (x ∷ xs) = (x.stamp ≤ stamp) × AreStamped stamp xs
+-- there is room for each such number in 32 bits, and none was written with a later first one
+pub record HaveRoom (first : ℕ) (written : List ℕ) : Type 0 where
+  pub room : first + 2 ^ 22 ≤ 2 ^ 32
+  pub below : AreBelow (first + 2 ^ 22) written

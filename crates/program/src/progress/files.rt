@@ -257,6 +257,19 @@ impl<C: Clock, T, F: OpenFile, H> OpenFile for ProgressFile<'_, C, T, F, H> {
     fn sync_data(&self) -> io::Result<()> {
         self.file.sync_data()
     }
+
+    fn try_clone(&self) -> io::Result<Self> {
+        Ok(ProgressFile {
+            file: self.file.try_clone()?,
+            files: self.files,
+            path: self.path,
+            again: Cell::new(None),
+            line: self.line,
+            waits: self.waits,
+            bytes_read: 0,
+            bytes_written: 0,
+        })
+    }
 }
 
 // Returns whether a lock was refused since another open file has one.
@@ -342,5 +355,9 @@ where
 
     fn wait_to_read(&self) -> io::Result<()> {
         self.opened_again(self.file.wait_to_read())
+    }
+
+    fn give_back(&self) -> io::Result<()> {
+        self.file.give_back()
     }
 }

@@ -4,7 +4,7 @@ ghost use Rattle.std.specs.Prelude.{◌≡◌};
 use super::{LEAST_SHOWN, ProgressLine, Stage};
 use std::fs::{self, Metadata};
 use std::io::{self, Write};
-use std::os::unix::fs::MetadataExt;
+use std::os::unix::fs::{FileTypeExt, MetadataExt};
 use std::rt::Files;
 use std::time::Clock;
 
@@ -16,6 +16,8 @@ const MOST_AT_ONCE: usize = 64 * 1024;
 pub enum Target {
     /// A regular file, as its device and its inode name it.
     File { device: u64, inode: u64 },
+    /// A block device, as its number names it: several nodes may lead to one device.
+    Device { number: u64 },
     /// A terminal, a pipe, whose reader may print on the same terminal, or anything else.
     Other,
 }
@@ -30,16 +32,21 @@ impl Target {
     }
 
     fn of(found: &Metadata) -> Target {
-        if !found.is_file() {
-            return Target::Other;
+        if found.is_file() {
+            return Target::File {
+                device: found.dev(),
+                inode: found.ino(),
+            };
         }
-        Target::File {
-            device: found.dev(),
-            inode: found.ino(),
+        if found.file_type().is_block_device() {
+            return Target::Device {
+                number: found.rdev(),
+            };
         }
+        Target::Other
     }
 
-    /// Returns whether it is the file that was found.
+    /// Returns whether it is the file or the block device that was found.
     pub fn is_file(self, found: &Metadata) -> bool {
         self != Target::Other && self == Target::of(found)
     }

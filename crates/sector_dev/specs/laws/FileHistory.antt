@@ -1,7 +1,7 @@
 -- Laws of the story of a file in memory.
 use Rattle.std.specs.Prelude.{◌≡◌, ◌≢◌, ℕ, Bool, true, false, if◌then◌else◌, List, [], ◌∷◌, Option, refl}
 use Rattle.std.proofs.Common.{subst}
-use Rattle.sector_dev.specs.Disk.{Disk, Sector, Story, Image, now, flushed, ShowsImage, MayHold, MayLeave, HoldsContents, IsSafe, IsWhole}
+use Rattle.sector_dev.specs.Disk.{Disk, Sector, Story, now, flushed, ShowsImage, MayHold, MayLeave, HoldsContents, IsSafe, IsWhole}
 use Rattle.sector_dev.specs.Rows.{SectorWrite, row_from, write_done, grown}
 use Rattle.sector_dev.specs.History.{all_synced, content_at}
 use Rattle.sector_dev.specs.FileHistory.{file_replay, file_story, flushed_where, marked_at}

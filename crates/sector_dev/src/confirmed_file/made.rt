@@ -25,4 +25,10 @@ impl<F: SectorFile + Drop> ConfirmedFile<F> {
     {
         self.file
     }
+
+    pub(crate) fn inner(&self) -> &F
+        ensures { result.now ≡ inner_of self.now }
+    {
+        &self.file
+    }
 }

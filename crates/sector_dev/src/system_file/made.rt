@@ -4,10 +4,10 @@ ghost use Rattle.sector_dev.specs.Confirming.{is_in_doubt};
 ghost use Rattle.sector_dev.specs.View.{opened_file, sectors_in};
 ghost use Rattle.sector_dev.specs.declared.file.TheConstants.{LEAST_SECTORS, MOST_SECTORS};
 
-use super::PlainFile;
-use crate::ConfirmedFile;
+use super::{FileHandle, PlainFile};
+use crate::{ConfirmedFile, LockFile};
 use std::fs::OpenFile;
-use std::io::{Read, Seek, Write};
+use std::io::{self, Read, Seek, Write};
 
 impl<F: Read + Write + Seek + OpenFile + Drop> ConfirmedFile<PlainFile<F>> {
     // A file with this number of sectors. It is in doubt if another program may have left it so, and it can be written.
@@ -26,5 +26,15 @@ impl<F: Read + Write + Seek + OpenFile + Drop> ConfirmedFile<PlainFile<F>> {
         ensures { result ≡ opened_file self }
     {
         self.into_inner().file
+    }
+}
+
+impl<F: Read + Write + Seek + OpenFile + LockFile + Drop> ConfirmedFile<PlainFile<F>> {
+    /// Returns a second handle of the open file.
+    ///
+    /// # Errors
+    /// An error if the system refuses.
+    pub(crate) fn handle(&self) -> io::Result<FileHandle<F>> {
+        FileHandle::of(&self.inner().file)
     }
 }

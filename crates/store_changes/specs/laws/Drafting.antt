@@ -131,7 +131,7 @@ none_new from (s ∷ ss) sound before =
     by_test true is later = later
     by_test false is later = absurd (cc is)
 
-before_parts : (from : ℕ) (xs ys : List Run) → AreBefore from (xs ++ ys) → AreBefore from xs × AreBefore from ys
+pub before_parts : (from : ℕ) (xs ys : List Run) → AreBefore from (xs ++ ys) → AreBefore from xs × AreBefore from ys
 before_parts from [] ys before = (tt, before)
 before_parts from (x ∷ xs) ys before = let rest = before_parts from xs ys before.1 in ((before.0, rest.0), rest.1)
 

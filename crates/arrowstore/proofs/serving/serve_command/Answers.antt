@@ -23,11 +23,11 @@ returns-in_err-device-clause-serves g c =
     rw (p.1, p.2) (inl (inr (c.in_ok-command.command, c.in_ok-command.ensures.stated, of_file c.in_err-device.field-0.0), kept))
 
 pub returns-clause-serves : goal.returns-clause-serves
-returns-clause-serves g c = inr (record {
+returns-clause-serves g c = inr (inl (record {
   stated = c.in_ok-command.command;
   states = c.in_ok-command.ensures.stated;
   device = c.in_ok-device.device;
   opened = c.in_ok-device.ensures.opened;
   back = c.serve_device-done.result.1;
   serves = c.serve_device-done.ensures.serves;
-})
+}))

@@ -48,7 +48,7 @@ returns-in-ImportComplete-clause-serves g c =
     let new = c.import_complete.new in
     serves_as g.R.Read.remaining g.W.Write.contents c.args.command (opened.ImportComplete c.in-ImportComplete.name c.in-ImportComplete.is_new) c.args.store.now new.store
     (channels c.args.input.now c.args.output.now c.args.hint.now) (channels new.input new.output c.args.hint.now) c.import_complete.result c.in-ImportComplete.is
-    (record { refused = e.taken; goes = e.goes; told = e.told; written = e.written; unhinted = refl })
+    (record { refused = e.taken; unread = e.unread; goes = e.goes; told = e.told; written = e.written; unhinted = refl })
 
 pub returns-in-AppendComplete-clause-serves : goal.returns-in-AppendComplete-clause-serves
 unfolding Serves
@@ -57,7 +57,7 @@ returns-in-AppendComplete-clause-serves g c =
     let new = c.append_complete.new in
     serves_as g.R.Read.remaining g.W.Write.contents c.args.command (opened.AppendComplete c.in-AppendComplete.name) c.args.store.now new.store
     (channels c.args.input.now c.args.output.now c.args.hint.now) (channels new.input new.output c.args.hint.now) c.append_complete.result c.in-AppendComplete.is
-    (record { refused = λ t. absurd (true≢false (sym t)); goes = λ _. e.goes; told = λ _. e.told; written = e.written; unhinted = refl })
+    (record { refused = λ t. absurd (true≢false (sym t)); unread = λ _. e.unread; goes = λ _. e.goes; told = λ _. e.told; written = e.written; unhinted = refl })
 
 pub returns-in-SchemaFields-clause-serves : goal.returns-in-SchemaFields-clause-serves
 unfolding Serves

@@ -26,7 +26,7 @@ returns-clause-known c =
     subst (λ (x : Cell). IsNumber (with_entry before (entry_at own z)) c.in_ok-number.number x) cell
     (subst (λ (xs : List Cell). IsNumber xs c.in_ok-number.number (borrowed_cell c.value.result)) seen c.in_ok-number.ensures.number) in
     let items = c.note_code.ensures ∙ ap (λ (place : Option ℕ). noted c.args.known.now place c.small_code.result) c.number-place.ensures in
-    let small = small_number (with_entry before (entry_at own z)) (entry_at own z) c.in_ok-number.number c.small_code.result c.small_code.ensures number in
+    let small = small_number (with_entry before (entry_at own z)) (entry_at own z) c.in_ok-number.number c.small_code.result c.small_code.ensures.same number in
     let all = noted_known before own c.args.known.now z c.small_code.result c.requires.known small in
     on_ok_weaker c.code_at.result
     (λ same. subst (λ (xs : List Cell). AreKnown xs own c.note_code.new.known) (sym (same ∙ seen)) (λ n k some. all n k (some ∙ ap (λ (ks : List (Option ℕ)). get_or ks n None) items)))

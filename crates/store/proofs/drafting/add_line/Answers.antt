@@ -15,8 +15,10 @@ use Rattle.store_changes.specs.Draft.{laid, streams_of}
 use Rattle.store_changes.specs.Verdicts.{EndsAtLine}
 use Rattle.store_changes.specs.laws.Lines.{line_decided, line_edits}
 use Rattle.store_changes.specs.laws.ReadTables.{reads_ended}
+use Rattle.store.specs.Drafted.{KnowsWeight}
 use Rattle.store.specs.inner.Drafting.{Shows, StepsTo}
 use Rattle.store.proofs.Applied.{single_command}
+use Rattle.store.proofs.KnownWeights.{knows_after}
 use Rattle.store.proofs.Listed.{NotAdded, ends_unadded, unadded_quiet}
 use Rattle.store.proofs.drafting.add_line.Goals as goal
 
@@ -71,3 +73,15 @@ returns-in-Err-clause-reads g c = c.in-Err.ensures.reads
 
 pub returns-in-Err-clause-ends : goal.returns-in-Err-clause-ends
 returns-in-Err-clause-ends g c = λ image shows. inl (c.in-Err.ensures.answers image shows)
+
+pub returns-in-Ok-clause-weighed : goal.returns-in-Ok-clause-weighed
+returns-in-Ok-clause-weighed g c =
+    let D = g.D.SectorDevice in
+    let d = c.args.draft in
+    let made = catalogue_of d.made in
+    let change : PlainChange = change_of c.in-Ok.change in
+    let weighed = c.decide_line.new.weighed in
+    IfOk-weaker c.add.result
+    (λ (next : Draft). (image : Image) → Leaves d.next (laid d.from (streams_of d) image) made change next.next (laid next.from (streams_of next) image) (catalogue_of next.made))
+    (λ (next : Draft). (image : Image) → Shows D.tells (D.story c.args.device.now) image → KnowsWeight D.tells image next weighed)
+    (λ next leaves image shows. knows_after c.table_laws.ensures D.tells image d next weighed change c.requires.draft.drafted.stands (leaves image) (c.in-Ok.ensures.weighed image shows)) c.add.ensures.leaves

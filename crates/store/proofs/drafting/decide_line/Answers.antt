@@ -206,3 +206,12 @@ returns-in-SaveAs-clause-answers g c = λ image shows.
     let D = g.D.SectorDevice in
     let d = c.args.draft.now in
     subst (λ (k : Command). IsAnswered D.tells (laid d.from (streams_of d) image) (catalogue_of d.made) (command_of k) (decision_of c.save_line.result)) (sym c.in-SaveAs.is) (c.save_line.ensures.answers image shows)
+
+pub returns-in-AppendStream-clause-weighed : goal.returns-in-AppendStream-clause-weighed
+returns-in-AppendStream-clause-weighed g c = c.append_line.ensures.weighed
+
+pub returns-in-AppendRows-clause-weighed : goal.returns-in-AppendRows-clause-weighed
+returns-in-AppendRows-clause-weighed g c = c.append_line-in-AppendRows.ensures.weighed
+
+pub returns-in-AppendTable-clause-weighed : goal.returns-in-AppendTable-clause-weighed
+returns-in-AppendTable-clause-weighed g c = c.append_line-in-AppendTable.ensures.weighed

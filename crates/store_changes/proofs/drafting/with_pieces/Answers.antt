@@ -22,11 +22,11 @@ place_streams-requires c =
 pub given_up-requires : goal.given_up-requires
 given_up-requires c = let change : PlainChange = change_of c.args.change.now in record { edit = (change.streams, c.requires.sound.edit) }
 
-pub edited-requires-clause-edit : goal.edited-requires-clause-edit
-edited-requires-clause-edit c = let change : PlainChange = change_of c.args.change.now in (change.streams, c.requires.sound.edit)
+pub edited_in_place-requires-clause-edit : goal.edited_in_place-requires-clause-edit
+edited_in_place-requires-clause-edit c = let change : PlainChange = change_of c.args.change.now in (change.streams, c.requires.sound.edit)
 
-pub edited-requires-clause-sound : goal.edited-requires-clause-sound
-edited-requires-clause-sound c =
+pub edited_in_place-requires-clause-sound : goal.edited_in_place-requires-clause-sound
+edited_in_place-requires-clause-sound c =
     let d = c.args.draft in
     let change : PlainChange = change_of c.args.change.now in
     let one = one_schema c.one_page_each.ensures.apart in
@@ -36,8 +36,8 @@ edited-requires-clause-sound c =
     let limit = end_is_low one d c.requires.draft change c.requires.line c.requires.sound c.in_ok-placed.placed.next (c.in_ok-placed.ensures.next ∙ ap (end_of d.next) own) c.in_ok-placed.ensures.counted in
     subst (λ (xs : List Segment). list_all is_segment xs ≡ true) (sym (c.deref-6.ensures.value ∙ segments)) (segments_sound one d c.requires.draft change c.requires.line c.requires.sound limit)
 
-pub edited-requires-clause-stands : goal.edited-requires-clause-stands
-edited-requires-clause-stands c =
+pub edited_in_place-requires-clause-stands : goal.edited_in_place-requires-clause-stands
+edited_in_place-requires-clause-stands c =
     let d = c.args.draft in
     let change : PlainChange = change_of c.args.change.now in
     let one = one_schema c.one_page_each.ensures.apart in

@@ -1,47 +1,21 @@
-use Rattle.std.proofs.Common.{◌≡◌, ◌≤◌, ◌+◌, ◌∙◌, ℕ, true, List, Some, length, string_bytes, sym, ap, subst}
-use Rattle.std.specs.List.{list_all}
-use Rattle.catalogue.specs.Edits.{with_exchanged}
-use Rattle.catalogue.specs.View.{catalogue_of}
-use Rattle.catalogue.specs.Entries.{PlainCatalogue, IsCatalogue, is_digest, is_entry, segment_count}
-use Rattle.catalogue.specs.declared.limits.TheConstants.{MAX_SEGMENTS}
-use Rattle.store_changes.specs.declared.change.Edit.{Edit}
-use Rattle.arrow_schema.specs.View.{schema_of}
-use Rattle.catalogue.specs.Edits.{entry_of}
-use Rattle.catalogue.specs.laws.Kept.{catalogue_is}
+use Rattle.std.proofs.Common.{sym, subst, ap, ◌∙◌}
+use Rattle.std.proofs.lemmas.Result.{IfOk-weaker}
+use Rattle.catalogue.specs.Entries.{PlainCatalogue, IsCatalogue}
+use Rattle.catalogue.specs.declared.catalogue.Catalogue.{Catalogue}
 use Rattle.store_changes.specs.Change.{edit_of}
-use Rattle.store_runs.specs.Changes.{new_entry, page_instead, edited}
-use Rattle.store_changes.proofs.EditedCounts.{CanEdit, put_is_entry, extend_is_few}
+use Rattle.store_runs.specs.Changes.{edited, IsEdit}
 use Rattle.store_changes.proofs.editing.edited.Goals as goal
 
-pub put-requires-clause-entry : goal.put-requires-clause-entry
-put-requires-clause-entry c =
-    let listed = catalogue_of c.args.catalogue.now in
-    ap is_entry (c.in_ok-new_entry-in-Put.ensures ∙ ap (new_entry (string_bytes c.in-Put.name) (schema_of c.in-Put.schema) c.args.segments.now) (c.in_ok-page-in-Put.ensures ∙ ap (λ (n : List ℕ). page_instead (entry_of listed n) (schema_of c.in-Put.schema) c.args.segments.now) c.deref.ensures))
-    ∙ put_is_entry listed c.args.edit.now c.in-Put.name c.in-Put.schema c.args.segments.now c.in-Put.is c.requires.edit (catalogue_is listed c.args.catalogue.now.kept) c.requires.sound
+pub edited_in_place-requires-clause-edit : goal.edited_in_place-requires-clause-edit
+edited_in_place-requires-clause-edit c =
+    let edit = c.requires.edit in
+    (edit.0, subst (λ (d : PlainCatalogue). IsEdit d (edit_of c.args.edit.now) edit.0) (sym c.in_ok-changed.ensures) edit.1)
 
-pub append_segments-requires-clause-most : goal.append_segments-requires-clause-most
-append_segments-requires-clause-most c =
-    subst (λ (d : PlainCatalogue). segment_count d + length c.args.segments.now ≤ MAX_SEGMENTS) (sym c.in_ok-changed.ensures)
-    (extend_is_few (catalogue_of c.args.catalogue.now) c.args.edit.now c.in-Extend.name c.args.segments.now c.in-Extend.is c.requires.edit c.requires.stands)
+pub edited_in_place-requires-clause-stands : goal.edited_in_place-requires-clause-stands
+edited_in_place-requires-clause-stands c =
+    subst (λ (d : PlainCatalogue). IsCatalogue (edited d (edit_of c.args.edit.now) c.args.segments.now)) (sym c.in_ok-changed.ensures) c.requires.stands
 
-pub exchange_segments-requires : goal.exchange_segments-requires
-exchange_segments-requires c =
-    let listed = catalogue_of c.args.catalogue.now in
-    let name = c.in-Exchange.name in
-    let place = c.in-Exchange.place in
-    let count = c.in-Exchange.count in
-    let stands = subst (λ (x : Edit). IsCatalogue (edited listed (edit_of x) c.args.segments.now)) c.in-Exchange.is c.requires.stands in
-    subst (λ (n : List ℕ). IsCatalogue (with_exchanged (catalogue_of c.in_ok-changed.changed) n place count c.args.segments.now)) (sym c.deref-in-Exchange.ensures)
-    (subst (λ (d : PlainCatalogue). IsCatalogue (with_exchanged d (string_bytes name) place count c.args.segments.now)) (sym c.in_ok-changed.ensures) stands)
-
-pub set_digests-requires-clause-count : goal.set_digests-requires-clause-count
-set_digests-requires-clause-count c =
-    let listed = catalogue_of c.args.catalogue.now in
-    let can = subst (λ (x : Edit). CanEdit listed x) c.in-Digest.is c.requires.edit in
-    ap segment_count c.in_ok-changed.ensures ∙ sym can.1.0 ∙ ap (λ (ds : List (List ℕ)). length ds) (sym c.deref-in-Digest.ensures.value)
-
-pub set_digests-requires-clause-digests : goal.set_digests-requires-clause-digests
-set_digests-requires-clause-digests c =
-    let listed = catalogue_of c.args.catalogue.now in
-    let can = subst (λ (x : Edit). CanEdit listed x) c.in-Digest.is c.requires.edit in
-    subst (λ (ds : List (List ℕ)). list_all (λ (d : List ℕ). is_digest (Some d)) ds ≡ true) (sym c.deref-in-Digest.ensures.value) can.1.1
+pub returns : goal.returns
+returns c =
+    let after : PlainCatalogue → PlainCatalogue = λ d. edited d (edit_of c.args.edit.now) c.args.segments.now in
+    IfOk-weaker c.edited_in_place.result _ _ (λ (made : Catalogue) is. is ∙ ap after c.in_ok-changed.ensures) c.edited_in_place.ensures

@@ -3,7 +3,8 @@ use Rattle.std.specs.Global.{Vec}
 use Rattle.sha2.specs.Sha256.{sha256}
 use Rattle.segments.specs.declared.piece.PiecePart.{PiecePart}
 use Rattle.segments.specs.Pieces.{bytes_of_parts}
-use Rattle.store_changes.proofs.NewDigests.{fours_more, four_left, some_four}
+use Rattle.sha256_lanes.specs.laws.Fours.{fours_more, four_left}
+use Rattle.store_changes.proofs.NewDigests.{some_four}
 use Rattle.store_changes.proofs.new_digests.digests_by_fours.Goals as goal
 
 pub loop-group-preserved : goal.loop-group-preserved

@@ -1,11 +1,16 @@
-use Rattle.std.proofs.Common.{◌≤◌, ◌+◌, arith}
-use Rattle.dictionary_codes.proofs.Stamped.{none_later, stamped_later}
+use Rattle.std.specs.Prelude.{None, get_or}
+use Rattle.std.specs.Vec.{with_items}
+use Rattle.std.proofs.Common.{◌≡◌, ◌+◌, ◌^◌, ◌∙◌, ℕ, List, ap, arith, map}
+use Rattle.std.proofs.lemmas.List.{with_items_is}
+use Rattle.dictionary_codes.proofs.Places.{none_placed}
 use Rattle.dictionary_codes.proofs.stamped_numbers.StampedNumbers.clear.Goals as goal
+use Rattle.dictionary_codes.specs.inner.PlaceFrom.{place_from}
 
-pub invariant_of-self-else-self : goal.invariant_of-self-else-self
-invariant_of-self-else-self c =
-    let le : c.self.inside.stamp ≤ c.self.inside.stamp + 1 = omega arith in
-    stamped_later c.self.inside.stamp _ c.self.inside.numbers.items le c.self.invariant
+pub returns-then-self-le-LAST_BUT_ONE : goal.returns-then-self-le-LAST_BUT_ONE
+returns-then-self-le-LAST_BUT_ONE c = λ n. none_placed (c.self.inside.first + 2 ^ 22) c.self.inside.numbers.items n c.self.invariant.below
 
-pub returns-else-self : goal.returns-else-self
-returns-else-self c = λ n. none_later c.self.inside.stamp c.self.inside.numbers.items n c.self.invariant
+pub returns-else-self-le-LAST_BUT_ONE : goal.returns-else-self-le-LAST_BUT_ONE
+returns-else-self-le-LAST_BUT_ONE c = λ n.
+    let same : (with_items c.self.inside.numbers c.restart.new.numbers).items ≡ c.restart.new.numbers =
+    with_items_is c.self.inside.numbers _ (omega (arith, c.restart.ensures.count)) in
+    ap (λ (xs : List ℕ). get_or (map (place_from 8388608) xs) n None) same ∙ none_placed 8388608 c.restart.new.numbers n c.restart.ensures.below

@@ -19,6 +19,15 @@ pub add_line-requires-clause-placed : goal.add_line-requires-clause-placed
 add_line-requires-clause-placed g c =
     let D = g.D.SectorDevice in let begun = c.requires in placed_old D.size D.story D.failed D.tells begun.first c.args.self.now c.args.transaction begun.commands begun.drafts (all_placed begun.first)
 
+pub add_line-requires-clause-weighed : goal.add_line-requires-clause-weighed
+add_line-requires-clause-weighed g c =
+    let D = g.D.SectorDevice in
+    let begun = c.requires in (
+      shown_first D.size D.story D.failed D.tells begun.first c.args.self.now c.args.transaction begun.commands begun.drafts,
+      shows_old D.size D.story D.failed D.tells begun.first c.args.self.now c.args.transaction begun.commands begun.drafts,
+      begun.drafts.weighed,
+    )
+
 -- ---- it was only read
 
 pub returns-in-Ok-clause-reads : goal.returns-in-Ok-clause-reads
@@ -39,9 +48,10 @@ returns-in-Ok-clause-drafts g c = λ first commands begun.
     let old = c.args.self.now in
     let t = c.args.transaction in
     let does = c.in-Ok.ensures in
-    drafts_more D.size D.story D.failed D.tells first old t commands begun (command_of c.args.command) _ (record { draft = c.in-Ok.draft }) (single_command c.args.command) c.commands_bring_tables.ensures
+    drafts_more D.size D.story D.failed D.tells first old t commands begun (command_of c.args.command) _ (record { draft = c.in-Ok.draft; weighed = c.add_line.new.weighed }) (single_command c.args.command) c.commands_bring_tables.ensures
     (returns-in-Ok-clause-reads g c) (λ plain. ap D.story (does.still plain)) does.draft does.same
     (does.steps (shown_first D.size D.story D.failed D.tells first old t commands begun) (shows_old D.size D.story D.failed D.tells first old t commands begun))
+    (does.weighed (shown_first D.size D.story D.failed D.tells first old t commands begun) (shows_old D.size D.story D.failed D.tells first old t commands begun))
 
 -- ---- refused
 

@@ -47,6 +47,7 @@ returns-in-Ok-clause-drafts g c =
         ap (λ (ss : List (List ℕ)). laid d.from ss image) begun.none,
         begun.made,
       );
+      weighed = tt;
     }
 
 pub returns-in-Err-clause-refused : goal.returns-in-Err-clause-refused
