@@ -1308,8 +1308,9 @@ def failed_calls(store, odd, new, script, folder):
     # A new file is opened once more behind its lock; one that cannot be, or whose directory cannot be synced, is not made.
     for files, path in ((7, new), (8, os.path.dirname(new))):
         yield ["format", new, "64"], b"", few(files), "G1 Io", f"The file `{path}` cannot be opened: Too many open files. "
-    # An opening writes both commits again, and syncs the file.
-    for number, line, what in ((1, "C4 Device", "written"), (2, "C4 Device", "written"), (3, "C4 Device", "synced"), (4, "S9 Device", "written")):
+    # An opening writes both commits again, and syncs the file. A store is opened before piped input is read, and once more behind it.
+    openings = [(place, "C4 Device", what) for place, what in enumerate(2 * ["written", "written", "synced"], 1)]
+    for number, line, what in (*openings, (7, "S9 Device", "written")):
         yield append, ONE_BATCH, change(number), line, f"The file `{store}` cannot be {what}: {broken}. "
     for words in (["tables", store], copy):
         yield words, b"", disturbed(FAILED_FILE_READ=1), "C4 Device", f"The file `{store}` cannot be read: {broken}. "

@@ -23,6 +23,7 @@ import tarfile
 import tempfile
 import textwrap
 import time
+import traceback
 from collections.abc import Callable
 
 sys.dont_write_bytecode = True
@@ -31,6 +32,8 @@ from running import Answers, chosen_of
 
 ROOT = os.path.abspath(os.path.join(os.path.dirname(os.path.abspath(__file__)), ".."))
 KILLS = 8
+# Seconds that a script, or the other program, may take where many tests run at once.
+LONGEST = 600
 answers = Answers.of_arguments(__doc__)
 PROGRAM = answers.program
 
@@ -100,8 +103,9 @@ def words_of_page(begin):
 
 
 def with_steps(text):
-    """The script with a step behind each line that ends a command, and not within a text, a document or a pipe."""
-    lines, made, within, document = text.splitlines(), [], False, None
+    """The script with a step behind each line that ends a command, and not within a text, a document or a pipe. A command that fails ends it, as it ends the
+    scripts that say so themselves: a step does not hide its status."""
+    lines, made, within, document = text.splitlines(), ["set -e"], False, None
     for number, line in enumerate(lines):
         made.append(line)
         if document:
@@ -142,7 +146,7 @@ class Room:
             return file.read()
 
     def run(self, *words, given=None):
-        done = subprocess.run(words, cwd=self.folder, env=self.environment, input=given, capture_output=True, text=True, timeout=120)
+        done = subprocess.run(words, cwd=self.folder, env=self.environment, input=given, capture_output=True, text=True, timeout=LONGEST)
         return done.returncode, done.stdout + done.stderr
 
     def command(self, *words, given=""):
@@ -191,7 +195,7 @@ class Room:
     def play(self, recipe, at=0, act="", failing=0):
         """The status of a script, and what it says."""
         run = self.begin(recipe, at, act, failing)
-        said, _ = run.communicate(timeout=120)
+        said, _ = run.communicate(timeout=LONGEST)
         return run.returncode, said
 
     def let_write(self, recipe):
@@ -199,7 +203,7 @@ class Room:
 
     def acknowledged(self):
         """Whether the other program's row was acknowledged, once that program has ended."""
-        for _ in range(10000):
+        for _ in range(100 * LONGEST):
             if self.has("steps/written"):
                 return self.has("steps/acknowledged")
             time.sleep(0.01)
@@ -925,7 +929,7 @@ RECIPES = {
     "to_sqlite.sh": Recipe("to_sqlite.sh", make_log, database_done("sqlite3", "log.db"), log_stays, needs=("sqlite3",), kills=False),
     "using.md, delete": Recipe("using.md, delete", make_old, old_deleted, old_held, **OF_USING),
     "using.md, copy": Recipe("using.md, copy", make_old, old_copied, old_held, before_again=delete_larger, **OF_USING),
-    "using.md, empty": Recipe("using.md, empty", make_old, made_empty, old_held, kills=False, **OF_USING),
+    "using.md, empty": Recipe("using.md, empty", make_old, made_empty, old_held, again=1, kills=False, **OF_USING),
     "replica.sh": Recipe("replica.sh", make_replica, replica_done, replica_held, writer=OWN_WRITER),
     "replica.sh, a busy sender": Recipe("replica.sh", make_replica, origin_done, origin_held, **OF_ORIGIN),
     "replica.sh, run by another": Recipe("replica.sh", make_replica, replica_done_twice, replica_held_twice, lock="replica.lock", writer="sh plain/replica.sh", kills=False),
@@ -1046,6 +1050,11 @@ def judge(what, wrong):
         answers.passed += 1
 
 
+def stopped_by(error):
+    """What stopped a recipe that could not be played to its end."""
+    return error and "".join(traceback.format_exception(error)[-4:])
+
+
 def play_all(chosen):
     """Every recipe that is chosen and whose tools are here, some at a time."""
     with concurrent.futures.ThreadPoolExecutor(os.cpu_count()) as pool:
@@ -1054,7 +1063,8 @@ def play_all(chosen):
             if recipe.name in chosen and not is_left_out(title, ("flock", *recipe.needs)):
                 runs.append((recipe.name, pool.submit(Played(title, recipe).all)))
         for answers.case, run in runs:
-            for what, wrong in run.result():
+            judge("the recipe is played to its end", stopped_by(run.exception()))
+            for what, wrong in run.result() if not run.exception() else ():
                 judge(what, wrong)
 
 
