@@ -112,6 +112,12 @@ def pages_of_crates():
             answers.compare(f"{page} is short", len(text.splitlines()) <= LINES_IN_CRATE, True)
 
 
+def toolchain():
+    """The page names the release of the toolchain that the program in dist/ was proved with."""
+    [told] = re.findall(r"(?m)^toolchain (.*)$", text_of("dist/manifest"))
+    answers.compare("docs/proved.md names the toolchain of dist/", re.findall(r"(?m)^Proved with `(.*?)`", text_of("docs/proved.md")), [told])
+
+
 def sectors():
     answers.compare("the sectors of docs/crash.md", sectors_in_use(), ([(2, 5), (3, 2)], [2, 3, 4, 5, 6, 7]))
 
@@ -121,5 +127,5 @@ def example():
     answers.compare("docs/library.md has the program", blocks(text_of("docs/library.md"), "rust"), [text_of("crates/library_example/src/main.rt")])
 
 
-answers.play(("session", run_session), pages, pages_of_crates, sectors, example)
+answers.play(("session", run_session), pages, pages_of_crates, toolchain, sectors, example)
 sys.exit(answers.tell("readme"))
