@@ -1252,8 +1252,15 @@ def play_deletions():
     with tempfile.TemporaryDirectory() as folder:
         room = bare_room(folder)
         make_log(room)
-        text = SCRIPTS["delete.sh"].replace("'day >= 20788'", "\"note = 'a'\"")
-        answers.compare("delete.sh that would keep no row", (room.run("sh", "-c", text)[0], room.rows("my.store", "log")), (1, LOG))
+        text = SCRIPTS["delete.sh"]
+        answers.compare("how often delete.sh has its condition", text.count("day >= 20788"), 1)
+        for condition in ("note = 'a'", 'note = x, "y', "note = $(echo a)", "note = \\"):
+            quoted = "'" + condition.replace("'", "'\\''") + "'"
+            status, _ = room.run("sh", "-c", text.replace("'day >= 20788'", quoted))
+            answers.compare("delete.sh that would keep no row", (status, room.rows("my.store", "log")), (1, LOG))
+        # A quotation mark within a condition is not one of the script: nothing is deleted.
+        quoted = text.replace("day >= 20788", 'note = x, "y"')
+        answers.compare("delete.sh of a condition with quotation marks", (room.run("sh", "-c", quoted)[0], room.rows("my.store", "log")), (1, LOG))
         answers.compare("columns.sh", room.run("sh", "plain/columns.sh")[0], 0)
         room.command("append", "my.store", "log", "--as", "jsonl", given='[1,2,"north"]\n')
         answers.compare("columns.sh again", (room.run("sh", "plain/columns.sh")[0], room.rows("my.store", "log")[-1]), (1, [1, 2, "north"]))
