@@ -631,6 +631,37 @@ def play_rights():
     answers.compare("copies that may share their blocks", shared, [])
 
 
+def play_no_store():
+    """Where the store is not there, as without its disk, a backup stays, and no file of its name is made."""
+    [copying] = re.findall(r"`(\(flock --shared [^`]*)`", page("docs/using.md"))
+    for title, words, store, backup in (
+        ("backup.sh", ["sh", "plain/backup.sh"], "my.store", "backup.store"), ("a copy by using.md", ["sh", "-c", copying], "store", "backup"),
+    ):
+        with tempfile.TemporaryDirectory() as folder:
+            room = bare_room(folder)
+            make_log(room)
+            os.replace(room.path("my.store"), room.path(store))
+            answers.compare(title, (room.run(*words)[0], content_of(room, backup) == content_of(room, store)), (0, True))
+            rows = room.rows(backup, "log")
+            os.remove(room.path(store))
+            answers.compare(f"{title}, of no store", (room.run(*words)[0] != 0, room.has(store), room.rows(backup, "log")), (True, False, rows))
+
+
+def play_put_back():
+    """A backup takes the place of the store, and stays."""
+    with tempfile.TemporaryDirectory() as folder:
+        room = bare_room(folder)
+        make_log(room)
+        answers.compare("backup.sh", room.run("sh", "plain/backup.sh")[0], 0)
+        room.command("drop", "my.store", "log")
+        command = words_of_page("flock my.store.lock sh -c 'cp")
+        for _ in range(2):
+            answers.compare("a backup that is put back", room.run("sh", "-c", command), (0, ""))
+            answers.compare("its rows", (room.rows("my.store", "log"), content_of(room, "backup.store") == content_of(room, "my.store")), (LOG, True))
+        os.remove(room.path("backup.store"))
+        answers.compare("none that is put back", (room.run("sh", "-c", command)[0], room.rows("my.store", "log")), (1, LOG))
+
+
 def made_empty(room, late):
     return differs((room.rows("store", "t"), room.rows("store", "empty")), (old_with(late), []))
 
@@ -1477,6 +1508,8 @@ def play_chain_folders():
         os.chmod(room.path("bin/tar"), 0o755)
         answers.compare("chain.sh with a tar that fails", (room.run("sh", "plain/chain.sh", "chain")[0], chain_of(room, "chain")), (9, []))
         os.remove(room.path("bin/tar"))
+        answers.compare("copy_chain.sh into no folder", (room.run("sh", "plain/copy_chain.sh", named, "copy")[0], room.has("copy")), (1, False))
+        os.mkdir(room.path("copy"))
         answers.compare("copy_chain.sh of no folder", room.run("sh", "plain/copy_chain.sh", "nothing", "copy")[0], 1)
         answers.compare("copy_chain.sh", (room.run("sh", "plain/copy_chain.sh", named, "copy"), chain_of(room, "copy")), ((0, ""), names_of(1)))
         shutil.copyfile(room.path(f"{named}/000001.tar"), room.path(f"{named}/9.tar"))
@@ -1495,6 +1528,7 @@ def play_archive_made_anew():
     with tempfile.TemporaryDirectory() as folder:
         room = bare_room(folder)
         make_log(room)
+        os.mkdir(room.path("copy"))
         many = "".join(f"save log a{number}\n" for number in range(30))
         room.command("apply", "my.store", "-", given=many + "rename log z\n")
         for turn, status in ((0, 0), (1, 0), (2, 1)):
@@ -1573,6 +1607,8 @@ OTHERS = [
     ("rows that SQLite does not take", play_rows_not_taken, ("flock", "sqlite3")),
     ("integers that SQLite rounds", play_too_large_for_sqlite, ("flock", "sqlite3")),
     ("the owner of a copy", play_rights, ("flock", "jq")),
+    ("no store", play_no_store, ("flock",)),
+    ("a backup that is put back", play_put_back, ("flock",)),
     ("an array", play_array, ()),
     ("a field that is changed", play_fields, ("xargs",)),
     ("rows at which jq stops", play_large_numbers, ("flock", "jq")),
