@@ -676,8 +676,8 @@ def make_spool(rows):
     def make(room):
         make_log(room)
         room.command("create", "my.store", "other", "n:int8")
-        os.mkdir(room.path("spool"))
-        room.write("spool/of now.jsonl", "\n \n".join(map(json.dumps, rows)) + "\n\n")
+        os.mkdir(room.path("log.spool"))
+        room.write("log.spool/of now.jsonl", "\n \n".join(map(json.dumps, rows)) + "\n\n")
         room.write("late.jsonl", json.dumps(LATE_ROW))
 
     return make
@@ -695,7 +695,7 @@ def spool_with(room, rows, late, appended):
 
 
 def waiting(room):
-    return [name for folder in ("spool", "work") if room.has(folder) for name in os.listdir(room.path(folder))]
+    return [name for folder in ("log.spool", "log.work") if room.has(folder) for name in os.listdir(room.path(folder))]
 
 
 def spool_held(rows):
@@ -724,23 +724,40 @@ def play_spool():
         room = bare_room(folder)
         room.command("format", "my.store", "4096")
         room.command("create", "my.store", "log", "raw:binary?", "pair:struct<a:int8,b:int8>?")
-        os.mkdir(room.path("spool"))
-        room.write("spool/a", '["AB",{"a":1,"b":2}]\n{"raw":"ab","pair":[1,2]}')
-        room.write("spool/b", '["x"]\n')
-        room.write("spool/c", "")
-        room.run("setsid", "sh", "-c", SCRIPTS["once.sh"].replace('mv "$1" done', "kill -9 $$"))
+        os.mkdir(room.path("log.spool"))
+        room.write("log.spool/a", '["AB",{"a":1,"b":2}]\n{"raw":"ab","pair":[1,2]}')
+        room.write("log.spool/b", '["x"]\n')
+        room.write("log.spool/c", "")
+        room.run("setsid", "sh", "-c", SCRIPTS["once.sh"].replace('mv "$1" log.done', "kill -9 $$"))
         answers.compare("once.sh that is refused", room.run("sh", "plain/once.sh")[0], 1)
         held = room.run("flock", "my.store.lock", "sh", "-c", SCRIPTS["once.sh"].replace("-w 600", "-w 0"))
         answers.compare("once.sh that does not get the lock", held, (1, "Another program has held my.store.lock for ten minutes.\n"))
-        answers.compare("what waits then", (os.listdir(room.path("work")), os.listdir(room.path("spool"))), (["b"], ["c"]))
-        room.write("work/more", "")
+        answers.compare("what waits then", (os.listdir(room.path("log.work")), os.listdir(room.path("log.spool"))), (["b"], ["c"]))
+        room.write("log.work/more", "")
         answers.compare("once.sh of two files in work", room.run("sh", "plain/once.sh")[0], 1)
-        os.remove(room.path("work/more"))
-        room.write("work/b", "[null,null]\n")
-        os.rename(room.path("work/b"), room.path("spool/b"))
+        os.remove(room.path("log.work/more"))
+        room.write("log.work/b", "[null,null]\n")
+        os.rename(room.path("log.work/b"), room.path("log.spool/b"))
         answers.compare("once.sh, mended", room.run("sh", "plain/once.sh")[0], 0)
         answers.compare("the rows of any form", room.rows("my.store", "log"), [["ab", [1, 2]], ["ab", [1, 2]], [None, None]])
         answers.compare("what is left of it", (waiting(room), room.names("my.store")), ([], ["log"]))
+
+
+def play_two_spools():
+    """A script for another table takes up no file of the first one, which was refused or interrupted."""
+    with tempfile.TemporaryDirectory() as folder:
+        room = bare_room(folder)
+        make_log(room)
+        room.command("create", "my.store", "more", "--like", "log")
+        room.write("more.sh", re.sub(r"\blog\b", "more", SCRIPTS["once.sh"]))
+        for folder_name in "log.spool", "more.spool":
+            os.mkdir(room.path(folder_name))
+        room.write("log.spool/a", spaced(LATE_ROW))
+        stopped_spool(room, '        arrowstore create my.store log.rows --like log')
+        room.write("more.spool/b", spaced([1, 1, None]))
+        for script in "more.sh", "plain/once.sh":
+            answers.compare(f"{script} beside another", room.run("sh", script)[0], 0)
+        answers.compare("the rows of both", (room.rows("my.store", "log"), room.rows("my.store", "more")), ([*LOG, LATE_ROW], [[1, 1, None]]))
 
 
 def stopped_spool(room, line):
@@ -755,15 +772,15 @@ def play_older_spool():
     with tempfile.TemporaryDirectory() as folder:
         room = bare_room(folder)
         make_log(room)
-        os.mkdir(room.path("spool"))
+        os.mkdir(room.path("log.spool"))
         for title, put_back in (("a backup", "mv backup.store my.store"), ("an undoing", "sh plain/undo.sh $(($(arrowstore info my.store --json | jq .epoch)))")):
             rows = room.rows("my.store", "log")
-            room.write("spool/first", spaced(LATE_ROW))
-            stopped_spool(room, '    mv "$1" done')
+            room.write("log.spool/first", spaced(LATE_ROW))
+            stopped_spool(room, '    mv "$1" log.done')
             answers.compare("a backup within once.sh", room.run("sh", "plain/backup.sh")[0], 0)
-            room.write("spool/later", spaced([1, 1, None]))
-            stopped_spool(room, "        sync spool work")
-            answers.compare("what is in work", os.listdir(room.path("work")), ["later"])
+            room.write("log.spool/later", spaced([1, 1, None]))
+            stopped_spool(room, "        sync log.spool log.work")
+            answers.compare("what is in work", os.listdir(room.path("log.work")), ["later"])
             answers.compare(title, room.run("sh", "-c", put_back)[0], 0)
             answers.compare(f"once.sh after {title}", room.run("sh", "plain/once.sh")[0], 0)
             answers.compare("the rows then", room.rows("my.store", "log"), [*rows, LATE_ROW, [1, 1, None]])
@@ -972,7 +989,7 @@ SCRIPTS = {**printed_scripts(), **scripts_of_using()}
 PEOPLE_WRITER = "printf '%s\\n' '{\"name\":\"Late\"}' | flock -w 60 my.store.lock arrowstore append my.store people --as jsonl"
 RESTORED_WRITER = "printf '%s\\n' '{\"day\":20790,\"sensor\":9}' | flock -w 60 restored.store.lock arrowstore append restored.store log --as jsonl"
 OTHER_WRITER = "printf '%s\\n' '[1]' | flock -w 60 my.store.lock arrowstore append my.store other --as jsonl"
-SPOOL_WRITER = "mv late.jsonl spool && sh plain/once.sh"
+SPOOL_WRITER = "mv late.jsonl log.spool && sh plain/once.sh"
 OLD_WRITER = "printf '%s\\n' '[20790,9]' | flock -w 60 store.lock arrowstore append store t --as jsonl"
 OWN_WRITER = "printf '%s\\n' '[2]' | flock -w 60 my.store.lock arrowstore append my.store own --as jsonl"
 ORIGIN_WRITER = "printf '%s\\n' '{\"day\":20790,\"sensor\":9}' | flock -w 60 home/data/my.store.lock arrowstore append home/data/my.store log --as jsonl"
@@ -1614,6 +1631,7 @@ OTHERS = [
     ("rows at which jq stops", play_large_numbers, ("flock", "jq")),
     ("texts for nulls", play_nulls_of_csv, ("flock", "jq")),
     ("a spool", play_spool, ("flock",)),
+    ("spools of two tables", play_two_spools, ("flock",)),
     ("a spool of an older store", play_older_spool, ("flock", "jq")),
     ("three commands", play_three_commands, ()),
     ("a connection that is lost", play_lost_connection, ("flock",)),
