@@ -743,6 +743,22 @@ def play_spool():
         answers.compare("what is left of it", (waiting(room), room.names("my.store")), ([], ["log"]))
 
 
+def play_tables_beside_a_spool():
+    """Tables of the user that have such names as a script's own stay: nothing is appended then, and the file waits."""
+    with tempfile.TemporaryDirectory() as folder:
+        room = bare_room(folder)
+        make_log(room)
+        os.mkdir(room.path("log.spool"))
+        for table, status in (("log.rows", 0), ("log.kept", 0), ("log.once", 1)):
+            room.command("create", "my.store", table, "n:int8")
+            room.command("append", "my.store", table, "--as", "jsonl", given="[1]\n")
+            room.write("log.spool/a", spaced(LATE_ROW))
+            before = len(room.rows("my.store", "log"))
+            answers.compare(f"once.sh beside {table}", room.run("sh", "plain/once.sh")[0], status)
+            answers.compare(f"the rows beside {table}", (room.rows("my.store", table), len(room.rows("my.store", "log")) - before), ([[1]], 1 - status))
+        answers.compare("what waits then", waiting(room), ["a"])
+
+
 def play_two_spools():
     """A script for another table takes up no file of the first one, which was refused or interrupted."""
     with tempfile.TemporaryDirectory() as folder:
@@ -753,7 +769,7 @@ def play_two_spools():
         for folder_name in "log.spool", "more.spool":
             os.mkdir(room.path(folder_name))
         room.write("log.spool/a", spaced(LATE_ROW))
-        stopped_spool(room, '        arrowstore create my.store log.rows --like log')
+        stopped_spool(room, '        cat "$1" > once.jsonl')
         room.write("more.spool/b", spaced([1, 1, None]))
         for script in "more.sh", "plain/once.sh":
             answers.compare(f"{script} beside another", room.run("sh", script)[0], 0)
@@ -1631,6 +1647,7 @@ OTHERS = [
     ("rows at which jq stops", play_large_numbers, ("flock", "jq")),
     ("texts for nulls", play_nulls_of_csv, ("flock", "jq")),
     ("a spool", play_spool, ("flock",)),
+    ("tables beside a spool", play_tables_beside_a_spool, ("flock",)),
     ("spools of two tables", play_two_spools, ("flock",)),
     ("a spool of an older store", play_older_spool, ("flock", "jq")),
     ("three commands", play_three_commands, ()),
