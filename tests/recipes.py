@@ -334,6 +334,20 @@ def play_rows_not_taken():
         answers.compare("to_sqlite.sh without these", room.run("sh", "plain/to_sqlite.sh")[0], 0)
 
 
+def play_too_large_for_sqlite():
+    """The largest integers of SQLite are as they were; at a larger one the database of before stays."""
+    with tempfile.TemporaryDirectory() as folder:
+        room = bare_room(folder)
+        room.command("format", "my.store", "4096")
+        room.command("create", "my.store", "log", "day:int64", "sensor:uint64", "note:utf8?")
+        rows = [-(1 << 63), (1 << 63) - 1, "007"], [-(1 << 63), 1 << 63, None]
+        for row, status in zip(rows, (0, 1)):
+            room.command("append", "my.store", "log", "--as", "jsonl", given=spaced(row))
+            answers.compare(f"to_sqlite.sh of {row}", room.run("sh", "plain/to_sqlite.sh")[0], status)
+        printed = json.loads(room.run("sqlite3", "-json", "log.db", "select day, sensor, note from log")[1])
+        answers.compare("what to_sqlite.sh leaves", [list(row.values()) for row in printed], [rows[0]])
+
+
 def play_stray_mark():
     """A quotation mark that is closed by a later one replaces nothing. Line ends of any kind and empty lines do not count."""
     for text, status, rows in (
@@ -617,6 +631,37 @@ def play_rights():
     answers.compare("copies that may share their blocks", shared, [])
 
 
+def play_no_store():
+    """Where the store is not there, as without its disk, a backup stays, and no file of its name is made."""
+    [copying] = re.findall(r"`(\(flock --shared [^`]*)`", page("docs/using.md"))
+    for title, words, store, backup in (
+        ("backup.sh", ["sh", "plain/backup.sh"], "my.store", "backup.store"), ("a copy by using.md", ["sh", "-c", copying], "store", "backup"),
+    ):
+        with tempfile.TemporaryDirectory() as folder:
+            room = bare_room(folder)
+            make_log(room)
+            os.replace(room.path("my.store"), room.path(store))
+            answers.compare(title, (room.run(*words)[0], content_of(room, backup) == content_of(room, store)), (0, True))
+            rows = room.rows(backup, "log")
+            os.remove(room.path(store))
+            answers.compare(f"{title}, of no store", (room.run(*words)[0] != 0, room.has(store), room.rows(backup, "log")), (True, False, rows))
+
+
+def play_put_back():
+    """A backup takes the place of the store, and stays."""
+    with tempfile.TemporaryDirectory() as folder:
+        room = bare_room(folder)
+        make_log(room)
+        answers.compare("backup.sh", room.run("sh", "plain/backup.sh")[0], 0)
+        room.command("drop", "my.store", "log")
+        command = words_of_page("flock my.store.lock sh -c 'cp")
+        for _ in range(2):
+            answers.compare("a backup that is put back", room.run("sh", "-c", command), (0, ""))
+            answers.compare("its rows", (room.rows("my.store", "log"), content_of(room, "backup.store") == content_of(room, "my.store")), (LOG, True))
+        os.remove(room.path("backup.store"))
+        answers.compare("none that is put back", (room.run("sh", "-c", command)[0], room.rows("my.store", "log")), (1, LOG))
+
+
 def made_empty(room, late):
     return differs((room.rows("store", "t"), room.rows("store", "empty")), (old_with(late), []))
 
@@ -631,8 +676,8 @@ def make_spool(rows):
     def make(room):
         make_log(room)
         room.command("create", "my.store", "other", "n:int8")
-        os.mkdir(room.path("spool"))
-        room.write("spool/of now.jsonl", "\n \n".join(map(json.dumps, rows)) + "\n\n")
+        os.mkdir(room.path("log.spool"))
+        room.write("log.spool/of now.jsonl", "\n \n".join(map(json.dumps, rows)) + "\n\n")
         room.write("late.jsonl", json.dumps(LATE_ROW))
 
     return make
@@ -650,7 +695,7 @@ def spool_with(room, rows, late, appended):
 
 
 def waiting(room):
-    return [name for folder in ("spool", "work") if room.has(folder) for name in os.listdir(room.path(folder))]
+    return [name for folder in ("log.spool", "log.work") if room.has(folder) for name in os.listdir(room.path(folder))]
 
 
 def spool_held(rows):
@@ -679,23 +724,83 @@ def play_spool():
         room = bare_room(folder)
         room.command("format", "my.store", "4096")
         room.command("create", "my.store", "log", "raw:binary?", "pair:struct<a:int8,b:int8>?")
-        os.mkdir(room.path("spool"))
-        room.write("spool/a", '["AB",{"a":1,"b":2}]\n{"raw":"ab","pair":[1,2]}')
-        room.write("spool/b", '["x"]\n')
-        room.write("spool/c", "")
-        room.run("setsid", "sh", "-c", SCRIPTS["once.sh"].replace('mv "$1" done', "kill -9 $$"))
+        os.mkdir(room.path("log.spool"))
+        room.write("log.spool/a", '["AB",{"a":1,"b":2}]\n{"raw":"ab","pair":[1,2]}')
+        room.write("log.spool/b", '["x"]\n')
+        room.write("log.spool/c", "")
+        room.run("setsid", "sh", "-c", SCRIPTS["once.sh"].replace('mv "$1" log.done', "kill -9 $$"))
         answers.compare("once.sh that is refused", room.run("sh", "plain/once.sh")[0], 1)
         held = room.run("flock", "my.store.lock", "sh", "-c", SCRIPTS["once.sh"].replace("-w 600", "-w 0"))
         answers.compare("once.sh that does not get the lock", held, (1, "Another program has held my.store.lock for ten minutes.\n"))
-        answers.compare("what waits then", (os.listdir(room.path("work")), os.listdir(room.path("spool"))), (["b"], ["c"]))
-        room.write("work/more", "")
+        answers.compare("what waits then", (os.listdir(room.path("log.work")), os.listdir(room.path("log.spool"))), (["b"], ["c"]))
+        room.write("log.work/more", "")
         answers.compare("once.sh of two files in work", room.run("sh", "plain/once.sh")[0], 1)
-        os.remove(room.path("work/more"))
-        room.write("work/b", "[null,null]\n")
-        os.rename(room.path("work/b"), room.path("spool/b"))
+        os.remove(room.path("log.work/more"))
+        room.write("log.work/b", "[null,null]\n")
+        os.rename(room.path("log.work/b"), room.path("log.spool/b"))
         answers.compare("once.sh, mended", room.run("sh", "plain/once.sh")[0], 0)
         answers.compare("the rows of any form", room.rows("my.store", "log"), [["ab", [1, 2]], ["ab", [1, 2]], [None, None]])
         answers.compare("what is left of it", (waiting(room), room.names("my.store")), ([], ["log"]))
+
+
+def play_tables_beside_a_spool():
+    """Tables of the user that have such names as a script's own stay: nothing is appended then, and the file waits."""
+    with tempfile.TemporaryDirectory() as folder:
+        room = bare_room(folder)
+        make_log(room)
+        os.mkdir(room.path("log.spool"))
+        for table, status in (("log.rows", 0), ("log.kept", 0), ("log.once", 1)):
+            room.command("create", "my.store", table, "n:int8")
+            room.command("append", "my.store", table, "--as", "jsonl", given="[1]\n")
+            room.write("log.spool/a", spaced(LATE_ROW))
+            before = len(room.rows("my.store", "log"))
+            answers.compare(f"once.sh beside {table}", room.run("sh", "plain/once.sh")[0], status)
+            answers.compare(f"the rows beside {table}", (room.rows("my.store", table), len(room.rows("my.store", "log")) - before), ([[1]], 1 - status))
+        answers.compare("what waits then", waiting(room), ["a"])
+
+
+def play_two_spools():
+    """A script for another table takes up no file of the first one, which was refused or interrupted."""
+    with tempfile.TemporaryDirectory() as folder:
+        room = bare_room(folder)
+        make_log(room)
+        room.command("create", "my.store", "more", "--like", "log")
+        room.write("more.sh", re.sub(r"\blog\b", "more", SCRIPTS["once.sh"]))
+        for folder_name in "log.spool", "more.spool":
+            os.mkdir(room.path(folder_name))
+        room.write("log.spool/a", spaced(LATE_ROW))
+        stopped_spool(room, '        cat "$1" > once.jsonl')
+        room.write("more.spool/b", spaced([1, 1, None]))
+        for script in "more.sh", "plain/once.sh":
+            answers.compare(f"{script} beside another", room.run("sh", script)[0], 0)
+        answers.compare("the rows of both", (room.rows("my.store", "log"), room.rows("my.store", "more")), ([*LOG, LATE_ROW], [[1, 1, None]]))
+
+
+def stopped_spool(room, line):
+    """once.sh, killed in the place of a line."""
+    text = SCRIPTS["once.sh"]
+    assert text.count(f"\n{line}\n") == 1, line
+    return room.run("setsid", "sh", "-c", text.replace(f"\n{line}\n", "\nkill -9 $$\n"))
+
+
+def play_older_spool():
+    """A store that is put back says of an older file that it was appended; the one in `work` was not, and is."""
+    with tempfile.TemporaryDirectory() as folder:
+        room = bare_room(folder)
+        make_log(room)
+        os.mkdir(room.path("log.spool"))
+        for title, put_back in (("a backup", "mv backup.store my.store"), ("an undoing", "sh plain/undo.sh $(($(arrowstore info my.store --json | jq .epoch)))")):
+            rows = room.rows("my.store", "log")
+            room.write("log.spool/first", spaced(LATE_ROW))
+            stopped_spool(room, '    mv "$1" log.done')
+            answers.compare("a backup within once.sh", room.run("sh", "plain/backup.sh")[0], 0)
+            room.write("log.spool/later", spaced([1, 1, None]))
+            stopped_spool(room, "        sync log.spool log.work")
+            answers.compare("what is in work", os.listdir(room.path("log.work")), ["later"])
+            answers.compare(title, room.run("sh", "-c", put_back)[0], 0)
+            answers.compare(f"once.sh after {title}", room.run("sh", "plain/once.sh")[0], 0)
+            answers.compare("the rows then", room.rows("my.store", "log"), [*rows, LATE_ROW, [1, 1, None]])
+            answers.compare("what is left of it", (waiting(room), room.names("my.store")), ([], ["log"]))
 
 
 # What is undone: the words of the last command, its input, and the tables that it leaves.
@@ -900,7 +1005,7 @@ SCRIPTS = {**printed_scripts(), **scripts_of_using()}
 PEOPLE_WRITER = "printf '%s\\n' '{\"name\":\"Late\"}' | flock -w 60 my.store.lock arrowstore append my.store people --as jsonl"
 RESTORED_WRITER = "printf '%s\\n' '{\"day\":20790,\"sensor\":9}' | flock -w 60 restored.store.lock arrowstore append restored.store log --as jsonl"
 OTHER_WRITER = "printf '%s\\n' '[1]' | flock -w 60 my.store.lock arrowstore append my.store other --as jsonl"
-SPOOL_WRITER = "mv late.jsonl spool && sh plain/once.sh"
+SPOOL_WRITER = "mv late.jsonl log.spool && sh plain/once.sh"
 OLD_WRITER = "printf '%s\\n' '[20790,9]' | flock -w 60 store.lock arrowstore append store t --as jsonl"
 OWN_WRITER = "printf '%s\\n' '[2]' | flock -w 60 my.store.lock arrowstore append my.store own --as jsonl"
 ORIGIN_WRITER = "printf '%s\\n' '{\"day\":20790,\"sensor\":9}' | flock -w 60 home/data/my.store.lock arrowstore append home/data/my.store log --as jsonl"
@@ -1091,6 +1196,9 @@ def play_conversions():
     converted("cents.py", prices, (0, cents.replace("\n", "\r\n")))
     for wrong in ("4.355", "4,35", "1.00000000000000000000000000005", "1_000", "1e2", " 1", "4.", "+1", "\u0661", "1\n\"open,1\nlost,2", "1\nwasher", "\"1\"2"):
         converted("cents.py", f"item,price\nbolt,{wrong}\n", (1, "item,cents\r\n" + ("bolt,100\r\n" if wrong.startswith("1\n") else "")))
+    # A table would be replaced by one without rows.
+    for wrong in ("", "ERROR: no database\n", "item;price\nbolt;1\n", "price\n1\n", "item,price,price\nbolt,1,2\n"):
+        converted("cents.py", wrong, (1, ""))
 
 
 def play_sentences():
@@ -1103,11 +1211,8 @@ def play_sentences():
             answers.compare(begin, (status, room.read(file) if file else said), (0, wanted))
 
         make_log(room)
-        compare("arrowstore query my.store log --columns note", '"a"\n"NA"\n"x, ""y"""\n""\n')
         room.command("create", "my.store", "notes", "note:utf8?")
-        given = "note\n" + room.run("sh", "-c", words_of_page("arrowstore query my.store log --columns note"))[1]
-        room.command("append", "my.store", "notes", "--as", "csv", "--null", "NA", given=given)
-        answers.compare("one column that is read again", room.rows("my.store", "notes"), [[row[2]] for row in LOG])
+        room.command("append", "my.store", "notes", "--as", "jsonl", given="".join(spaced(row[2:]) for row in LOG))
         shown = room.run("sh", "-c", words_of_page("arrowstore query my.store log --limit 20").replace(" log ", " notes "))
         answers.compare("a row of a null that is looked at", shown, (0, 'a\n\nx, "y"\n\n'))
         since = '"2026-11-30",2,\n"2026-12-01",3,"x, ""y"""\n"2026-12-02",4,""\n'
@@ -1122,6 +1227,38 @@ def play_sentences():
         compare("arrowstore query my.store stock", '"bolt",4.35\n"nut",-0.05\n"free",\n"large",9999999999999.99\n')
         room.write("new.csv", "day,sensor,note\n1,2,\n")
         compare("flock my.store.lock arrowstore append my.store log --as csv <", "ok\n")
+
+
+def with_nulls(columns):
+    """to_csv.sh with a text for nulls, as the page gives it."""
+    return SCRIPTS["to_csv.sh"].replace("\nnull=null\n", f"\n{words_of_page('null=')}\n").replace("columns=day,sensor,note", f"columns={columns}")
+
+
+def play_nulls_of_csv():
+    """What is read again are the rows: with a text for nulls, which no row may have, and of one column without nulls. The file of before stays else."""
+    rows = [[1, None, ""], [2, False, None], [3, True, "null"], [4, None, "na"]]
+    for columns, added, status in (
+        ("day,sensor,note", [], 0), ("note", [], 0), ("sensor", [], 0), ("day,sensor,note", [[5, True, "NA"]], 5), ("note", [[5, True, "NA"]], 5),
+        ("day", [[9007199254740993, None, None]], 5), ("nothing", [], 1),
+    ):
+        with tempfile.TemporaryDirectory() as folder:
+            room = bare_room(folder)
+            room.command("format", "my.store", "4096")
+            room.command("create", "my.store", "log", "day:int64", "sensor:bool?", "note:utf8?")
+            room.command("append", "my.store", "log", "--as", "jsonl", given="".join(map(spaced, [*rows, *added])))
+            room.write("log.csv", "before")
+            status_now = room.run("sh", "-c", with_nulls(columns))[0]
+            answers.compare(f"to_csv.sh of {columns} and {added}", (status_now, status != 0 and room.read("log.csv")), (status, status != 0 and "before"))
+            if not status:
+                room.command("query", "my.store", "log", "--columns", columns, "--save", "read")
+                wanted = room.rows("my.store", "read")
+                room.command("apply", "my.store", "-", given="save read again --limit 0\nappend again log.csv --as csv --null NA\n")
+                answers.compare(f"{columns}, read again", room.rows("my.store", "again"), wanted)
+    with tempfile.TemporaryDirectory() as folder:
+        room = bare_room(folder)
+        make_log(room)
+        told = room.run("sh", "-c", SCRIPTS["to_csv.sh"].replace("columns=day,sensor,note", "columns=note"))[0], room.has("log.csv")
+        answers.compare("to_csv.sh of one column with a null", told, (5, False))
 
 
 def play_fields():
@@ -1179,8 +1316,15 @@ def play_deletions():
     with tempfile.TemporaryDirectory() as folder:
         room = bare_room(folder)
         make_log(room)
-        text = SCRIPTS["delete.sh"].replace("'day >= 20788'", "\"note = 'a'\"")
-        answers.compare("delete.sh that would keep no row", (room.run("sh", "-c", text)[0], room.rows("my.store", "log")), (1, LOG))
+        text = SCRIPTS["delete.sh"]
+        answers.compare("how often delete.sh has its condition", text.count("day >= 20788"), 1)
+        for condition in ("note = 'a'", 'note = x, "y', "note = $(echo a)", "note = \\"):
+            quoted = "'" + condition.replace("'", "'\\''") + "'"
+            status, _ = room.run("sh", "-c", text.replace("'day >= 20788'", quoted))
+            answers.compare("delete.sh that would keep no row", (status, room.rows("my.store", "log")), (1, LOG))
+        # A quotation mark within a condition is not one of the script: nothing is deleted.
+        quoted = text.replace("day >= 20788", 'note = x, "y"')
+        answers.compare("delete.sh of a condition with quotation marks", (room.run("sh", "-c", quoted)[0], room.rows("my.store", "log")), (1, LOG))
         answers.compare("columns.sh", room.run("sh", "plain/columns.sh")[0], 0)
         room.command("append", "my.store", "log", "--as", "jsonl", given='[1,2,"north"]\n')
         answers.compare("columns.sh again", (room.run("sh", "plain/columns.sh")[0], room.rows("my.store", "log")[-1]), (1, [1, 2, "north"]))
@@ -1217,6 +1361,30 @@ def play_python():
             make_log(room)
             room.write("plain/use.py", use)
             answers.compare(title, room.run(sys.executable, "plain/use.py"), (0, "" if "with" in title else "refused X2 Width 1\n"))
+
+
+KILLED = """import os
+import store
+os.environ["CALLER"] = str(os.getpid())
+store.append("log", [[number % 10] for number in range(40000)])
+"""
+
+
+def play_killed_python():
+    """The rows of an `append` are there all or none, where Python is killed before the program has read them."""
+    with tempfile.TemporaryDirectory() as folder:
+        room = bare_room(folder)
+        room.command("format", "my.store", "4096")
+        room.command("create", "my.store", "log", "n:int8")
+        room.write("plain/killed.py", KILLED)
+        os.remove(room.path("bin/arrowstore"))
+        room.write("bin/arrowstore", f'#!/bin/sh\nsleep 0.2\nkill -9 $CALLER\n{PROGRAM} "$@"\n')
+        os.chmod(room.path("bin/arrowstore"), 0o755)
+        # This waits for the program too, which writes to the same standard error.
+        answers.compare("Python that is killed", room.run(sys.executable, "plain/killed.py")[0], -signal.SIGKILL)
+        os.remove(room.path("bin/arrowstore"))
+        os.symlink(PROGRAM, room.path("bin/arrowstore"))
+        answers.compare("the rows then", room.command("tables", "my.store"), "log 40000\n")
 
 
 def play_three_commands():
@@ -1313,8 +1481,27 @@ def play_older_sender():
         rows = room.rows("my.store", "log")
         os.replace(room.path("backup"), room.path("home/data/my.store"))
         answers.compare("replica.sh of an older sender", (room.run("sh", "plain/replica.sh")[0], room.rows("my.store", "log")), (1, rows))
+        # What a full disk or a power cut may leave of it.
+        for left in ("", "\n"):
+            room.write("replica.epoch", left)
+            answers.compare("replica.sh without the last epoch", (room.run("sh", "plain/replica.sh")[0], room.rows("my.store", "log")), (1, rows))
         os.remove(room.path("replica.epoch"))
         answers.compare("replica.sh of one that is right", (room.run("sh", "plain/replica.sh"), room.rows("my.store", "log")), ((0, "ok\n"), rows[:-1]))
+
+
+def play_stopped_replica():
+    """A replica that is stopped as soon as it has the rows takes no older ones then."""
+    with tempfile.TemporaryDirectory() as folder:
+        room = bare_room(folder)
+        make_replica(room)
+        shutil.copyfile(room.path("home/data/my.store"), room.path("backup"))
+        room.command("append", "home/data/my.store", "log", "--as", "jsonl", given=spaced(LATE_ROW))
+        [line] = [it for it in SCRIPTS["replica.sh"].splitlines() if " arrowstore receive " in it]
+        room.run("setsid", "sh", "-c", SCRIPTS["replica.sh"].replace(line, f"{line}\nkill -9 $$"))
+        rows = room.rows("my.store", "log")
+        os.replace(room.path("backup"), room.path("home/data/my.store"))
+        answers.compare("the rows of a stopped replica", rows[-1], LATE_ROW)
+        answers.compare("replica.sh of an older sender then", (room.run("sh", "plain/replica.sh")[0], room.rows("my.store", "log")), (1, rows))
 
 
 def play_bad_chains():
@@ -1354,6 +1541,8 @@ def play_chain_folders():
         os.chmod(room.path("bin/tar"), 0o755)
         answers.compare("chain.sh with a tar that fails", (room.run("sh", "plain/chain.sh", "chain")[0], chain_of(room, "chain")), (9, []))
         os.remove(room.path("bin/tar"))
+        answers.compare("copy_chain.sh into no folder", (room.run("sh", "plain/copy_chain.sh", named, "copy")[0], room.has("copy")), (1, False))
+        os.mkdir(room.path("copy"))
         answers.compare("copy_chain.sh of no folder", room.run("sh", "plain/copy_chain.sh", "nothing", "copy")[0], 1)
         answers.compare("copy_chain.sh", (room.run("sh", "plain/copy_chain.sh", named, "copy"), chain_of(room, "copy")), ((0, ""), names_of(1)))
         shutil.copyfile(room.path(f"{named}/000001.tar"), room.path(f"{named}/9.tar"))
@@ -1365,6 +1554,24 @@ def play_chain_folders():
         before = content_of(room, "copy/000001.tar")
         answers.compare("copy_chain.sh of another chain", room.run("sh", "plain/copy_chain.sh", "chain", "copy")[0], 1)
         answers.compare("the copied archive", content_of(room, "copy/000001.tar") == before, True)
+
+
+def play_archive_made_anew():
+    """The last archive of a chain is deleted, its command undone, and another archive has its number: a copy of the first one is not of this chain."""
+    with tempfile.TemporaryDirectory() as folder:
+        room = bare_room(folder)
+        make_log(room)
+        os.mkdir(room.path("copy"))
+        many = "".join(f"save log a{number}\n" for number in range(30))
+        room.command("apply", "my.store", "-", given=many + "rename log z\n")
+        for turn, status in ((0, 0), (1, 0), (2, 1)):
+            if turn == 2:
+                assert room.run("sh", "plain/undo.sh", str(epoch_of(room)))[0] == 0
+                os.remove(room.path("chain/000002.tar"))
+            room.command("append", "my.store", "z", "--as", "jsonl", given=spaced([1, turn, None]))
+            answers.compare(f"chain.sh, turn {turn}", room.run("sh", "plain/chain.sh", "chain"), (0, ""))
+            status_now = room.run("sh", "plain/copy_chain.sh", "chain", "copy")[0]
+            answers.compare(f"copy_chain.sh, turn {turn}", (status_now, chain_of(room, "copy")), (status, names_of(turn + 1 - status)))
 
 
 def play_altered_manifest():
@@ -1431,23 +1638,33 @@ OTHERS = [
     ("folders of a dump", play_folders, ("flock",)),
     ("characters that SQLite cuts off", play_null_characters, ("flock", "sqlite3")),
     ("rows that SQLite does not take", play_rows_not_taken, ("flock", "sqlite3")),
+    ("integers that SQLite rounds", play_too_large_for_sqlite, ("flock", "sqlite3")),
     ("the owner of a copy", play_rights, ("flock", "jq")),
+    ("no store", play_no_store, ("flock",)),
+    ("a backup that is put back", play_put_back, ("flock",)),
     ("an array", play_array, ()),
     ("a field that is changed", play_fields, ("xargs",)),
     ("rows at which jq stops", play_large_numbers, ("flock", "jq")),
+    ("texts for nulls", play_nulls_of_csv, ("flock", "jq")),
     ("a spool", play_spool, ("flock",)),
+    ("tables beside a spool", play_tables_beside_a_spool, ("flock",)),
+    ("spools of two tables", play_two_spools, ("flock",)),
+    ("a spool of an older store", play_older_spool, ("flock", "jq")),
     ("three commands", play_three_commands, ()),
     ("a connection that is lost", play_lost_connection, ("flock",)),
     ("busy stores", play_busy_stores, ("flock",)),
     ("a connection that is left", play_left_connection, ("flock",)),
     ("an older sender", play_older_sender, ("flock",)),
+    ("a replica that is stopped", play_stopped_replica, ("flock",)),
     ("bad chains", play_bad_chains, ("flock", "jq")),
+    ("an archive that is made anew", play_archive_made_anew, ("flock", "jq")),
     ("folders of chains", play_chain_folders, ("flock", "jq")),
     ("an altered manifest", play_altered_manifest, ("flock", "jq")),
     ("a chain of everything", play_chain_of_everything, ("flock", "jq")),
     ("columns that are converted", play_conversions_of_columns, ("flock",)),
     ("rows that no condition keeps", play_deletions, ("flock",)),
     ("store.py", play_python, ("flock",)),
+    ("store.py that is killed", play_killed_python, ("flock",)),
 ]
 CHOSEN = chosen_of([*(recipe.name for recipe in RECIPES.values()), *(title for title, _, _ in OTHERS)], answers.given)
 play_all(CHOSEN)
