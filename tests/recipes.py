@@ -645,6 +645,28 @@ def play_no_store():
             rows = room.rows(backup, "log")
             os.remove(room.path(store))
             answers.compare(f"{title}, of no store", (room.run(*words)[0] != 0, room.has(store), room.rows(backup, "log")), (True, False, rows))
+            # Rows that come into a folder without the disk would be gone with it.
+            answers.compare("once.sh of no store", (room.run("sh", "plain/once.sh")[0], room.has("log.spool")), (1, False))
+
+
+def play_new_store():
+    """A store that was made anew, or put back, takes no place of a backup that has more, until it is said to be right."""
+    with tempfile.TemporaryDirectory() as folder:
+        room = bare_room(folder)
+        make_log(room)
+        answers.compare("backup.sh", room.run("sh", "plain/backup.sh")[0], 0)
+        os.rename(room.path("my.store"), room.path("lost.store"))
+        room.command("format", "my.store", "4096")
+        answers.compare("backup.sh of a new store", (room.run("sh", "plain/backup.sh")[0], room.rows("backup.store", "log")), (1, LOG))
+        os.replace(room.path("lost.store"), room.path("my.store"))
+        room.command("append", "my.store", "log", "--as", "jsonl", given=spaced(LATE_ROW))
+        answers.compare("backup.sh of a later one", (room.run("sh", "plain/backup.sh")[0], room.rows("backup.store", "log")), (0, [*LOG, LATE_ROW]))
+        room.command("copy", "my.store", "copied", "4096")
+        os.replace(room.path("copied"), room.path("my.store"))
+        for status in (1, 0):
+            answers.compare("backup.sh of a copy", room.run("sh", "plain/backup.sh")[0], status)
+            if status:
+                os.remove(room.path("backup.store"))
 
 
 def play_put_back():
@@ -1641,6 +1663,7 @@ OTHERS = [
     ("integers that SQLite rounds", play_too_large_for_sqlite, ("flock", "sqlite3")),
     ("the owner of a copy", play_rights, ("flock", "jq")),
     ("no store", play_no_store, ("flock",)),
+    ("a backup of a new store", play_new_store, ("flock",)),
     ("a backup that is put back", play_put_back, ("flock",)),
     ("an array", play_array, ()),
     ("a field that is changed", play_fields, ("xargs",)),
