@@ -943,6 +943,7 @@ def origin_done(room, late):
 def make_chain(room):
     """A chain of two archives, and a change since."""
     make_tables(room)
+    os.mkdir(room.path("chain"))
     for turn in range(3):
         if turn:
             room.command("append", "my.store", "log", "--as", "jsonl", given=spaced([turn, turn, None]))
@@ -1556,6 +1557,9 @@ def play_chain_folders():
         room = bare_room(folder)
         make_log(room)
         named = "2026-11-30T12:00"
+        answers.compare("chain.sh into no folder", (room.run("sh", "plain/chain.sh", named)[0], room.has(named)), (1, False))
+        for name in named, "chain":
+            os.mkdir(room.path(name))
         answers.compare("chain.sh into a folder with a colon", (room.run("sh", "plain/chain.sh", named), chain_of(room, named)), ((0, ""), names_of(1)))
         answers.compare("by_tar.sh of such a folder", room.run("sh", "plain/by_tar.sh", "4096", f"{named}/000001.tar")[0], 0)
         answers.compare("the tables then", room.has("restored.store") and contents(room, "restored.store"), contents(room, "my.store"))
@@ -1583,6 +1587,7 @@ def play_archive_made_anew():
     with tempfile.TemporaryDirectory() as folder:
         room = bare_room(folder)
         make_log(room)
+        os.mkdir(room.path("chain"))
         os.mkdir(room.path("copy"))
         many = "".join(f"save log a{number}\n" for number in range(30))
         room.command("apply", "my.store", "-", given=many + "rename log z\n")
@@ -1622,6 +1627,7 @@ def play_chain_of_everything():
     """Tables of all kinds, one with pairs, names as words of the shell, and none at all: restored by both scripts, and each export is the same."""
     with tempfile.TemporaryDirectory() as folder:
         room = bare_room(folder)
+        os.mkdir(room.path("chain"))
         room.command("format", "my.store", "4096")
         pairs = streams.Tables([streams.Table(streams.Text("k"), streams.Text("v"))])
         paired = streams.message(1, streams.Table((2, 0), streams.Tables([streams.field("two words", True, streams.INT, streams.integer("int32"))]), pairs)) + streams.END
