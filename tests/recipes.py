@@ -645,6 +645,28 @@ def play_no_store():
             rows = room.rows(backup, "log")
             os.remove(room.path(store))
             answers.compare(f"{title}, of no store", (room.run(*words)[0] != 0, room.has(store), room.rows(backup, "log")), (True, False, rows))
+            # Rows that come into a folder without the disk would be gone with it.
+            answers.compare("once.sh of no store", (room.run("sh", "plain/once.sh")[0], room.has("log.spool")), (1, False))
+
+
+def play_new_store():
+    """A store that was made anew, or put back, takes no place of a backup that has more, until it is said to be right."""
+    with tempfile.TemporaryDirectory() as folder:
+        room = bare_room(folder)
+        make_log(room)
+        answers.compare("backup.sh", room.run("sh", "plain/backup.sh")[0], 0)
+        os.rename(room.path("my.store"), room.path("lost.store"))
+        room.command("format", "my.store", "4096")
+        answers.compare("backup.sh of a new store", (room.run("sh", "plain/backup.sh")[0], room.rows("backup.store", "log")), (1, LOG))
+        os.replace(room.path("lost.store"), room.path("my.store"))
+        room.command("append", "my.store", "log", "--as", "jsonl", given=spaced(LATE_ROW))
+        answers.compare("backup.sh of a later one", (room.run("sh", "plain/backup.sh")[0], room.rows("backup.store", "log")), (0, [*LOG, LATE_ROW]))
+        room.command("copy", "my.store", "copied", "4096")
+        os.replace(room.path("copied"), room.path("my.store"))
+        for status in (1, 0):
+            answers.compare("backup.sh of a copy", room.run("sh", "plain/backup.sh")[0], status)
+            if status:
+                os.remove(room.path("backup.store"))
 
 
 def play_put_back():
@@ -921,6 +943,7 @@ def origin_done(room, late):
 def make_chain(room):
     """A chain of two archives, and a change since."""
     make_tables(room)
+    os.mkdir(room.path("chain"))
     for turn in range(3):
         if turn:
             room.command("append", "my.store", "log", "--as", "jsonl", given=spaced([turn, turn, None]))
@@ -1534,6 +1557,9 @@ def play_chain_folders():
         room = bare_room(folder)
         make_log(room)
         named = "2026-11-30T12:00"
+        answers.compare("chain.sh into no folder", (room.run("sh", "plain/chain.sh", named)[0], room.has(named)), (1, False))
+        for name in named, "chain":
+            os.mkdir(room.path(name))
         answers.compare("chain.sh into a folder with a colon", (room.run("sh", "plain/chain.sh", named), chain_of(room, named)), ((0, ""), names_of(1)))
         answers.compare("by_tar.sh of such a folder", room.run("sh", "plain/by_tar.sh", "4096", f"{named}/000001.tar")[0], 0)
         answers.compare("the tables then", room.has("restored.store") and contents(room, "restored.store"), contents(room, "my.store"))
@@ -1561,6 +1587,7 @@ def play_archive_made_anew():
     with tempfile.TemporaryDirectory() as folder:
         room = bare_room(folder)
         make_log(room)
+        os.mkdir(room.path("chain"))
         os.mkdir(room.path("copy"))
         many = "".join(f"save log a{number}\n" for number in range(30))
         room.command("apply", "my.store", "-", given=many + "rename log z\n")
@@ -1600,6 +1627,7 @@ def play_chain_of_everything():
     """Tables of all kinds, one with pairs, names as words of the shell, and none at all: restored by both scripts, and each export is the same."""
     with tempfile.TemporaryDirectory() as folder:
         room = bare_room(folder)
+        os.mkdir(room.path("chain"))
         room.command("format", "my.store", "4096")
         pairs = streams.Tables([streams.Table(streams.Text("k"), streams.Text("v"))])
         paired = streams.message(1, streams.Table((2, 0), streams.Tables([streams.field("two words", True, streams.INT, streams.integer("int32"))]), pairs)) + streams.END
@@ -1641,6 +1669,7 @@ OTHERS = [
     ("integers that SQLite rounds", play_too_large_for_sqlite, ("flock", "sqlite3")),
     ("the owner of a copy", play_rights, ("flock", "jq")),
     ("no store", play_no_store, ("flock",)),
+    ("a backup of a new store", play_new_store, ("flock",)),
     ("a backup that is put back", play_put_back, ("flock",)),
     ("an array", play_array, ()),
     ("a field that is changed", play_fields, ("xargs",)),
