@@ -5,6 +5,7 @@ them are run.
 
 The texts are drawn with a seed. The times are those of the processor, in user and system code, the least of three runs, each on a store of its own; peak is
 the most memory that was resident, beside the text. A benchmark: nothing is compared with a limit."""
+import datetime
 import json
 import os
 import random
@@ -18,10 +19,12 @@ from measuring import CAT, RUNS, cost, is_chosen, least, parser_of, ratio
 
 # After this many rows a text repeats itself.
 ROWS = 1000
+EPOCH = datetime.datetime(1970, 1, 1)
 
 FLAT = ["a:int64", "b:int32?", "s:utf8"]
 BYTES = ["a:int32", "b:binary?", "f:fixed_binary(8)", "n:null?"]
 CODED = ["a:int32", "d:dict<int32,utf8>?", "e:dict<int32,binary>"]
+DATED = ["a:int64", "d:date_day?", "t:timestamp_ms(UTC)"]
 NESTED = ["a:int32", "l:list<int32?>?", "p:struct<x:int32?,s:utf8>?"]
 
 
@@ -48,6 +51,12 @@ def coded(pick):
     return pick.randrange(10**6), some(pick, f"entry {pick.randrange(100)}"), f"{pick.randrange(50):08x}"
 
 
+def dated(pick):
+    """An integer, and a date and a timestamp as people write them."""
+    day, time = datetime.timedelta(pick.randrange(25_000)), datetime.timedelta(milliseconds=pick.randrange(2 * 10**12))
+    return pick.randrange(10**9), (EPOCH + day).isoformat()[:10], (EPOCH + time).isoformat(timespec="milliseconds") + "Z"
+
+
 def nested(pick):
     items = [some(pick, pick.randrange(10**5)) for _ in range(pick.randrange(6))]
     return pick.randrange(10**6), some(pick, items), some(pick, {"x": some(pick, pick.randrange(100)), "s": f"text {pick.randrange(1000)}"})
@@ -71,10 +80,12 @@ SHAPES = [
     ("csv quoted", "csv", FLAT, quoted),
     ("csv bytes", "csv", BYTES, of_bytes),
     ("csv coded", "csv", CODED, coded),
+    ("csv dates", "csv", DATED, dated),
     ("jsonl", "jsonl", FLAT, flat),
     ("jsonl arrays", "arrays", FLAT, flat),
     ("jsonl bytes", "jsonl", BYTES, of_bytes),
     ("jsonl coded", "jsonl", CODED, coded),
+    ("jsonl dates", "jsonl", DATED, dated),
     ("jsonl nested", "jsonl", NESTED, nested),
 ]
 
@@ -102,8 +113,9 @@ def append(program, store, form, fields, path, size):
     """What one append to an empty table costs, whose store has room for four times the bytes and computes no digests."""
     for words in (["format", store, str(size * 4 // 512), "--format-version", "1"], ["create", store, "t", *fields]):
         subprocess.run([program, *words], stdout=subprocess.DEVNULL, check=True)
+    dates = ["--dates", "iso"] if fields is DATED else []
     try:
-        return cost([program, "append", store, "t", "--as", "csv" if form == "csv" else "jsonl"], path)
+        return cost([program, "append", store, "t", "--as", "csv" if form == "csv" else "jsonl", *dates], path)
     finally:
         os.remove(store)
 

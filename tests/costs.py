@@ -9,6 +9,7 @@ growth    with those of half of the input. The last part of a case's name says w
 A case is WHAT-GROWTH or WHAT-VERSION-GROWTH, as `import-2-rows`, where * stands for any letters. Valgrind counts, so that the numbers are the same on a busy
 machine; it takes each byte that one instruction copies or fills for an instruction. Without valgrind the script says so, and passes.
 Prints each difference, and last 'N passed, M failed'."""
+import datetime
 import functools
 import json
 import os
@@ -36,6 +37,7 @@ MOST_OF_KEPT, MOST_OF_HALF, MOST_OF_SQUARE = 1.1, 2.1, 4.2
 PART_OF_FUNCTION = 100
 BATCHES = 16
 READ = 4096
+EPOCH = datetime.datetime(1970, 1, 1)
 VERSIONS = ("1", "2")
 COLUMNS = 1_000
 
@@ -148,6 +150,17 @@ def nested(pick):
     return [pick.randrange(10**6), [pick.randrange(10**5) for _ in range(pick.randrange(6))], {"x": pick.randrange(100), "s": f"text {pick.randrange(1000)}"}]
 
 
+def dated_numbers(pick):
+    """An integer, a day, and milliseconds."""
+    return [pick.randrange(10**9), pick.randrange(25_000), pick.randrange(2 * 10**12)]
+
+
+def dated(pick):
+    """The same as people write it."""
+    number, day, time = dated_numbers(pick)
+    return [number, (EPOCH + datetime.timedelta(day)).isoformat()[:10], (EPOCH + datetime.timedelta(milliseconds=time)).isoformat(timespec="milliseconds") + "Z"]
+
+
 def with_a_name_twice(pick):
     """Such objects are read row by row."""
     return '{"a":1,"a":%d,"b":%d,"s":"%s"}\n' % tuple(flat(pick))
@@ -166,15 +179,20 @@ def arrays(names, rows):
 
 
 FLAT, CODED = ["a:int64", "b:int32?", "s:utf8"], ["a:int32", "d:dict<int32,utf8>?"]
-# The form of the input, its fields, what makes a row, what makes the text, and how many rows are 1 MB.
-Form = namedtuple("Form", "form fields row text rows")
+DATED, ISO = ["a:int64", "d:date_day?", "t:timestamp_ms(UTC)"], ("--dates", "iso")
+# The form of the input, its fields, what makes a row, what makes the text, how many rows are 1 MB, and the options.
+Form = namedtuple("Form", "form fields row text rows options", defaults=((),))
 FORMS = {
     "csv": Form("csv", FLAT, flat, csv_text, 38_000),
     "csv_quoted": Form("csv", FLAT, quoted, csv_text, 25_000),
     "csv_coded": Form("csv", CODED, coded_row, csv_text, 60_000),
+    "csv_dates": Form("csv", DATED, dated, csv_text, 22_000, ISO),
+    "csv_dates_as_numbers": Form("csv", DATED, dated_numbers, csv_text, 22_000),
     "jsonl": Form("jsonl", FLAT, flat, objects, 22_000),
     "jsonl_arrays": Form("jsonl", FLAT, flat, arrays, 35_000),
     "jsonl_coded": Form("jsonl", CODED, coded_row, objects, 32_000),
+    "jsonl_dates": Form("jsonl", DATED, dated, objects, 16_000, ISO),
+    "jsonl_dates_as_numbers": Form("jsonl", DATED, dated_numbers, objects, 16_000),
     "jsonl_nested": Form("jsonl", ["a:int32", "l:list<int32?>?", "p:struct<x:int32?,s:utf8>?"], nested, objects, 14_000),
     "jsonl_row_by_row": Form("jsonl", FLAT, with_a_name_twice, lambda names, rows: "".join(rows), 2_000),
 }
@@ -270,7 +288,7 @@ def reading_text(form):
         given = folder.file("text", form.text(names, [form.row(pick) for _ in range(amount)]).encode())
         folder.format(os.path.getsize(given))
         folder.run("create", "t", *form.fields)
-        return Run(["append", folder.store, "t", "--as", form.form], given)
+        return Run(["append", folder.store, "t", "--as", form.form, *form.options], given)
     return make
 
 

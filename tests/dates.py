@@ -3,7 +3,8 @@
 
 Every day from 1600 to 2400, 10,000 drawn days of the years 0 to 9999 and 2,000 drawn days of 32 bits are appended as the system's `date` prints
 them, and read back as numbers and as texts. Drawn times of each unit go the same way, in columns of UTC and of no time zone, against Python. Each
-appended text must give the number, and each number its text. Texts that are refused are listed with their refusals.
+appended text must give the number, and each number its text. Texts that are refused are listed with their refusals. 100,000 drawn rows are appended in each
+form, also with a refused field in row 70,000, whose number must be told.
 
 Prints each difference, and last 'N passed, M failed'."""
 import datetime
@@ -124,6 +125,74 @@ def other_texts(folder):
     answers.compare("a number of JSON", done.stderr, b"refused X18 NotADate 1\n")
 
 
+# ---- texts of many rows, which are read into several record batches
+
+MANY, BAD = 100_000, 70_000
+FIELDS = ["a:int32", "d:date_day?", "t:timestamp_us(UTC)?", "u:timestamp_s", "m:date_ms"]
+OFFSETS = [("", 0), ("Z", 0), ("+00:00", 0), ("+02:00", 120), ("-05:30", -330), ("+14", 840)]
+
+
+def drawn_row(number):
+    """A row as people write it, and its numbers. One date and one timestamp in ten is a null."""
+    day, second, part = DRAWN.randrange(-719162, 2932896), DRAWN.randrange(DAY), DRAWN.randrange(10**6)
+    offset, minutes = DRAWN.choice(OFFSETS)
+    moment = EPOCH + datetime.timedelta(day, second)
+    date, clock = moment.isoformat()[:10], moment.isoformat()[11:]
+    time = f"{date}{DRAWN.choice('T ')}{clock}.{part:06}{offset}"
+    texts = [number, date, time, f"{date}T{clock}", DRAWN.choice([date, f"{date}T{clock}.25"])]
+    utc = (day * DAY + second - 60 * minutes) * 10**6 + part
+    numbers = [number, day, utc, day * DAY + second, day * DAY * 1000 + (0 if texts[4] == date else second * 1000 + 250)]
+    for place in (1, 2):
+        if DRAWN.randrange(10) == 0:
+            texts[place] = numbers[place] = None
+    return texts, numbers
+
+
+def csv_of(rows, quote=""):
+    return "".join(",".join("" if value is None else f"{quote}{value}{quote}" for value in row) + "\n" for row in rows).encode()
+
+
+def jsonl_of(rows):
+    return "".join(json.dumps(row, separators=(",", ":")) + "\n" for row in rows).encode()
+
+
+def append_many(folder, form, text):
+    store = os.path.join(folder, "many")
+    if os.path.exists(store):
+        os.remove(store)
+    for words in (("format", store, "65536"), ("create", store, "t", *FIELDS)):
+        assert run(*words).returncode == 0
+    head = b"a,d,t,u,m\n" if form == "csv" else b""
+    done = run("append", store, "t", "--as", form, "--dates", "iso", given=head + text)
+    return done.stderr, [json.loads(line) for line in run("query", store, "t").stdout.splitlines()]
+
+
+def many_rows(folder):
+    drawn = [drawn_row(number) for number in range(MANY)]
+    texts, numbers = [row for row, _ in drawn], [row for _, row in drawn]
+    for form, name, text in (("csv", "plain", csv_of(texts)), ("csv", "quoted", csv_of(texts, '"')), ("jsonl", "arrays", jsonl_of(texts)),
+                             ("jsonl", "objects", jsonl_of(dict(zip("adtum", row)) for row in texts))):
+        answers.compare(f"{MANY} rows, {form}, {name}", append_many(folder, form, text), (b"", numbers))
+    for place, bad, want in ((1, "2026-02-30", "X18 NotADate"), (3, "2026-02-28T12:00:00Z", "X19 WrongOffset"), (1, "+10000000-01-01", "X5 OutOfRange"),
+                             (4, "20787", "X18 NotADate")):
+        rows = [row[:] for row in texts]
+        rows[BAD - 1][place] = bad
+        for form, text in (("csv", csv_of(rows)), ("jsonl", jsonl_of(rows))):
+            answers.compare(f"{bad} in row {BAD}, {form}", append_many(folder, form, text), (f"refused {want} {BAD}\n".encode(), []))
+
+
+def dates_below(folder):
+    """Dates of lists, structs and dictionaries."""
+    fields = ["l:list<date_day?>", "p:struct<d:date_day,t:timestamp_ms>?", "c:dict<int8,date_day>?"]
+    row = '[["2026-11-30",null,"1969-12-31"],{"d":"0000-03-01","t":"1969-12-31T23:59:59.5"},"2026-11-30"]\n'
+    store = os.path.join(folder, "below")
+    for words in (("format", store, "65536"), ("create", store, "t", *fields)):
+        assert run(*words).returncode == 0
+    done = run("append", store, "t", "--as", "jsonl", "--dates", "iso", given=row.encode() * 3)
+    got = [json.loads(line) for line in run("query", store, "t").stdout.splitlines()]
+    answers.compare("dates below", (done.stderr, got), (b"", [[[20787, None, -1], [-719468, -500], 20787]] * 3))
+
+
 with tempfile.TemporaryDirectory() as folder:
-    answers.play((all_days, folder), (all_times, folder), (other_texts, folder))
+    answers.play((all_days, folder), (all_times, folder), (other_texts, folder), (many_rows, folder), (dates_below, folder))
 sys.exit(answers.tell("dates"))

@@ -46,11 +46,11 @@ kind_built kind values cells valid h holds is = by kind values h holds
     by : (kind : Kind) (values : ColumnValues) → IsOf kind values → Holds values cells → array (length valid) (validity_in (has_bitmap values) valid) (layout_of values) ≡ built_kind kind cells
     by nulls Nulls h holds = ap (λ (n : ℕ). array n [] null_layout) (ap length is ∙ length-map cells is_there)
     by booleans (Booleans bits) h holds = with_is cells valid (bit_layout (packed bits.items)) _ is (ap (λ (xs : List Bool). bit_layout (packed xs)) holds)
-    by (integers bits signed) (Integers i bytes) h holds =
+    by (integers bits signed) (Integers i counted bytes) h holds =
         with_is cells valid (fixed_layout bytes.items) _ is (ap fixed_layout (holds ∙ ap (λ (n : ℕ). flat_map (integer_bytes (n / 8)) cells) h.0))
-    by (dates unit) (Integers i bytes) h holds =
+    by (dates unit) (Integers i counted bytes) h holds =
         with_is cells valid (fixed_layout bytes.items) _ is (ap fixed_layout (holds ∙ ap (λ (n : ℕ). flat_map (integer_bytes (n / 8)) cells) h.0))
-    by (timestamps unit timezone) (Integers i bytes) h holds =
+    by (timestamps unit timezone) (Integers i counted bytes) h holds =
         with_is cells valid (fixed_layout bytes.items) _ is (ap fixed_layout (holds ∙ ap (λ (n : ℕ). flat_map (integer_bytes (n / 8)) cells) h.0))
     by texts (Texts width offsets contents) h holds =
         with_is cells valid (binary_layout offsets.items contents.items) _ is

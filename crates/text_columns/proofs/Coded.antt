@@ -33,7 +33,7 @@ use Rattle.cells.specs.laws.Entries.{entries_append}
 use Rattle.columns.specs.Built.{entry_index, fixed_bytes, index_bytes, integer_bytes, place_or_zero}
 use Rattle.columns.specs.laws.Integers.{number_back, number_fits, width_cases}
 use Rattle.text_import.specs.Objects.{has_name}
-use Rattle.text_import.specs.Flat.{cell_of_text, boolean_cell, bytes_cell, fitting, number_cell}
+use Rattle.text_import.specs.Flat.{cell_of_text, boolean_cell, bytes_cell, dated_cell, fitting, number_cell, spelled_cell}
 use Rattle.text_import.specs.declared.refusal.Refusal.{Refusal}
 use Rattle.text_import.specs.declared.refusal.Refusal.TheVariants.{FixedWidth, NotUtf8, OutOfRange}
 use Rattle.text_columns.specs.declared.coding.Coding.{Coding}
@@ -41,7 +41,11 @@ use Rattle.text_columns.specs.declared.column_values.ColumnValues.{ColumnValues}
 use Rattle.text_columns.specs.declared.column_values.ColumnValues.TheVariants.{Nulls, Booleans, Integers, Texts, Binaries, FixedBinaries}
 use Rattle.text_columns.specs.inner.Kept.{Clears, Codes, ComesLast, Holds, HoldsCells, IsCoded, IsOf, PushesPlace, Takes, TakesCodedText, TakesField, TakesNull, TakesNullCell, TakesText, bit_key, first_key, has_texts, index_type, key_list, key_of, value_bytes}
 use Rattle.text_columns.proofs.Taken.{one_joined}
-use Rattle.civil_days.specs.declared.date_form.DateForm.TheVariants.{Numbers}
+use Rattle.civil_days.specs.Typed.{spelled}
+use Rattle.civil_days.specs.declared.date_column.DateFault.{DateFault}
+use Rattle.civil_days.specs.declared.date_column.DateFault.TheVariants.{NotADate, WrongOffset}
+use Rattle.civil_days.specs.declared.date_form.DateForm.{DateForm}
+use Rattle.civil_days.specs.declared.date_form.DateForm.TheVariants.{Numbers, Iso}
 
 -- ---- types without parts
 
@@ -58,7 +62,7 @@ own_flat large_binaries v h = refl
 own_flat (fixed_binaries size) v h = refl
 own_flat _ Nulls h = absurd h
 own_flat _ (Booleans bits) h = absurd h
-own_flat _ (Integers i own) h = absurd h
+own_flat _ (Integers i counted own) h = absurd h
 own_flat _ (Texts width offsets contents) h = absurd h
 own_flat _ (Binaries width offsets contents) h = absurd h
 own_flat _ (FixedBinaries width own) h = absurd h
@@ -69,7 +73,7 @@ HasWidth (integers bits signed) = is_bit_width bits ≡ true
 HasWidth _ = Unit {0}
 
 own_width : (kind : Kind) (v : ColumnValues) → IsOf kind v → HasWidth kind
-own_width (integers bits signed) (Integers i own) h = rw (← h.0) (is_bit_width-bits_of i.width)
+own_width (integers bits signed) (Integers i counted own) h = rw (← h.0) (is_bit_width-bits_of i.width)
 own_width (integers bits signed) Nulls h = absurd h
 own_width (integers bits signed) (Booleans own) h = absurd h
 own_width (integers bits signed) (Texts width offsets contents) h = absurd h
@@ -178,9 +182,9 @@ value_key kind c v t fits = by kind v t.kind_is t.holds fits
   where
     by : (kind : Kind) (v : ColumnValues) → IsOf kind v → Holds v (c ∷ []) → fits_kind kind c ≡ true → value_bytes v ≡ key_of kind c
     by booleans (Booleans bits) is holds f = ap first_key holds
-    by (integers bits signed) (Integers i own) is holds f = holds ∙ append-nil _ ∙ ap (λ (n : ℕ). integer_bytes (n / 8) c) is.0
-    by (dates unit) (Integers i own) is holds f = holds ∙ append-nil _ ∙ ap (λ (n : ℕ). integer_bytes (n / 8) c) is.0
-    by (timestamps unit timezone) (Integers i own) is holds f = holds ∙ append-nil _ ∙ ap (λ (n : ℕ). integer_bytes (n / 8) c) is.0
+    by (integers bits signed) (Integers i counted own) is holds f = holds ∙ append-nil _ ∙ ap (λ (n : ℕ). integer_bytes (n / 8) c) is.0
+    by (dates unit) (Integers i counted own) is holds f = holds ∙ append-nil _ ∙ ap (λ (n : ℕ). integer_bytes (n / 8) c) is.0
+    by (timestamps unit timezone) (Integers i counted own) is holds f = holds ∙ append-nil _ ∙ ap (λ (n : ℕ). integer_bytes (n / 8) c) is.0
     by texts (Texts width offsets contents) is holds f = holds.1 ∙ append-nil _
     by large_texts (Texts width offsets contents) is holds f = holds.1 ∙ append-nil _
     by binaries (Binaries width offsets contents) is holds f = holds.1 ∙ append-nil _
@@ -189,7 +193,7 @@ value_key kind c v t fits = by kind v t.kind_is t.holds fits
     by nulls v is holds f = absurd cc
     by _ Nulls is holds f = absurd is
     by _ (Booleans bits) is holds f = absurd is
-    by _ (Integers i own) is holds f = absurd is
+    by _ (Integers i counted own) is holds f = absurd is
     by _ (Texts width offsets contents) is holds f = absurd is
     by _ (Binaries width offsets contents) is holds f = absurd is
     by _ (FixedBinaries width own) is holds f = absurd is
@@ -436,24 +440,24 @@ value_coded old new values values2 p same one index kind cells c h t fits =
     key_coded (value_bytes old.one) old new values values2 p same one index kind cells c h (value_key kind c old.one t fits) fits
 
 -- a string of a type of strings
-record IsString (kind : Kind) (t : List ℕ) : Type 0 where
-  read : cell_of_text Numbers kind t ≡ Ok (text t)
+record IsString (date_form : DateForm) (kind : Kind) (t : List ℕ) : Type 0 where
+  read : cell_of_text date_form kind t ≡ Ok (text t)
   weighs : kind_weight kind (text t) ≡ 1 + length t
   key : t ≡ key_of kind (text t)
   fits : fits_kind kind (text t) ≡ true
 
-string_is : (kind : Kind) (values : ColumnValues) (t : List ℕ) → has_texts values ≡ true → IsOf kind values → is_utf8 t ≡ true → IsString kind t
+string_is : (date_form : DateForm) (kind : Kind) (values : ColumnValues) (t : List ℕ) → has_texts values ≡ true → IsOf kind values → is_utf8 t ≡ true → IsString date_form kind t
 unfolding cell_of_text kind_weight fits_kind
-string_is texts (Texts width offsets contents) t strings is utf8 = record { read = rw utf8 refl; weighs = refl; key = refl; fits = utf8 }
-string_is large_texts (Texts width offsets contents) t strings is utf8 = record { read = rw utf8 refl; weighs = refl; key = refl; fits = utf8 }
-string_is _ (Texts width offsets contents) t strings is utf8 = absurd is
-string_is _ _ t strings is utf8 = absurd cc
+string_is date_form texts (Texts width offsets contents) t strings is utf8 = record { read = rw utf8 refl; weighs = refl; key = refl; fits = utf8 }
+string_is date_form large_texts (Texts width offsets contents) t strings is utf8 = record { read = rw utf8 refl; weighs = refl; key = refl; fits = utf8 }
+string_is date_form _ (Texts width offsets contents) t strings is utf8 = absurd is
+string_is date_form _ _ t strings is utf8 = absurd cc
 
-pub utf8_coded : (t : List ℕ) (old new : Coding) (values values2 : ColumnValues) → has_texts values ≡ true → is_utf8 t ≡ true
+pub utf8_coded : (date_form : DateForm) (t : List ℕ) (old new : Coding) (values values2 : ColumnValues) → has_texts values ≡ true → is_utf8 t ≡ true
     → PushesPlace old.index t old.indices.items new.indices.items old.keys.keys new.keys.keys values values2 → new.index ≡ old.index → new.one ≡ old.one
-    → TakesCodedText t (1 + length t) old values new values2
-utf8_coded t old new values values2 strings utf8 p same one index kind cells h =
-    let own = string_is kind values t strings h.entries.kind_is utf8 in
+    → TakesCodedText date_form t (1 + length t) old values new values2
+utf8_coded date_form t old new values values2 strings utf8 p same one index kind cells h =
+    let own = string_is date_form kind values t strings h.entries.kind_is utf8 in
     record { taken = text t; read = own.read; there = refl; weighs = own.weighs; holds = key_coded t old new values values2 p same one index kind cells (text t) h own.key own.fits }
 
 -- ---- texts
@@ -469,6 +473,15 @@ pub number_fits_kind : (kind : Kind) (o : Option ℤ) (x : Cell) → number_cell
 number_fits_kind kind None x h = absurd cc
 number_fits_kind kind (Some n) x h = fitting_fits kind OutOfRange (number n) x h
 
+pub stated_fits_kind : (kind : Kind) (r : Result ℤ DateFault) (x : Cell) → spelled_cell kind r ≡ Ok x → fits_kind kind x ≡ true
+stated_fits_kind kind (Err NotADate) x h = absurd cc
+stated_fits_kind kind (Err WrongOffset) x h = absurd cc
+stated_fits_kind kind (Ok n) x h = fitting_fits kind OutOfRange (number n) x h
+
+dated_fits : (date_form : DateForm) (kind : Kind) (t : List ℕ) (x : Cell) → dated_cell date_form kind t ≡ Ok x → fits_kind kind x ≡ true
+dated_fits Numbers kind t x h = number_fits_kind kind (typed_integer t) x h
+dated_fits Iso kind t x h = stated_fits_kind kind (spelled kind t) x h
+
 pub bytes_fit_kind : (kind : Kind) (r : Result (List ℕ) FromHexError) (x : Cell) → bytes_cell kind r ≡ Ok x → fits_kind kind x ≡ true
 bytes_fit_kind kind (Err e) x h = absurd cc
 bytes_fit_kind kind (Ok t) x h = fitting_fits kind FixedWidth (bytes t) x h
@@ -478,25 +491,25 @@ unfolding fits_kind
 boolean_fits None x h = absurd cc
 boolean_fits (Some b) x h = (let same : boolean b ≡ x = cc in rw (← same) refl)
 
-pub text_fits : (kind : Kind) (t : List ℕ) (x : Cell) → is_nested kind ≡ false → cell_of_text Numbers kind t ≡ Ok x → fits_kind kind x ≡ true
+pub text_fits : (date_form : DateForm) (kind : Kind) (t : List ℕ) (x : Cell) → is_nested kind ≡ false → cell_of_text date_form kind t ≡ Ok x → fits_kind kind x ≡ true
 unfolding cell_of_text
-text_fits booleans t x flat h = boolean_fits (typed_boolean t) x h
-text_fits (integers bits signed) t x flat h = number_fits_kind (integers bits signed) (typed_integer t) x h
-text_fits (dates unit) t x flat h = number_fits_kind (dates unit) (typed_integer t) x h
-text_fits (timestamps unit timezone) t x flat h = number_fits_kind (timestamps unit timezone) (typed_integer t) x h
-text_fits texts t x flat h = fitting_fits texts NotUtf8 (text t) x h
-text_fits large_texts t x flat h = fitting_fits large_texts NotUtf8 (text t) x h
-text_fits binaries t x flat h = bytes_fit_kind binaries (decode_of t) x h
-text_fits large_binaries t x flat h = bytes_fit_kind large_binaries (decode_of t) x h
-text_fits (fixed_binaries size) t x flat h = bytes_fit_kind (fixed_binaries size) (decode_of t) x h
-text_fits _ t x flat h = absurd cc
+text_fits date_form booleans t x flat h = boolean_fits (typed_boolean t) x h
+text_fits date_form (integers bits signed) t x flat h = number_fits_kind (integers bits signed) (typed_integer t) x h
+text_fits date_form (dates unit) t x flat h = dated_fits date_form (dates unit) t x h
+text_fits date_form (timestamps unit timezone) t x flat h = dated_fits date_form (timestamps unit timezone) t x h
+text_fits date_form texts t x flat h = fitting_fits texts NotUtf8 (text t) x h
+text_fits date_form large_texts t x flat h = fitting_fits large_texts NotUtf8 (text t) x h
+text_fits date_form binaries t x flat h = bytes_fit_kind binaries (decode_of t) x h
+text_fits date_form large_binaries t x flat h = bytes_fit_kind large_binaries (decode_of t) x h
+text_fits date_form (fixed_binaries size) t x flat h = bytes_fit_kind (fixed_binaries size) (decode_of t) x h
+text_fits date_form _ t x flat h = absurd cc
 
 -- the buffers of the one value were cleared and then have the value that is coded
-pub text_coded : (t : List ℕ) (weight : ℕ) (old new : Coding) (values values2 : ColumnValues) (cleared one : ColumnValues) → Clears old.one cleared → TakesText t weight cleared one
-    → Codes (record { index = old.index; indices = old.indices; keys = old.keys; one = one }) values new values2 → TakesCodedText t weight old values new values2
-text_coded t weight old new values values2 cleared one clears takes codes index kind cells h =
+pub text_coded : (date_form : DateForm) (t : List ℕ) (weight : ℕ) (old new : Coding) (values values2 : ColumnValues) (cleared one : ColumnValues) → Clears old.one cleared → TakesText date_form t weight cleared one
+    → Codes (record { index = old.index; indices = old.indices; keys = old.keys; one = one }) values new values2 → TakesCodedText date_form t weight old values new values2
+text_coded date_form t weight old new values values2 cleared one clears takes codes index kind cells h =
     let own = takes kind [] (clears kind h.one) in
-    let fits = text_fits kind t own.taken (own_flat kind old.one h.one) own.read in
+    let fits = text_fits date_form kind t own.taken (own_flat kind old.one h.one) own.read in
     record {
       taken = own.taken;
       read = own.read;
@@ -505,13 +518,13 @@ text_coded t weight old new values values2 cleared one clears takes codes index 
       holds = codes index kind cells own.taken (with_one index kind cells values old one h own.takes.kind_is) own.takes fits;
     }
 
-pub plain_text : (t : List ℕ) (weight : ℕ) (old new : ColumnValues) → TakesText t weight old new → TakesField t weight old None new None
-plain_text t weight old new takes None kind cells h = (let own = takes kind cells h in record { taken = own.taken; read = own.read; there = own.there; weighs = own.weighs; holds = own.takes })
-plain_text t weight old new takes (Some index) kind cells h = absurd h
+pub plain_text : (date_form : DateForm) (t : List ℕ) (weight : ℕ) (old new : ColumnValues) → TakesText date_form t weight old new → TakesField date_form t weight old None new None
+plain_text date_form t weight old new takes None kind cells h = (let own = takes kind cells h in record { taken = own.taken; read = own.read; there = own.there; weighs = own.weighs; holds = own.takes })
+plain_text date_form t weight old new takes (Some index) kind cells h = absurd h
 
-pub coded_text : (t : List ℕ) (weight : ℕ) (old new : Coding) (values values2 : ColumnValues) → TakesCodedText t weight old values new values2 → TakesField t weight values (Some old) values2 (Some new)
-coded_text t weight old new values values2 takes None kind cells h = absurd h
-coded_text t weight old new values values2 takes (Some index) kind cells h = takes index kind cells h
+pub coded_text : (date_form : DateForm) (t : List ℕ) (weight : ℕ) (old new : Coding) (values values2 : ColumnValues) → TakesCodedText date_form t weight old values new values2 → TakesField date_form t weight values (Some old) values2 (Some new)
+coded_text date_form t weight old new values values2 takes None kind cells h = absurd h
+coded_text date_form t weight old new values values2 takes (Some index) kind cells h = takes index kind cells h
 
 -- ---- what columns hold is of their type
 
@@ -532,17 +545,17 @@ pub coded_null_step : {E : Type 0} (values : ColumnValues) (d : Coding) (indices
 coded_null_step values d indices (Err e) h = tt
 coded_null_step values d indices (Ok u) h = coded_null values d indices h
 
-pub plain_text_step : {E : Type 0} (t : List ℕ) (old new : ColumnValues) (r : Result (Option ℕ) E) → IfOk r (λ taken. IfSome taken (λ weight. TakesText t weight old new))
-    → IfOk r (λ taken. IfSome taken (λ weight. TakesField t weight old None new None))
-plain_text_step t old new (Err e) h = tt
-plain_text_step t old new (Ok None) h = tt
-plain_text_step t old new (Ok (Some weight)) h = plain_text t weight old new h
+pub plain_text_step : {E : Type 0} (date_form : DateForm) (t : List ℕ) (old new : ColumnValues) (r : Result (Option ℕ) E) → IfOk r (λ taken. IfSome taken (λ weight. TakesText date_form t weight old new))
+    → IfOk r (λ taken. IfSome taken (λ weight. TakesField date_form t weight old None new None))
+plain_text_step date_form t old new (Err e) h = tt
+plain_text_step date_form t old new (Ok None) h = tt
+plain_text_step date_form t old new (Ok (Some weight)) h = plain_text date_form t weight old new h
 
-pub coded_text_step : {E : Type 0} (t : List ℕ) (old new : Coding) (values values2 : ColumnValues) (r : Result (Option ℕ) E)
-    → IfOk r (λ taken. IfSome taken (λ weight. TakesCodedText t weight old values new values2)) → IfOk r (λ taken. IfSome taken (λ weight. TakesField t weight values (Some old) values2 (Some new)))
-coded_text_step t old new values values2 (Err e) h = tt
-coded_text_step t old new values values2 (Ok None) h = tt
-coded_text_step t old new values values2 (Ok (Some weight)) h = coded_text t weight old new values values2 h
+pub coded_text_step : {E : Type 0} (date_form : DateForm) (t : List ℕ) (old new : Coding) (values values2 : ColumnValues) (r : Result (Option ℕ) E)
+    → IfOk r (λ taken. IfSome taken (λ weight. TakesCodedText date_form t weight old values new values2)) → IfOk r (λ taken. IfSome taken (λ weight. TakesField date_form t weight values (Some old) values2 (Some new)))
+coded_text_step date_form t old new values values2 (Err e) h = tt
+coded_text_step date_form t old new values values2 (Ok None) h = tt
+coded_text_step date_form t old new values values2 (Ok (Some weight)) h = coded_text date_form t weight old new values values2 h
 
 -- ---- keys as the code has them
 

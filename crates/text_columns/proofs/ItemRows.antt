@@ -23,7 +23,7 @@ use Rattle.text_columns.specs.inner.Lines.{HasItemRow, KeepsItems, KeepsNext, Ke
 use Rattle.text_columns.proofs.LineRows.{none_behind}
 use Rattle.text_columns.proofs.MemberGrammar.{converted_some, twice, value_shorter, value_there}
 use Rattle.text_columns.proofs.Rows.{at_end, at_other, at_set, column_more, dropped_here, none_weigh, parts_weigh, taken_here, there_within}
-use Rattle.civil_days.specs.declared.date_form.DateForm.TheVariants.{Numbers}
+use Rattle.civil_days.specs.declared.date_form.DateForm.{DateForm}
 
 -- ---- the items of an array
 
@@ -66,34 +66,34 @@ array_read (Some p) = twice array p.1 (of_items p.0)
 -- ---- their cells
 
 -- the first columns have a cell of this row
-pub record ItemHalf (cs : List Column) (found : List Data) (rows : List (List Cell)) (i weight : ℕ) (bs : List ColumnBuilder) : Type 0 where
+pub record ItemHalf (date_form : DateForm) (cs : List Column) (found : List Data) (rows : List (List Cell)) (i weight : ℕ) (bs : List ColumnBuilder) : Type 0 where
   pub row : List Cell
   pub len : length row ≡ i
-  pub read : (more : Items) → cells_behind row (cells_by_place Numbers (columns_of (drop i cs)) more) ≡ cells_by_place Numbers (columns_of cs) (prepend found more)
+  pub read : (more : Items) → cells_behind row (cells_by_place date_form (columns_of (drop i cs)) more) ≡ cells_by_place date_form (columns_of cs) (prepend found more)
   pub weighs : 1 + parts_weight (columns_of (take i cs)) (cells_of row) ≡ weight
   pub count : length bs ≡ length cs
   pub done : (j : ℕ) (c : Column) (b : ColumnBuilder) → j < i → slice_get cs j ≡ Some c → slice_get bs j ≡ Some b → Keeps c (column_at j rows ++ get_or row j null ∷ []) b
   pub rest : (j : ℕ) (c : Column) (b : ColumnBuilder) → i ≤ j → slice_get cs j ≡ Some c → slice_get bs j ≡ Some b → Keeps c (column_at j rows) b
 
-item_half_none : (cs : List Column) (rows : List (List Cell)) (bs : List ColumnBuilder) → KeepAll cs rows bs → ItemHalf cs [] rows 0 1 bs
-item_half_none cs rows bs k = record {
+item_half_none : (date_form : DateForm) (cs : List Column) (rows : List (List Cell)) (bs : List ColumnBuilder) → KeepAll cs rows bs → ItemHalf date_form cs [] rows 0 1 bs
+item_half_none date_form cs rows bs k = record {
   row = [];
   len = refl;
-  read = λ more. none_behind (cells_by_place Numbers (columns_of cs) more);
+  read = λ more. none_behind (cells_by_place date_form (columns_of cs) more);
   weighs = none_weigh [];
   count = k.count;
   done = λ j c b lt. absurd (omega arith);
   rest = λ j c b le. k.each j c b;
 }
 
-placed_more : (so : List Cell) (c : Column) (cs : Columns) (d : Data) (ds : Items) (x : Cell) → cell_in Numbers c d ≡ Ok x
-    → cells_behind so (cells_by_place Numbers (and_column c cs) (item d ds)) ≡ cells_behind (so ++ x ∷ []) (cells_by_place Numbers cs ds)
+placed_more : (date_form : DateForm) (so : List Cell) (c : Column) (cs : Columns) (d : Data) (ds : Items) (x : Cell) → cell_in date_form c d ≡ Ok x
+    → cells_behind so (cells_by_place date_form (and_column c cs) (item d ds)) ≡ cells_behind (so ++ x ∷ []) (cells_by_place date_form cs ds)
 unfolding cells_by_place
-placed_more so c cs d ds x e = rw e (cells_behind_more so x (cells_by_place Numbers cs ds))
+placed_more date_form so c cs d ds x e = rw e (cells_behind_more so x (cells_by_place date_form cs ds))
 
-item_half_more : (cs : List Column) (found : List Data) (rows : List (List Cell)) (i weight more depth : ℕ) (left right : List Token) (bs : List ColumnBuilder) (old new : ColumnBuilder) → slice_get bs i ≡ Some old
-    → (keeps : KeepsNext depth left right more old new) → ItemHalf cs found rows i weight bs → ItemHalf cs (found ++ keeps.data_is ∷ []) rows (i + 1) (weight + more) (set bs i new)
-item_half_more cs found rows i weight more depth left right bs old new here keeps h =
+item_half_more : (date_form : DateForm) (cs : List Column) (found : List Data) (rows : List (List Cell)) (i weight more depth : ℕ) (left right : List Token) (bs : List ColumnBuilder) (old new : ColumnBuilder) → slice_get bs i ≡ Some old
+    → (keeps : KeepsNext date_form depth left right more old new) → ItemHalf date_form cs found rows i weight bs → ItemHalf date_form cs (found ++ keeps.data_is ∷ []) rows (i + 1) (weight + more) (set bs i new)
+item_half_more date_form cs found rows i weight more depth left right bs old new here keeps h =
     let d = keeps.data_is in
     let within : i < length bs = slice_get_within bs i old here in
     let (c, col) = there_within cs i (omega (arith, within, h.count)) in
@@ -106,9 +106,9 @@ item_half_more cs found rows i weight more depth left right bs old new here keep
       row = h.row ++ k.kept ∷ [];
       len = length-append h.row (k.kept ∷ []) ∙ ap (λ (n : ℕ). n + 1) h.len;
       read = λ ds.
-          let before : cells_behind h.row (cells_by_place Numbers (columns_of (c ∷ drop (suc i) cs)) (item d ds)) ≡ cells_by_place Numbers (columns_of cs) (prepend found (item d ds)) =
-          subst (λ (xs : List Column). cells_behind h.row (cells_by_place Numbers (columns_of xs) (item d ds)) ≡ cells_by_place Numbers (columns_of cs) (prepend found (item d ds))) fields (h.read (item d ds)) in
-          rw one (sym (placed_more h.row c (columns_of (drop (suc i) cs)) d ds k.kept k.read) ∙ before ∙ ap (cells_by_place Numbers (columns_of cs)) (prepend_more found d ds));
+          let before : cells_behind h.row (cells_by_place date_form (columns_of (c ∷ drop (suc i) cs)) (item d ds)) ≡ cells_by_place date_form (columns_of cs) (prepend found (item d ds)) =
+          subst (λ (xs : List Column). cells_behind h.row (cells_by_place date_form (columns_of xs) (item d ds)) ≡ cells_by_place date_form (columns_of cs) (prepend found (item d ds))) fields (h.read (item d ds)) in
+          rw one (sym (placed_more date_form h.row c (columns_of (drop (suc i) cs)) d ds k.kept k.read) ∙ before ∙ ap (cells_by_place date_form (columns_of cs)) (prepend_more found d ds));
       weighs = rw (one, taken_here cs i c col) (omega (arith, weighed, h.weighs, k.weighs));
       count = length-set bs i new ∙ h.count;
       done = λ j e b lt dc db. elim (cases_lt j i) [
@@ -129,16 +129,16 @@ item_half_more cs found rows i weight more depth left right bs old new here keep
           h.rest j e b (omega (arith, le)) dc (sym same ∙ db);
     }
 
-item_half_all : (cs : List Column) (found : List Data) (rows : List (List Cell)) (i weight : ℕ) (bs : List ColumnBuilder) → length bs ≤ i → ItemHalf cs found rows i weight bs
-    → HasItemRow cs (prepend found no_items) weight rows bs
-item_half_all cs found rows i weight bs le h =
+item_half_all : (date_form : DateForm) (cs : List Column) (found : List Data) (rows : List (List Cell)) (i weight : ℕ) (bs : List ColumnBuilder) → length bs ≤ i → ItemHalf date_form cs found rows i weight bs
+    → HasItemRow date_form cs (prepend found no_items) weight rows bs
+item_half_all date_form cs found rows i weight bs le h =
     let none : drop i cs ≡ [] = drop_all i cs (omega (arith, le, h.count)) in
     let all : take i cs ≡ cs = take_all i cs (omega (arith, le, h.count)) in
-    let read : cells_behind h.row (cells_by_place Numbers (columns_of []) no_items) ≡ cells_by_place Numbers (columns_of cs) (prepend found no_items) =
-    subst (λ (xs : List Column). cells_behind h.row (cells_by_place Numbers (columns_of xs) no_items) ≡ cells_by_place Numbers (columns_of cs) (prepend found no_items)) none (h.read no_items) in
+    let read : cells_behind h.row (cells_by_place date_form (columns_of []) no_items) ≡ cells_by_place date_form (columns_of cs) (prepend found no_items) =
+    subst (λ (xs : List Column). cells_behind h.row (cells_by_place date_form (columns_of xs) no_items) ≡ cells_by_place date_form (columns_of cs) (prepend found no_items)) none (h.read no_items) in
     record {
       row = h.row;
-      read = sym read ∙ places_end Numbers h.row no_items;
+      read = sym read ∙ places_end date_form h.row no_items;
       weighs = rw all at h.weighs;
       keeps = record {
         count = h.count;
@@ -151,27 +151,27 @@ item_half_all cs found rows i weight bs le h =
 -- ---- one after another
 
 -- some items were read, and the others follow
-pub record ItemsRead (depth : ℕ) (all left : List Token) (i weight : ℕ) (bs0 bs : List ColumnBuilder) : Type 0 where
+pub record ItemsRead (date_form : DateForm) (depth : ℕ) (all left : List Token) (i weight : ℕ) (bs0 bs : List ColumnBuilder) : Type 0 where
   pub found : List Data
   pub turns : ℕ
   pub enough : length left ≤ turns
   pub count : length found ≡ i
   pub read : converted of_items (items (value depth) (length all) all) ≡ parse_map (prepend found) (converted of_items (items (value depth) turns left))
-  pub each : (cs : List Column) (rows : List (List Cell)) → KeepAll cs rows bs0 → ItemHalf cs found rows i weight bs
+  pub each : (cs : List Column) (rows : List (List Cell)) → KeepAll cs rows bs0 → ItemHalf date_form cs found rows i weight bs
 
-pub items_none : (depth : ℕ) (all : List Token) (bs : List ColumnBuilder) → ItemsRead depth all all 0 1 bs bs
-items_none depth all bs = record {
+pub items_none : (date_form : DateForm) (depth : ℕ) (all : List Token) (bs : List ColumnBuilder) → ItemsRead date_form depth all all 0 1 bs bs
+items_none date_form depth all bs = record {
   found = [];
   turns = length all;
   enough = omega arith;
   count = refl;
   read = prepended_none (converted of_items (items (value depth) (length all) all));
-  each = λ cs rows k. item_half_none cs rows bs k;
+  each = λ cs rows k. item_half_none date_form cs rows bs k;
 }
 
-pub items_pushed : (depth : ℕ) (all left new : List Token) (i weight more : ℕ) (bs0 bs : List ColumnBuilder) (old behind : ColumnBuilder) → slice_get bs i ≡ Some old → KeepsNext depth left new more old behind
-    → ItemsRead depth all left i weight bs0 bs → ItemsRead depth all new (i + 1) (weight + more) bs0 (set bs i behind)
-items_pushed depth all left new i weight more bs0 bs old behind here keeps m =
+pub items_pushed : (date_form : DateForm) (depth : ℕ) (all left new : List Token) (i weight more : ℕ) (bs0 bs : List ColumnBuilder) (old behind : ColumnBuilder) → slice_get bs i ≡ Some old → KeepsNext date_form depth left new more old behind
+    → ItemsRead date_form depth all left i weight bs0 bs → ItemsRead date_form depth all new (i + 1) (weight + more) bs0 (set bs i behind)
+items_pushed date_form depth all left new i weight more bs0 bs old behind here keeps m =
     let d = keeps.data_is in
     let longer = value_shorter depth left new d keeps.read in
     let some : 0 < m.turns = omega (arith, longer, m.enough) in
@@ -182,49 +182,49 @@ items_pushed depth all left new i weight more bs0 bs old behind here keeps m =
       enough = omega (arith, longer, m.enough);
       count = length-append m.found (d ∷ []) ∙ ap (λ (n : ℕ). n + 1) m.count;
       read = m.read ∙ ap (parse_map (prepend m.found)) (item_read (value depth) m.turns left new d some none keeps.read) ∙ prepended_more m.found d (converted of_items (items (value depth) (m.turns - 1) new));
-      each = λ cs rows k. item_half_more cs m.found rows i weight more depth left new bs old behind here keeps (m.each cs rows k);
+      each = λ cs rows k. item_half_more date_form cs m.found rows i weight more depth left new bs old behind here keeps (m.each cs rows k);
     }
 
-pub items_all : (depth : ℕ) (all left new : List Token) (i weight : ℕ) (bs0 bs : List ColumnBuilder) → after_end_array left ≡ Some new → length bs ≤ i → i ≡ length bs0 → ItemsRead depth all left i weight bs0 bs
-    → KeepsItems depth all new weight bs0 bs
-items_all depth all left new i weight bs0 bs ends le whole m =
+pub items_all : (date_form : DateForm) (depth : ℕ) (all left new : List Token) (i weight : ℕ) (bs0 bs : List ColumnBuilder) → after_end_array left ≡ Some new → length bs ≤ i → i ≡ length bs0 → ItemsRead date_form depth all left i weight bs0 bs
+    → KeepsItems date_form depth all new weight bs0 bs
+items_all date_form depth all left new i weight bs0 bs ends le whole m =
     let over : converted of_items (items (value depth) m.turns left) ≡ Some (no_items, new) = ap (converted of_items) (items_end (value depth) m.turns left new m.enough ends) in
     record {
       found = prepend m.found no_items;
       read = m.read ∙ ap (parse_map (prepend m.found)) over;
       count = prepend_count m.found ∙ m.count ∙ whole;
-      keeps = λ cs rows k. item_half_all cs m.found rows i weight bs le (m.each cs rows k);
+      keeps = λ cs rows k. item_half_all date_form cs m.found rows i weight bs le (m.each cs rows k);
     }
 
 -- ---- the array of a line
 
 -- for a row as for a struct
-pub items_row : (depth : ℕ) (names : List (List ℕ)) (inside rest : List Token) (weight : ℕ) (bs bs2 : List ColumnBuilder) → (k : KeepsItems depth inside rest weight bs bs2)
-    → KeepsRow names (array k.found) weight bs bs2
-items_row depth names inside rest weight bs bs2 k cs rows e distinct kept =
+pub items_row : (date_form : DateForm) (depth : ℕ) (names : List (List ℕ)) (inside rest : List Token) (weight : ℕ) (bs bs2 : List ColumnBuilder) → (k : KeepsItems date_form depth inside rest weight bs bs2)
+    → KeepsRow date_form names (array k.found) weight bs bs2
+items_row date_form depth names inside rest weight bs bs2 k cs rows e distinct kept =
     let h = k.keeps cs rows kept in
     let count : (item_count k.found == column_count (columns_of cs)) ≡ true = eq-eqb _ _ (k.count ∙ kept.count ∙ sym (columns_counted cs)) in
     record { row = h.row; read = rw count h.read; weighs = h.weighs; keeps = h.keeps }
 
-pub array_kept : (names : List (List ℕ)) (inside rest : List Token) (weight : ℕ) (bs bs2 : List ColumnBuilder) → rest ≡ [] → KeepsItems 126 inside rest weight bs bs2
-    → KeepsTokens names (tokens.begin_array ∷ inside) weight bs bs2
-array_kept names inside rest weight bs bs2 ends k =
+pub array_kept : (date_form : DateForm) (names : List (List ℕ)) (inside rest : List Token) (weight : ℕ) (bs bs2 : List ColumnBuilder) → rest ≡ [] → KeepsItems date_form 126 inside rest weight bs bs2
+    → KeepsTokens date_form names (tokens.begin_array ∷ inside) weight bs bs2
+array_kept date_form names inside rest weight bs bs2 ends k =
     let one = value-begin_array 127 inside (omega arith) in
     record {
       data_is = array k.found;
       read = ap (converted of_json) one ∙ array_read (items (value 126) (length inside) inside) ∙ ap (parse_map array) (k.read ∙ ap (λ (ts : List Token). Some (k.found, ts)) ends);
-      keeps = items_row 126 names inside rest weight bs bs2 k;
+      keeps = items_row date_form 126 names inside rest weight bs bs2 k;
     }
 
 -- ---- what a call tells
 
-pub opened_step : {E : Type 0} (names : List (List ℕ)) (all opened : List Token) (bs bs2 : List ColumnBuilder) (r : Result (Option ℕ) E) → all ≡ opened
-    → IfOk r (λ taken. IfSome taken (λ weight. KeepsTokens names opened weight bs bs2)) → IfOk r (λ taken. IfSome taken (λ weight. KeepsTokens names all weight bs bs2))
-opened_step names all opened bs bs2 r is h = rw is h
+pub opened_step : {E : Type 0} (date_form : DateForm) (names : List (List ℕ)) (all opened : List Token) (bs bs2 : List ColumnBuilder) (r : Result (Option ℕ) E) → all ≡ opened
+    → IfOk r (λ taken. IfSome taken (λ weight. KeepsTokens date_form names opened weight bs bs2)) → IfOk r (λ taken. IfSome taken (λ weight. KeepsTokens date_form names all weight bs bs2))
+opened_step date_form names all opened bs bs2 r is h = rw is h
 
-pub array_step : {E : Type 0} (names : List (List ℕ)) (all inside : List Token) (bs bs2 : List ColumnBuilder) (r : Result (Option ℕ) E) → all ≡ tokens.begin_array ∷ inside
-    → IfOk r (λ taken. IfSome taken (λ weight. (ns : List (List ℕ)) → KeepsTokens ns (tokens.begin_array ∷ inside) weight bs bs2))
-    → IfOk r (λ taken. IfSome taken (λ weight. KeepsTokens names all weight bs bs2))
-array_step names all inside bs bs2 (Err e) is h = tt
-array_step names all inside bs bs2 (Ok None) is h = tt
-array_step names all inside bs bs2 (Ok (Some weight)) is h = rw is (h names)
+pub array_step : {E : Type 0} (date_form : DateForm) (names : List (List ℕ)) (all inside : List Token) (bs bs2 : List ColumnBuilder) (r : Result (Option ℕ) E) → all ≡ tokens.begin_array ∷ inside
+    → IfOk r (λ taken. IfSome taken (λ weight. (ns : List (List ℕ)) → KeepsTokens date_form ns (tokens.begin_array ∷ inside) weight bs bs2))
+    → IfOk r (λ taken. IfSome taken (λ weight. KeepsTokens date_form names all weight bs bs2))
+array_step date_form names all inside bs bs2 (Err e) is h = tt
+array_step date_form names all inside bs bs2 (Ok None) is h = tt
+array_step date_form names all inside bs bs2 (Ok (Some weight)) is h = rw is (h names)

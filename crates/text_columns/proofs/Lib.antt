@@ -24,4 +24,3 @@ pub mod Starts
 pub mod LexemeGrammar
 pub mod ShortNumbers
 pub mod LineSteps
-pub mod Forms

@@ -48,7 +48,7 @@ use Rattle.text_columns.specs.inner.Lines.{Completes, CompletesRow, HasKeptValue
 use Rattle.text_columns.proofs.MemberGrammar.{member_read, members_over, object_read, text_read, value_shorter}
 use Rattle.text_columns.proofs.FewEntries.{row_fits}
 use Rattle.text_columns.proofs.Rows.{at_end, at_other, at_set, column_more, dropped_here, none_weigh, parts_weigh, taken_here, there_within}
-use Rattle.civil_days.specs.declared.date_form.DateForm.TheVariants.{Numbers}
+use Rattle.civil_days.specs.declared.date_form.DateForm.{DateForm}
 
 -- ---- names
 
@@ -94,14 +94,14 @@ known_put names k d (member l e ms) known all =
 
 -- ---- one more member
 
-free_found : (c : Column) (so : List Cell) (o : Option Data) (b : ColumnBuilder) → HoldsMember c so o None b → Keeps c so b
-free_found c so None b h = h
-free_found c so (Some d) b h = absurd h
+free_found : (date_form : DateForm) (c : Column) (so : List Cell) (o : Option Data) (b : ColumnBuilder) → HoldsMember date_form c so o None b → Keeps c so b
+free_found date_form c so None b h = h
+free_found date_form c so (Some d) b h = absurd h
 
-member_held : (cs : List Column) (rows : List (List Cell)) (found : Members) (k : List ℕ) (d : Data) (depth place : ℕ) (old new : List Token) (ws ws2 : List (Option ℕ)) (bs bs2 : List ColumnBuilder)
-    → repeats (names_of (columns_of cs)) ≡ false → slice_get (names_of (columns_of cs)) place ≡ Some k → (p : PushesMember depth place old new ws ws2 bs bs2) → p.keeps.data_is ≡ d
-    → HoldMembers cs rows found ws bs → HoldMembers cs rows (put k d found) ws2 bs2
-member_held cs rows found k d depth place old new ws ws2 bs bs2 distinct named p same_data h = rw (p.kept, p.pushed) (record {
+member_held : (date_form : DateForm) (cs : List Column) (rows : List (List Cell)) (found : Members) (k : List ℕ) (d : Data) (depth place : ℕ) (old new : List Token) (ws ws2 : List (Option ℕ)) (bs bs2 : List ColumnBuilder)
+    → repeats (names_of (columns_of cs)) ≡ false → slice_get (names_of (columns_of cs)) place ≡ Some k → (p : PushesMember date_form depth place old new ws ws2 bs bs2) → p.keeps.data_is ≡ d
+    → HoldMembers date_form cs rows found ws bs → HoldMembers date_form cs rows (put k d found) ws2 bs2
+member_held date_form cs rows found k d depth place old new ws ws2 bs bs2 distinct named p same_data h = rw (p.kept, p.pushed) (record {
   count = length-set bs place p.behind ∙ h.count;
   counted = length-set ws place (Some p.weight) ∙ h.counted;
   each = λ j c b w dc db dw. elim (cases_lt j place) [
@@ -114,23 +114,23 @@ member_held cs rows found k d depth place old new ws ws2 bs bs2 distinct named p
 })
   where
     other : (j : ℕ) (c : Column) (b : ColumnBuilder) (w : Option ℕ) → slice_get cs j ≡ Some c → slice_get (set bs place p.behind) j ≡ Some b → slice_get (set ws place (Some p.weight)) j ≡ Some w
-        → (place ≡ j → ⊥) → HoldsMember c (column_at j rows) (get_member (name_of_column c) (put k d found)) w b
+        → (place ≡ j → ⊥) → HoldsMember date_form c (column_at j rows) (get_member (name_of_column c) (put k d found)) w b
     other j c b w dc db dw ne =
         let names_differ : name_of_column c ≡ k → ⊥ = apart (names_of (columns_of cs)) j place (name_of_column c) k distinct (name_at cs j c dc) named (λ e. ne (sym e)) in
         let same = get_member-put_other (name_of_column c) k d found names_differ in
         let builder = sym (at_other bs place j p.behind ne) ∙ db in
         let kept = sym (at_other ws place j (Some p.weight) ne) ∙ dw in
-        subst (λ (o : Option Data). HoldsMember c (column_at j rows) o w b) (sym same) (h.each j c b w dc builder kept)
+        subst (λ (o : Option Data). HoldsMember date_form c (column_at j rows) o w b) (sym same) (h.each j c b w dc builder kept)
 
     own : (j : ℕ) (c : Column) (b : ColumnBuilder) (w : Option ℕ) → slice_get cs j ≡ Some c → slice_get (set bs place p.behind) j ≡ Some b → slice_get (set ws place (Some p.weight)) j ≡ Some w
-        → j ≡ place → HoldsMember c (column_at j rows) (get_member (name_of_column c) (put k d found)) w b
+        → j ≡ place → HoldsMember date_form c (column_at j rows) (get_member (name_of_column c) (put k d found)) w b
     own j c b w dc db dw is =
         let here : slice_get cs place ≡ Some c = subst (λ (n : ℕ). slice_get cs n ≡ Some c) is dc in
         let name : name_of_column c ≡ k = same_Some _ _ (sym (name_at cs place c here) ∙ named) in
         let builder : p.behind ≡ b = same_Some _ _ (sym (at_set bs place p.behind (slice_get_within bs place p.before p.here)) ∙ subst (λ (n : ℕ). slice_get (set bs place p.behind) n ≡ Some b) is db) in
         let kept : Some p.weight ≡ w = same_Some _ _ (sym (at_set ws place (Some p.weight) (slice_get_within ws place None p.free)) ∙ subst (λ (n : ℕ). slice_get (set ws place (Some p.weight)) n ≡ Some w) is dw) in
-        let before = free_found c (column_at place rows) (get_member (name_of_column c) found) p.before (h.each place c p.before None here p.here p.free) in
-        let value : HasKeptValue c d p.weight (column_at place rows) p.behind = subst (λ (x : Data). HasKeptValue c x p.weight (column_at place rows) p.behind) same_data (p.keeps.keeps c (column_at place rows) before) in
+        let before = free_found date_form c (column_at place rows) (get_member (name_of_column c) found) p.before (h.each place c p.before None here p.here p.free) in
+        let value : HasKeptValue date_form c d p.weight (column_at place rows) p.behind = subst (λ (x : Data). HasKeptValue date_form c x p.weight (column_at place rows) p.behind) same_data (p.keeps.keeps c (column_at place rows) before) in
         rw (is, name, get_member-put k d found, ← builder, ← kept) value
 
 -- ---- the members of an object, one after another
@@ -143,21 +143,21 @@ token_read depth tokens.null r d e = ap (converted of_json) (value_is depth (tok
 token_read depth _ r d e = absurd cc
 
 -- some members were read, and the others follow
-pub record MembersRead (depth : ℕ) (names : List (List ℕ)) (all left : List Token) (ws0 ws : List (Option ℕ)) (bs0 bs : List ColumnBuilder) : Type 0 where
+pub record MembersRead (date_form : DateForm) (depth : ℕ) (names : List (List ℕ)) (all left : List Token) (ws0 ws : List (Option ℕ)) (bs0 bs : List ColumnBuilder) : Type 0 where
   pub found : Members
   pub turns : ℕ
   pub enough : length left ≤ turns
   pub read : converted (λ ms. of_members ms no_members) (members (value depth) (length all) all) ≡ converted (λ ms. of_members ms found) (members (value depth) turns left)
   pub known : has_unknown names (keys_of found) ≡ false
-  pub each : (cs : List Column) (rows : List (List Cell)) → names_of (columns_of cs) ≡ names → repeats names ≡ false → HoldMembers cs rows no_members ws0 bs0 → HoldMembers cs rows found ws bs
+  pub each : (cs : List Column) (rows : List (List Cell)) → names_of (columns_of cs) ≡ names → repeats names ≡ false → HoldMembers date_form cs rows no_members ws0 bs0 → HoldMembers date_form cs rows found ws bs
 
-pub members_none : (depth : ℕ) (names : List (List ℕ)) (all : List Token) (ws : List (Option ℕ)) (bs : List ColumnBuilder) → MembersRead depth names all all ws ws bs bs
-members_none depth names all ws bs = record { found = no_members; turns = length all; enough = omega arith; read = refl; known = refl; each = λ cs rows e distinct h. h }
+pub members_none : (date_form : DateForm) (depth : ℕ) (names : List (List ℕ)) (all : List Token) (ws : List (Option ℕ)) (bs : List ColumnBuilder) → MembersRead date_form depth names all all ws ws bs bs
+members_none date_form depth names all ws bs = record { found = no_members; turns = length all; enough = omega arith; read = refl; known = refl; each = λ cs rows e distinct h. h }
 
-pub members_more : (depth : ℕ) (names : List (List ℕ)) (all left behind_key new : List Token) (k : List ℕ) (place : ℕ) (ws0 ws ws2 : List (Option ℕ)) (bs0 bs bs2 : List ColumnBuilder)
-    → read_key left ≡ Some (Some k, behind_key) → slice_get names place ≡ Some k → PushesMember depth place behind_key new ws ws2 bs bs2 → MembersRead depth names all left ws0 ws bs0 bs
-    → MembersRead depth names all new ws0 ws2 bs0 bs2
-members_more depth names all left behind_key new k place ws0 ws ws2 bs0 bs bs2 key named p m =
+pub members_more : (date_form : DateForm) (depth : ℕ) (names : List (List ℕ)) (all left behind_key new : List Token) (k : List ℕ) (place : ℕ) (ws0 ws ws2 : List (Option ℕ)) (bs0 bs bs2 : List ColumnBuilder)
+    → read_key left ≡ Some (Some k, behind_key) → slice_get names place ≡ Some k → PushesMember date_form depth place behind_key new ws ws2 bs bs2 → MembersRead date_form depth names all left ws0 ws bs0 bs
+    → MembersRead date_form depth names all new ws0 ws2 bs0 bs2
+members_more date_form depth names all left behind_key new k place ws0 ws ws2 bs0 bs bs2 key named p m =
     let d = p.keeps.data_is in
     let less = read_key-shorter left (Some k) behind_key key in
     let one = value_shorter depth behind_key new d p.keeps.read in
@@ -169,12 +169,12 @@ members_more depth names all left behind_key new k place ws0 ws ws2 bs0 bs bs2 k
       read = m.read ∙ member_read (value depth) m.found m.turns k left behind_key new d some key p.keeps.read;
       known = known_put names k d m.found (has_here names place k named) m.known;
       each = λ cs rows e distinct h.
-          member_held cs rows m.found k d depth place behind_key new ws ws2 bs bs2 (rw e distinct) (rw e named) p refl (m.each cs rows e distinct h);
+          member_held date_form cs rows m.found k d depth place behind_key new ws ws2 bs bs2 (rw e distinct) (rw e named) p refl (m.each cs rows e distinct h);
     }
 
-pub members_all : (depth : ℕ) (names : List (List ℕ)) (all left new : List Token) (ws0 ws : List (Option ℕ)) (bs0 bs : List ColumnBuilder) → read_key left ≡ Some (None, new)
-    → MembersRead depth names all left ws0 ws bs0 bs → PushesMembers depth names all new ws0 ws bs0 bs
-members_all depth names all left new ws0 ws bs0 bs key m = record {
+pub members_all : (date_form : DateForm) (depth : ℕ) (names : List (List ℕ)) (all left new : List Token) (ws0 ws : List (Option ℕ)) (bs0 bs : List ColumnBuilder) → read_key left ≡ Some (None, new)
+    → MembersRead date_form depth names all left ws0 ws bs0 bs → PushesMembers date_form depth names all new ws0 ws bs0 bs
+members_all date_form depth names all left new ws0 ws bs0 bs key m = record {
   found = m.found;
   read = m.read ∙ members_over (value depth) m.found m.turns left new m.enough key;
   known = m.known;
@@ -184,26 +184,26 @@ members_all depth names all left new ws0 ws bs0 bs key m = record {
 -- ---- a row of members
 
 -- the first columns have a cell of this row, and the others that of their member, if there is one
-pub record NamedHalf (cs : List Column) (found : Members) (rows : List (List Cell)) (i weight : ℕ) (ws : List (Option ℕ)) (bs : List ColumnBuilder) : Type 0 where
+pub record NamedHalf (date_form : DateForm) (cs : List Column) (found : Members) (rows : List (List Cell)) (i weight : ℕ) (ws : List (Option ℕ)) (bs : List ColumnBuilder) : Type 0 where
   pub row : List Cell
   pub len : length row ≡ i
-  pub read : cells_behind row (cells_by_name Numbers (columns_of (drop i cs)) found) ≡ cells_by_name Numbers (columns_of cs) found
+  pub read : cells_behind row (cells_by_name date_form (columns_of (drop i cs)) found) ≡ cells_by_name date_form (columns_of cs) found
   pub weighs : 1 + parts_weight (columns_of (take i cs)) (cells_of row) ≡ weight
   pub count : length bs ≡ length cs
   pub counted : length ws ≡ length cs
   pub done : (j : ℕ) (c : Column) (b : ColumnBuilder) → j < i → slice_get cs j ≡ Some c → slice_get bs j ≡ Some b → Keeps c (column_at j rows ++ get_or row j null ∷ []) b
   pub rest : (j : ℕ) (c : Column) (b : ColumnBuilder) (w : Option ℕ) → i ≤ j → slice_get cs j ≡ Some c → slice_get bs j ≡ Some b → slice_get ws j ≡ Some w
-      → HoldsMember c (column_at j rows) (get_member (name_of_column c) found) w b
+      → HoldsMember date_form c (column_at j rows) (get_member (name_of_column c) found) w b
 
 pub none_behind : (r : Result Cells Refusal) → cells_behind [] r ≡ r
 none_behind (Ok cells) = refl
 none_behind (Err e) = refl
 
-pub named_none : (cs : List Column) (found : Members) (rows : List (List Cell)) (ws : List (Option ℕ)) (bs : List ColumnBuilder) → HoldMembers cs rows found ws bs → NamedHalf cs found rows 0 1 ws bs
-named_none cs found rows ws bs h = record {
+pub named_none : (date_form : DateForm) (cs : List Column) (found : Members) (rows : List (List Cell)) (ws : List (Option ℕ)) (bs : List ColumnBuilder) → HoldMembers date_form cs rows found ws bs → NamedHalf date_form cs found rows 0 1 ws bs
+named_none date_form cs found rows ws bs h = record {
   row = [];
   len = refl;
-  read = none_behind (cells_by_name Numbers (columns_of cs) found);
+  read = none_behind (cells_by_name date_form (columns_of cs) found);
   weighs = none_weigh [];
   count = h.count;
   counted = h.counted;
@@ -211,9 +211,9 @@ named_none cs found rows ws bs h = record {
   rest = λ j c b w le. h.each j c b w;
 }
 
-pub named_more : (cs : List Column) (found : Members) (rows : List (List Cell)) (i weight more : ℕ) (w : Option ℕ) (ws : List (Option ℕ)) (bs : List ColumnBuilder) (old new : ColumnBuilder)
-    → slice_get bs i ≡ Some old → slice_get ws i ≡ Some w → Completes w more old new → NamedHalf cs found rows i weight ws bs → NamedHalf cs found rows (i + 1) (weight + more) ws (set bs i new)
-named_more cs found rows i weight more w ws bs old new here weighed completes h =
+pub named_more : (date_form : DateForm) (cs : List Column) (found : Members) (rows : List (List Cell)) (i weight more : ℕ) (w : Option ℕ) (ws : List (Option ℕ)) (bs : List ColumnBuilder) (old new : ColumnBuilder)
+    → slice_get bs i ≡ Some old → slice_get ws i ≡ Some w → Completes date_form w more old new → NamedHalf date_form cs found rows i weight ws bs → NamedHalf date_form cs found rows (i + 1) (weight + more) ws (set bs i new)
+named_more date_form cs found rows i weight more w ws bs old new here weighed completes h =
     let within : i < length bs = slice_get_within bs i old here in
     let (c, col) = there_within cs i (omega (arith, within, h.count)) in
     let k = completes c (column_at i rows) (get_member (name_of_column c) found) (h.rest i c old w (omega arith) col here weighed) in
@@ -224,7 +224,7 @@ named_more cs found rows i weight more w ws bs old new here weighed completes h 
     record {
       row = h.row ++ k.kept ∷ [];
       len = length-append h.row (k.kept ∷ []) ∙ ap (λ (n : ℕ). n + 1) h.len;
-      read = rw one (sym (name_more Numbers h.row c (columns_of (drop (suc i) cs)) found k.kept k.read) ∙ rw fields at h.read);
+      read = rw one (sym (name_more date_form h.row c (columns_of (drop (suc i) cs)) found k.kept k.read) ∙ rw fields at h.read);
       weighs = rw (one, taken_here cs i c col) (omega (arith, sum, h.weighs, k.weighs));
       count = length-set bs i new ∙ h.count;
       counted = h.counted;
@@ -246,14 +246,14 @@ named_more cs found rows i weight more w ws bs old new here weighed completes h 
           h.rest j d b v (omega (arith, le)) dc (sym same ∙ db) dv;
     }
 
-pub named_all : (cs : List Column) (found : Members) (rows : List (List Cell)) (i weight : ℕ) (ws : List (Option ℕ)) (bs : List ColumnBuilder) → length bs ≤ i
-    → NamedHalf cs found rows i weight ws bs → HasNamedRow cs found weight rows bs
-named_all cs found rows i weight ws bs le h =
+pub named_all : (date_form : DateForm) (cs : List Column) (found : Members) (rows : List (List Cell)) (i weight : ℕ) (ws : List (Option ℕ)) (bs : List ColumnBuilder) → length bs ≤ i
+    → NamedHalf date_form cs found rows i weight ws bs → HasNamedRow date_form cs found weight rows bs
+named_all date_form cs found rows i weight ws bs le h =
     let none : drop i cs ≡ [] = drop_all i cs (omega (arith, le, h.count)) in
     let all : take i cs ≡ cs = take_all i cs (omega (arith, le, h.count)) in
     record {
       row = h.row;
-      read = sym (rw none at h.read) ∙ names_end Numbers h.row found;
+      read = sym (rw none at h.read) ∙ names_end date_form h.row found;
       weighs = rw all at h.weighs;
       keeps = record {
         count = h.count;
@@ -266,9 +266,9 @@ named_all cs found rows i weight ws bs le h =
 -- ---- the object of a line
 
 -- no member was read yet
-pub hold_none : (cs : List Column) (rows : List (List Cell)) (ws : List (Option ℕ)) (bs : List ColumnBuilder) → length ws ≡ length bs
-    → ((j : ℕ) (w : Option ℕ) → slice_get ws j ≡ Some w → w ≡ None) → KeepAll cs rows bs → HoldMembers cs rows no_members ws bs
-hold_none cs rows ws bs size none k = record {
+pub hold_none : (date_form : DateForm) (cs : List Column) (rows : List (List Cell)) (ws : List (Option ℕ)) (bs : List ColumnBuilder) → length ws ≡ length bs
+    → ((j : ℕ) (w : Option ℕ) → slice_get ws j ≡ Some w → w ≡ None) → KeepAll cs rows bs → HoldMembers date_form cs rows no_members ws bs
+hold_none date_form cs rows ws bs size none k = record {
   count = k.count;
   counted = size ∙ k.count;
   each = λ j c b w dc db dw. rw (none j w dw) (k.each j c b dc db);
@@ -283,28 +283,28 @@ none_more ws i j w within none lt e = elim (cases_lt j i) [
 ]
 
 -- and then all
-fields_kept : (depth : ℕ) (names : List (List ℕ)) (inside rest : List Token) (weight : ℕ) (ws ws2 : List (Option ℕ)) (bs bs2 bs3 : List ColumnBuilder) → length ws ≡ length bs
-    → ((j : ℕ) (w : Option ℕ) → slice_get ws j ≡ Some w → w ≡ None) → PushesMembers depth names inside rest ws ws2 bs bs2 → CompletesRow ws2 weight bs2 bs3 → KeepsFields depth names inside rest weight bs bs3
-fields_kept depth names inside rest weight ws ws2 bs bs2 bs3 size none m completes = record {
+fields_kept : (date_form : DateForm) (depth : ℕ) (names : List (List ℕ)) (inside rest : List Token) (weight : ℕ) (ws ws2 : List (Option ℕ)) (bs bs2 bs3 : List ColumnBuilder) → length ws ≡ length bs
+    → ((j : ℕ) (w : Option ℕ) → slice_get ws j ≡ Some w → w ≡ None) → PushesMembers date_form depth names inside rest ws ws2 bs bs2 → CompletesRow date_form ws2 weight bs2 bs3 → KeepsFields date_form depth names inside rest weight bs bs3
+fields_kept date_form depth names inside rest weight ws ws2 bs bs2 bs3 size none m completes = record {
   found = m.found;
   read = m.read;
   keeps = λ cs rows e distinct k.
-      let h = completes cs rows m.found (m.each cs rows e distinct (hold_none cs rows ws bs size none k)) in
+      let h = completes cs rows m.found (m.each cs rows e distinct (hold_none date_form cs rows ws bs size none k)) in
       let own : repeats (names_of (columns_of cs)) ≡ false = rw e distinct in
       let known : has_unknown (names_of (columns_of cs)) (keys_of m.found) ≡ false = rw e m.known in
       record { row = h.row; read = rw (own, known) h.read; weighs = h.weighs; keeps = h.keeps };
 }
 
-pub fields_step : {E : Type 0} (depth : ℕ) (names : List (List ℕ)) (inside rest : List Token) (ws ws2 : List (Option ℕ)) (bs bs2 bs3 : List ColumnBuilder) (r : Result (Option ℕ) E) → length ws ≡ length bs
-    → ((j : ℕ) (w : Option ℕ) → slice_get ws j ≡ Some w → w ≡ None) → PushesMembers depth names inside rest ws ws2 bs bs2
-    → IfOk r (λ taken. IfSome taken (λ weight. CompletesRow ws2 weight bs2 bs3)) → IfOk r (λ taken. IfSome taken (λ weight. KeepsFields depth names inside rest weight bs bs3))
-fields_step depth names inside rest ws ws2 bs bs2 bs3 (Err e) size none m h = tt
-fields_step depth names inside rest ws ws2 bs bs2 bs3 (Ok None) size none m h = tt
-fields_step depth names inside rest ws ws2 bs bs2 bs3 (Ok (Some weight)) size none m h = fields_kept depth names inside rest weight ws ws2 bs bs2 bs3 size none m h
+pub fields_step : {E : Type 0} (date_form : DateForm) (depth : ℕ) (names : List (List ℕ)) (inside rest : List Token) (ws ws2 : List (Option ℕ)) (bs bs2 bs3 : List ColumnBuilder) (r : Result (Option ℕ) E) → length ws ≡ length bs
+    → ((j : ℕ) (w : Option ℕ) → slice_get ws j ≡ Some w → w ≡ None) → PushesMembers date_form depth names inside rest ws ws2 bs bs2
+    → IfOk r (λ taken. IfSome taken (λ weight. CompletesRow date_form ws2 weight bs2 bs3)) → IfOk r (λ taken. IfSome taken (λ weight. KeepsFields date_form depth names inside rest weight bs bs3))
+fields_step date_form depth names inside rest ws ws2 bs bs2 bs3 (Err e) size none m h = tt
+fields_step date_form depth names inside rest ws ws2 bs bs2 bs3 (Ok None) size none m h = tt
+fields_step date_form depth names inside rest ws ws2 bs bs2 bs3 (Ok (Some weight)) size none m h = fields_kept date_form depth names inside rest weight ws ws2 bs bs2 bs3 size none m h
 
-pub object_kept : (names : List (List ℕ)) (inside rest : List Token) (weight : ℕ) (bs bs2 : List ColumnBuilder) → rest ≡ [] → KeepsFields 126 names inside rest weight bs bs2
-    → KeepsTokens names (tokens.begin_object ∷ inside) weight bs bs2
-object_kept names inside rest weight bs bs2 ends k =
+pub object_kept : (date_form : DateForm) (names : List (List ℕ)) (inside rest : List Token) (weight : ℕ) (bs bs2 : List ColumnBuilder) → rest ≡ [] → KeepsFields date_form 126 names inside rest weight bs bs2
+    → KeepsTokens date_form names (tokens.begin_object ∷ inside) weight bs bs2
+object_kept date_form names inside rest weight bs bs2 ends k =
     let one = value-begin_object 127 inside (omega arith) in
     record {
       data_is = object k.found;
@@ -315,63 +315,63 @@ object_kept names inside rest weight bs bs2 ends k =
 -- ---- the rows of lines
 
 -- some lines have come as rows, and the others are left
-pub record LinesRead (s : PlainSchema) (lines left : List (List ℕ)) (weight : ℕ) (b : Batches) : Type 0 where
+pub record LinesRead (date_form : DateForm) (s : PlainSchema) (lines left : List (List ℕ)) (weight : ℕ) (b : Batches) : Type 0 where
   pub number : ℕ
   pub rows : List (List Cell)
-  pub read : behind rows (rows_from (line_row Numbers s) (number + 1) (filled_lines left)) ≡ rows_from (line_row Numbers s) 1 (filled_lines lines)
+  pub read : behind rows (rows_from (line_row date_form s) (number + 1) (filled_lines left)) ≡ rows_from (line_row date_form s) 1 (filled_lines lines)
   pub weighs : table_weight s rows ≡ weight
   pub holds : HoldRows s rows b
 
-pub lines_none : (s : PlainSchema) (lines : List (List ℕ)) (b : Batches) → HoldRows s [] b → LinesRead s lines lines 0 b
-lines_none s lines b k = record { number = 0; rows = []; read = behind_none _; weighs = refl; holds = k }
+pub lines_none : (date_form : DateForm) (s : PlainSchema) (lines : List (List ℕ)) (b : Batches) → HoldRows s [] b → LinesRead date_form s lines lines 0 b
+lines_none date_form s lines b k = record { number = 0; rows = []; read = behind_none _; weighs = refl; holds = k }
 
 -- the same rows in other batches
-pub lines_same : (s : PlainSchema) (lines left : List (List ℕ)) (weight : ℕ) (old new : Batches) → HoldsSame s old new → LinesRead s lines left weight old → LinesRead s lines left weight new
-lines_same s lines left weight old new same h = record { number = h.number; rows = h.rows; read = h.read; weighs = h.weighs; holds = same h.rows h.holds }
+pub lines_same : (date_form : DateForm) (s : PlainSchema) (lines left : List (List ℕ)) (weight : ℕ) (old new : Batches) → HoldsSame s old new → LinesRead date_form s lines left weight old → LinesRead date_form s lines left weight new
+lines_same date_form s lines left weight old new same h = record { number = h.number; rows = h.rows; read = h.read; weighs = h.weighs; holds = same h.rows h.holds }
 
-pub lines_skipped : (s : PlainSchema) (lines left others : List (List ℕ)) (weight : ℕ) (line : List ℕ) (b : Batches) → left ≡ line ∷ others → is_blank line ≡ true
-    → LinesRead s lines left weight b → LinesRead s lines others weight b
-lines_skipped s lines left others weight line b here blank h = record {
+pub lines_skipped : (date_form : DateForm) (s : PlainSchema) (lines left others : List (List ℕ)) (weight : ℕ) (line : List ℕ) (b : Batches) → left ≡ line ∷ others → is_blank line ≡ true
+    → LinesRead date_form s lines left weight b → LinesRead date_form s lines others weight b
+lines_skipped date_form s lines left others weight line b here blank h = record {
   number = h.number;
   rows = h.rows;
-  read = ap (λ (xs : List (List ℕ)). behind h.rows (rows_from (line_row Numbers s) (h.number + 1) xs)) (sym (blank_first left others line here blank)) ∙ h.read;
+  read = ap (λ (xs : List (List ℕ)). behind h.rows (rows_from (line_row date_form s) (h.number + 1) xs)) (sym (blank_first left others line here blank)) ∙ h.read;
   weighs = h.weighs;
   holds = h.holds;
 }
 
 -- a row that is not too heavy is accepted
-line_accepted : (s : PlainSchema) (line : List ℕ) (d : Data) (row : List Cell) (weight : ℕ) → line_value line ≡ Ok d → cells_in Numbers (columns_of s.columns) d ≡ Ok (cells_of row)
-    → 1 + parts_weight (columns_of s.columns) (cells_of row) ≡ weight → weight ≤ 16777216 → dictionaries_fit s (row ∷ []) ≡ true → line_row Numbers s line ≡ Ok row
-line_accepted s line d row weight value cells weighs few full =
+line_accepted : (date_form : DateForm) (s : PlainSchema) (line : List ℕ) (d : Data) (row : List Cell) (weight : ℕ) → line_value line ≡ Ok d → cells_in date_form (columns_of s.columns) d ≡ Ok (cells_of row)
+    → 1 + parts_weight (columns_of s.columns) (cells_of row) ≡ weight → weight ≤ 16777216 → dictionaries_fit s (row ∷ []) ≡ true → line_row date_form s line ≡ Ok row
+line_accepted date_form s line d row weight value cells weighs few full =
     let light : nat_lt 16777216 (row_weight s row) ≡ false = le-ltb _ _ (omega (arith, weighs, few)) in
     rw (value, cells, cells_listed row, light, full) refl
 
-pub lines_more : (s : PlainSchema) (names : List (List ℕ)) (lines left others : List (List ℕ)) (weight more : ℕ) (line : List ℕ) (b b2 : Batches) → left ≡ line ∷ others
-    → is_blank line ≡ false → names_of (columns_of s.columns) ≡ names → repeats names ≡ false → more ≤ 16777216 → KeepsLine names line more b.builders.items b2.builders.items → AddsRow b b2
-    → LinesRead s lines left weight b → LinesRead s lines others (weight + more) b2
-lines_more s names lines left others weight more line b b2 here blank named distinct few keeps adds h =
+pub lines_more : (date_form : DateForm) (s : PlainSchema) (names : List (List ℕ)) (lines left others : List (List ℕ)) (weight more : ℕ) (line : List ℕ) (b b2 : Batches) → left ≡ line ∷ others
+    → is_blank line ≡ false → names_of (columns_of s.columns) ≡ names → repeats names ≡ false → more ≤ 16777216 → KeepsLine date_form names line more b.builders.items b2.builders.items → AddsRow b b2
+    → LinesRead date_form s lines left weight b → LinesRead date_form s lines others (weight + more) b2
+lines_more date_form s names lines left others weight more line b b2 here blank named distinct few keeps adds h =
     let held = h.holds in
     let v = keeps.keeps s.columns held.last named distinct held.keeps in
     let full = row_fits s held.last b.builders.items v.row held.keeps in
-    let row = line_accepted s line keeps.data_is v.row more keeps.read v.read v.weighs few full in
+    let row = line_accepted date_form s line keeps.data_is v.row more keeps.read v.read v.weighs few full in
     let i = h.number in
-    let given : numbered (i + 1) (line_row Numbers s line) ≡ Ok v.row = rw row refl in
+    let given : numbered (i + 1) (line_row date_form s line) ≡ Ok v.row = rw row refl in
     let next = filled_first left others line here blank in
     let joined = sum_by-append (row_weight s) h.rows (v.row ∷ []) in
     record {
       number = i + 1;
       rows = h.rows ++ v.row ∷ [];
-      read = sym (row_more (line_row Numbers s) (i + 1) h.rows line (filled_lines others) v.row given)
-          ∙ ap (λ (xs : List (List ℕ)). behind h.rows (rows_from (line_row Numbers s) (i + 1) xs)) (sym next) ∙ h.read;
+      read = sym (row_more (line_row date_form s) (i + 1) h.rows line (filled_lines others) v.row given)
+          ∙ ap (λ (xs : List (List ℕ)). behind h.rows (rows_from (line_row date_form s) (i + 1) xs)) (sym next) ∙ h.read;
       weighs = omega (arith, joined, h.weighs, v.weighs);
       holds = held_more s h.rows v.row b b2 held adds v.keeps;
     }
 
-pub lines_all : (s : PlainSchema) (lines left : List (List ℕ)) (weight : ℕ) (b : Batches) → left ≡ [] → weight ≤ 268435456
-    → LinesRead s lines left weight b → HasRows s (rows_from (line_row Numbers s) 1 (filled_lines lines)) weight b
-lines_all s lines left weight b none few h = record {
+pub lines_all : (date_form : DateForm) (s : PlainSchema) (lines left : List (List ℕ)) (weight : ℕ) (b : Batches) → left ≡ [] → weight ≤ 268435456
+    → LinesRead date_form s lines left weight b → HasRows s (rows_from (line_row date_form s) 1 (filled_lines lines)) weight b
+lines_all date_form s lines left weight b none few h = record {
   rows = h.rows;
-  are_read = sym (rw none at h.read) ∙ rows_end (line_row Numbers s) (h.number + 1) h.rows;
+  are_read = sym (rw none at h.read) ∙ rows_end (line_row date_form s) (h.number + 1) h.rows;
   weighs = h.weighs;
   few = few;
   holds = h.holds;
@@ -396,18 +396,18 @@ utf8_text t line e = by (is_utf8 line) refl e
     by true is h = (is, same_Some _ _ h)
     by false is h = absurd cc
 
-line_kept : (names : List (List ℕ)) (t line : List ℕ) (weight : ℕ) (bs bs2 : List ColumnBuilder) → Some t ≡ text_where_utf8 line → KeepsTokens names (tokens_of t) weight bs bs2 → KeepsLine names line weight bs bs2
-line_kept names t line weight bs bs2 text k =
+line_kept : (date_form : DateForm) (names : List (List ℕ)) (t line : List ℕ) (weight : ℕ) (bs bs2 : List ColumnBuilder) → Some t ≡ text_where_utf8 line → KeepsTokens date_form names (tokens_of t) weight bs bs2 → KeepsLine date_form names line weight bs bs2
+line_kept date_form names t line weight bs bs2 text k =
     let (utf8, same) = utf8_text t line text in
     let one = text_read t k.data_is k.read in
     let own : read line ≡ Some k.data_is = subst (λ (x : List ℕ). read x ≡ Some k.data_is) same one in
     record { data_is = k.data_is; read = rw (utf8, own) refl; keeps = k.keeps }
 
-pub line_step : {E : Type 0} (names : List (List ℕ)) (t line : List ℕ) (bs bs2 : List ColumnBuilder) (r : Result (Option ℕ) E) → Some t ≡ text_where_utf8 line
-    → IfOk r (λ taken. IfSome taken (λ weight. KeepsTokens names (tokens_of t) weight bs bs2)) → IfOk r (λ taken. IfSome taken (λ weight. KeepsLine names line weight bs bs2))
-line_step names t line bs bs2 (Err e) text h = tt
-line_step names t line bs bs2 (Ok None) text h = tt
-line_step names t line bs bs2 (Ok (Some weight)) text h = line_kept names t line weight bs bs2 text h
+pub line_step : {E : Type 0} (date_form : DateForm) (names : List (List ℕ)) (t line : List ℕ) (bs bs2 : List ColumnBuilder) (r : Result (Option ℕ) E) → Some t ≡ text_where_utf8 line
+    → IfOk r (λ taken. IfSome taken (λ weight. KeepsTokens date_form names (tokens_of t) weight bs bs2)) → IfOk r (λ taken. IfSome taken (λ weight. KeepsLine date_form names line weight bs bs2))
+line_step date_form names t line bs bs2 (Err e) text h = tt
+line_step date_form names t line bs bs2 (Ok None) text h = tt
+line_step date_form names t line bs bs2 (Ok (Some weight)) text h = line_kept date_form names t line weight bs bs2 text h
 
 pub free_at : (ws : List (Option ℕ)) (i : ℕ) (d : Option ℕ) → i < length ws → is_some (get_or ws i d) ≡ false → slice_get ws i ≡ Some None
 free_at [] i d lt e = absurd (omega arith)

@@ -85,8 +85,8 @@ nulls_laid old = record { more = []; whole = sym (append-nil old); laid = nulls_
 pub bits_laid : (bits : Vec Bool) (old new : List ℕ) (span : Span) → IsAppended old (packed bits.items) new span → IsLaid (Booleans bits) old new (layouts.Bits span)
 bits_laid bits old new span a = record { more = packed bits.items; whole = a.whole; laid = λ known. bits_are new known span ∙ ap bit_layout (stands_last old _ new span a); ends = λ stands. bits_within (length new) stands span ∙ ends_last old _ new span a }
 
-pub values_laid : (i : _) (values : Vec ℕ) (old new : List ℕ) (span : Span) → IsAppended old values.items new span → IsLaid (Integers i values) old new (layouts.Fixed span)
-values_laid i values old new span a = record { more = values.items; whole = a.whole; laid = λ known. values_are new known span ∙ ap fixed_layout (stands_last old _ new span a); ends = λ stands. values_within (length new) stands span ∙ ends_last old _ new span a }
+pub values_laid : (i : _) (counted : _) (values : Vec ℕ) (old new : List ℕ) (span : Span) → IsAppended old values.items new span → IsLaid (Integers i counted values) old new (layouts.Fixed span)
+values_laid i counted values old new span a = record { more = values.items; whole = a.whole; laid = λ known. values_are new known span ∙ ap fixed_layout (stands_last old _ new span a); ends = λ stands. values_within (length new) stands span ∙ ends_last old _ new span a }
 
 pub fixed_laid : (width : ℕ) (values : Vec ℕ) (old new : List ℕ) (span : Span) → IsAppended old values.items new span → IsLaid (FixedBinaries width values) old new (layouts.Fixed span)
 fixed_laid width values old new span a = record { more = values.items; whole = a.whole; laid = λ known. values_are new known span ∙ ap fixed_layout (stands_last old _ new span a); ends = λ stands. values_within (length new) stands span ∙ ends_last old _ new span a }

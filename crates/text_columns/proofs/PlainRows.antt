@@ -11,6 +11,7 @@ use Rattle.csv.specs.declared.parser.Terminator.TheVariants as term
 use Rattle.arrow_schema.specs.Column.{Column}
 use Rattle.cells.specs.Cell.{Cell}
 use Rattle.text_import.specs.Records.{records_of}
+use Rattle.text_import.specs.FieldForm.{PlainFieldForm}
 use Rattle.text_import.specs.Stands.{Left}
 use Rattle.text_import.specs.laws.Left.{left_first, left_none, left_some}
 use Rattle.text_columns.specs.declared.builder.ColumnBuilder.{ColumnBuilder}
@@ -32,36 +33,36 @@ quoted_front [] rest h = refl
 quoted_front (c ∷ f) rest h = h
 
 -- the first fields of a record were read up to a place, and have come after the rows
-pub record Begun (text null_text : List ℕ) (from at i weight : ℕ) (old bs : List ColumnBuilder) : Type 0 where
+pub record Begun (text : List ℕ) (form : PlainFieldForm) (from at i weight : ℕ) (old bs : List ColumnBuilder) : Type 0 where
   pub fields : List (List ℕ)
   pub len : length fields ≡ i
   pub within : at ≤ length text
   pub read : next_record default_config st.StartField [] [] (drop from text) ≡ next_record default_config st.StartField fields [] (drop at text)
-  pub half : (cs : List Column) (rows : List (List Cell)) → KeepAll cs rows old → (more : List (List ℕ)) → Half cs null_text (fields ++ more) rows i weight bs
+  pub half : (cs : List Column) (rows : List (List Cell)) → KeepAll cs rows old → (more : List (List ℕ)) → Half cs form (fields ++ more) rows i weight bs
 
-pub begun_none : (text null_text : List ℕ) (from : ℕ) (bs : List ColumnBuilder) → from ≤ length text → Begun text null_text from from 0 1 bs bs
-begun_none text null_text from bs le = record { fields = []; len = refl; within = le; read = refl; half = λ cs rows keeps more. half_none cs null_text more rows bs keeps }
+pub begun_none : (text : List ℕ) (form : PlainFieldForm) (from : ℕ) (bs : List ColumnBuilder) → from ≤ length text → Begun text form from from 0 1 bs bs
+begun_none text form from bs le = record { fields = []; len = refl; within = le; read = refl; half = λ cs rows keeps more. half_none cs form more rows bs keeps }
 
-module _ (text null_text : List ℕ) (from at end i weight more : ℕ) (old bs : List ColumnBuilder) (b new : ColumnBuilder) (h : Begun text null_text from at i weight old bs) (field : IsFieldAt text at end)
-    (quoted : begins_quoted (drop at text) ≡ false) (here : slice_get bs i ≡ Some b) (keeps : KeepsField null_text (take (end - at) (drop at text)) more b new) where
+module _ (text : List ℕ) (form : PlainFieldForm) (from at end i weight more : ℕ) (old bs : List ColumnBuilder) (b new : ColumnBuilder) (h : Begun text form from at i weight old bs) (field : IsFieldAt text at end)
+    (quoted : begins_quoted (drop at text) ≡ false) (here : slice_get bs i ≡ Some b) (keeps : KeepsField form (take (end - at) (drop at text)) more b new) where
   split : drop at text ≡ take (end - at) (drop at text) ++ drop end text
   split = parted text at end field.low
 
   unquoted : begins_quoted (take (end - at) (drop at text)) ≡ false
   unquoted = quoted_front (take (end - at) (drop at text)) (drop end text) (subst (λ (xs : List ℕ). begins_quoted xs ≡ false) split quoted)
 
-  halves : (cs : List Column) (rows : List (List Cell)) → KeepAll cs rows old → (others : List (List ℕ)) → Half cs null_text ((h.fields ++ take (end - at) (drop at text) ∷ []) ++ others) rows (i + 1) (weight + more) (set bs i new)
+  halves : (cs : List Column) (rows : List (List Cell)) → KeepAll cs rows old → (others : List (List ℕ)) → Half cs form ((h.fields ++ take (end - at) (drop at text) ∷ []) ++ others) rows (i + 1) (weight + more) (set bs i new)
   halves cs rows keep others =
       let t : List ℕ = take (end - at) (drop at text) in
       let same : (h.fields ++ t ∷ []) ++ others ≡ h.fields ++ t ∷ others = append_assoc h.fields (t ∷ []) others in
-      subst (λ (ts : List (List ℕ)). Half cs null_text ts rows (i + 1) (weight + more) (set bs i new)) (sym same)
-      (half_more cs null_text (h.fields ++ t ∷ others) rows i weight more bs b new t here (at_place h.fields others t i h.len) keeps (h.half cs rows keep (t ∷ others)))
+      subst (λ (ts : List (List ℕ)). Half cs form ts rows (i + 1) (weight + more) (set bs i new)) (sym same)
+      (half_more cs form (h.fields ++ t ∷ others) rows i weight more bs b new t here (at_place h.fields others t i h.len) keeps (h.half cs rows keep (t ∷ others)))
 
   longer : length (h.fields ++ take (end - at) (drop at text) ∷ []) ≡ i + 1
   longer = length-append h.fields (take (end - at) (drop at text) ∷ []) ∙ ap (λ (n : ℕ). n + 1) h.len
 
   -- a comma, and another field
-  pub begun_more : begins_with 44 (drop end text) ≡ true → Begun text null_text from (end + 1) (i + 1) (weight + more) old (set bs i new)
+  pub begun_more : begins_with 44 (drop end text) ≡ true → Begun text form from (end + 1) (i + 1) (weight + more) old (set bs i new)
   begun_more comma =
       let t : List ℕ = take (end - at) (drop at text) in
       let inside : end < length text = comma_inside text end comma field.high in
@@ -88,16 +89,16 @@ module _ (text null_text : List ℕ) (from at end i weight more : ℕ) (old bs :
           let is : slice_index text end ≡ 44 = eqb-true _ _ (rw byte at c) in
           byte ∙ ap (λ (x : ℕ). x ∷ drop (end + 1) text) is
 
-  kept : (w : ℕ) → weight + more ≡ w → length bs ≤ i + 1 → length bs ≡ length old → (length (h.fields ++ take (end - at) (drop at text) ∷ []) ≡ length old) × KeepsFields null_text (h.fields ++ take (end - at) (drop at text) ∷ []) w old (set bs i new)
+  kept : (w : ℕ) → weight + more ≡ w → length bs ≤ i + 1 → length bs ≡ length old → (length (h.fields ++ take (end - at) (drop at text) ∷ []) ≡ length old) × KeepsFields form (h.fields ++ take (end - at) (drop at text) ∷ []) w old (set bs i new)
   kept w weighs last count =
       let inside : i < length bs = slice_get_within bs i b here in (
         omega (arith, longer, inside, last, count),
         λ cs rows keep.
             let ts : List (List ℕ) = h.fields ++ take (end - at) (drop at text) ∷ [] in
             let half = halves cs rows keep [] in
-            let whole : Half cs null_text ts rows (i + 1) w (set bs i new) =
-            subst (λ (n : ℕ). Half cs null_text ts rows (i + 1) n (set bs i new)) weighs (subst (λ (xs : List (List ℕ)). Half cs null_text xs rows (i + 1) (weight + more) (set bs i new)) (append-nil ts) half) in
-            half_all cs null_text ts rows (i + 1) w (set bs i new) (omega (arith, length-set bs i new, last)) whole,
+            let whole : Half cs form ts rows (i + 1) w (set bs i new) =
+            subst (λ (n : ℕ). Half cs form ts rows (i + 1) n (set bs i new)) weighs (subst (λ (xs : List (List ℕ)). Half cs form xs rows (i + 1) (weight + more) (set bs i new)) (append-nil ts) half) in
+            half_all cs form ts rows (i + 1) w (set bs i new) (omega (arith, length-set bs i new, last)) whole,
       )
 
   read_to : (rest : List ℕ) → drop end text ≡ rest → next_record default_config st.StartField [] [] (drop from text) ≡ next_record default_config st.StartField h.fields [] (take (end - at) (drop at text) ++ rest)
@@ -120,10 +121,10 @@ module _ (text null_text : List ℕ) (from at end i weight more : ℕ) (old bs :
 
   -- the end of a line or of the text
   pub ended : (row : PlainRow) → begins_with 44 (drop end text) ≡ false → weight + more ≡ row.weight → length bs ≤ i + 1 → length bs ≡ length old → row.next ≤ length text → drop row.next text ≡ drop 1 (drop end text)
-      → PushesPlain text null_text from row old (set bs i new)
+      → PushesPlain text form from row old (set bs i new)
   ended row other weighs last count within next = by (drop end text) refl
     where
-      by : (rest : List ℕ) → drop end text ≡ rest → PushesPlain text null_text from row old (set bs i new)
+      by : (rest : List ℕ) → drop end text ≡ rest → PushesPlain text form from row old (set bs i new)
       by [] is = record {
         fields = h.fields ++ take (end - at) (drop at text) ∷ [];
         state = st.StartRecord;
@@ -162,9 +163,9 @@ nothing left stands = left_none left st.StartRecord [] stands refl
 pub text_ended : (text : List ℕ) (at : ℕ) (left : List (List (List ℕ))) → at ≡ length text → InText text at left → left ≡ []
 text_ended text at left end stands = nothing left (subst (λ (xs : List ℕ). Left left st.StartRecord xs) (drop_all at text (omega (arith, end))) stands)
 
-pub next_stands : (text null_text : List ℕ) (at : ℕ) (row : PlainRow) (old new : List ColumnBuilder) (left : List (List (List ℕ))) (p : PushesPlain text null_text at row old new) → at < length text
+pub next_stands : (text : List ℕ) (form : PlainFieldForm) (at : ℕ) (row : PlainRow) (old new : List ColumnBuilder) (left : List (List (List ℕ))) (p : PushesPlain text form at row old new) → at < length text
     → ends_line (slice_index text at) ≡ false → InText text at left → (others : List (List (List ℕ))) × (left ≡ p.fields ∷ others) × InText text row.next others
-next_stands text null_text at row old new left p lt quiet stands =
+next_stands text form at row old new left p lt quiet stands =
     let byte = drop_more text at 0 lt in
     let starts : next_record default_config st.StartRecord [] [] (drop at text) ≡ next_record default_config st.StartField [] [] (drop at text) =
     ap (next_record default_config st.StartRecord [] []) byte ∙ starts_record (slice_index text at) (drop (at + 1) text) quiet ∙ ap (next_record default_config st.StartField [] []) (sym byte) in

@@ -25,7 +25,7 @@ use Rattle.text_columns.proofs.FewEntries.{row_fits}
 use Rattle.text_columns.proofs.Held.{held_more}
 use Rattle.text_columns.specs.inner.Batches.{AddsRow, HasRows, HoldRows, HoldsSame, ReadsRows}
 use Rattle.text_columns.specs.inner.Kept.{HasRow, KeepAll, Keeps, KeepsField, KeepsRecord, column_at}
-use Rattle.text_import.specs.FieldForm.{with_numbers}
+use Rattle.text_import.specs.FieldForm.{PlainFieldForm}
 
 -- ---- the item at a place
 
@@ -80,29 +80,29 @@ pub column_more : (j : ℕ) (rows : List (List Cell)) (row : List Cell) → colu
 column_more j rows row = map-append (λ (r : List Cell). get_or r j null) rows (row ∷ [])
 
 -- the first fields of a record have come after the rows; the weight is that of their row
-pub record Half (cs : List Column) (null_text : List ℕ) (ts : List (List ℕ)) (rows : List (List Cell)) (i weight : ℕ) (bs : List ColumnBuilder) : Type 0 where
+pub record Half (cs : List Column) (form : PlainFieldForm) (ts : List (List ℕ)) (rows : List (List Cell)) (i weight : ℕ) (bs : List ColumnBuilder) : Type 0 where
   pub row : List Cell
   pub len : length row ≡ i
-  pub read : behind row (field_cells (with_numbers null_text) (drop i cs) (drop i ts)) ≡ field_cells (with_numbers null_text) cs ts
+  pub read : behind row (field_cells form (drop i cs) (drop i ts)) ≡ field_cells form cs ts
   pub weighs : 1 + parts_weight (columns_of (take i cs)) (cells_of row) ≡ weight
   pub count : length bs ≡ length cs
   pub done : (j : ℕ) (c : Column) (b : ColumnBuilder) → j < i → slice_get cs j ≡ Some c → slice_get bs j ≡ Some b → Keeps c (column_at j rows ++ get_or row j null ∷ []) b
   pub rest : (j : ℕ) (c : Column) (b : ColumnBuilder) → i ≤ j → slice_get cs j ≡ Some c → slice_get bs j ≡ Some b → Keeps c (column_at j rows) b
 
-pub half_none : (cs : List Column) (null_text : List ℕ) (ts : List (List ℕ)) (rows : List (List Cell)) (bs : List ColumnBuilder) → KeepAll cs rows bs → Half cs null_text ts rows 0 1 bs
-half_none cs null_text ts rows bs k = record {
+pub half_none : (cs : List Column) (form : PlainFieldForm) (ts : List (List ℕ)) (rows : List (List Cell)) (bs : List ColumnBuilder) → KeepAll cs rows bs → Half cs form ts rows 0 1 bs
+half_none cs form ts rows bs k = record {
   row = [];
   len = refl;
-  read = behind_none (field_cells (with_numbers null_text) cs ts);
+  read = behind_none (field_cells form cs ts);
   weighs = none_weigh [];
   count = k.count;
   done = λ j c b lt. absurd (omega arith);
   rest = λ j c b le. k.each j c b;
 }
 
-pub half_more : (cs : List Column) (null_text : List ℕ) (ts : List (List ℕ)) (rows : List (List Cell)) (i weight more : ℕ) (bs : List ColumnBuilder) (old new : ColumnBuilder) (t : List ℕ)
-    → slice_get bs i ≡ Some old → slice_get ts i ≡ Some t → KeepsField null_text t more old new → Half cs null_text ts rows i weight bs → Half cs null_text ts rows (i + 1) (weight + more) (set bs i new)
-half_more cs null_text ts rows i weight more bs old new t here text keeps h =
+pub half_more : (cs : List Column) (form : PlainFieldForm) (ts : List (List ℕ)) (rows : List (List Cell)) (i weight more : ℕ) (bs : List ColumnBuilder) (old new : ColumnBuilder) (t : List ℕ)
+    → slice_get bs i ≡ Some old → slice_get ts i ≡ Some t → KeepsField form t more old new → Half cs form ts rows i weight bs → Half cs form ts rows (i + 1) (weight + more) (set bs i new)
+half_more cs form ts rows i weight more bs old new t here text keeps h =
     let within : i < length bs = slice_get_within bs i old here in
     let (c, col) = there_within cs i (omega (arith, within, h.count)) in
     let k = keeps c (column_at i rows) (h.rest i c old (omega arith) col here) in
@@ -114,7 +114,7 @@ half_more cs null_text ts rows i weight more bs old new t here text keeps h =
     record {
       row = h.row ++ k.kept ∷ [];
       len = length-append h.row (k.kept ∷ []) ∙ ap (λ (n : ℕ). n + 1) h.len;
-      read = rw one (sym (field_more (with_numbers null_text) h.row c (drop (suc i) cs) t (drop (suc i) ts) k.kept k.read) ∙ rw (fields, others) at h.read);
+      read = rw one (sym (field_more form h.row c (drop (suc i) cs) t (drop (suc i) ts) k.kept k.read) ∙ rw (fields, others) at h.read);
       weighs = rw (one, taken_here cs i c col) (omega (arith, weighed, h.weighs, k.weighs));
       count = length-set bs i new ∙ h.count;
       done = λ j d b lt dc db. elim (cases_lt j i) [
@@ -137,14 +137,14 @@ half_more cs null_text ts rows i weight more bs old new t here text keeps h =
           h.rest j d b (omega (arith, le)) dc (sym same ∙ db);
     }
 
-pub half_all : (cs : List Column) (null_text : List ℕ) (ts : List (List ℕ)) (rows : List (List Cell)) (i weight : ℕ) (bs : List ColumnBuilder) → length bs ≤ i
-    → Half cs null_text ts rows i weight bs → HasRow cs null_text ts weight rows bs
-half_all cs null_text ts rows i weight bs le h =
+pub half_all : (cs : List Column) (form : PlainFieldForm) (ts : List (List ℕ)) (rows : List (List Cell)) (i weight : ℕ) (bs : List ColumnBuilder) → length bs ≤ i
+    → Half cs form ts rows i weight bs → HasRow cs form ts weight rows bs
+half_all cs form ts rows i weight bs le h =
     let none : drop i cs ≡ [] = drop_all i cs (omega (arith, le, h.count)) in
     let all : take i cs ≡ cs = take_all i cs (omega (arith, le, h.count)) in
     record {
       row = h.row;
-      read = sym (rw none at h.read) ∙ fields_end (with_numbers null_text) h.row (drop i ts);
+      read = sym (rw none at h.read) ∙ fields_end form h.row (drop i ts);
       weighs = rw all at h.weighs;
       keeps = record {
         count = h.count;
@@ -183,58 +183,58 @@ keep_more cs bs c b k kept = record {
 -- ---- the records of a text
 
 -- some records have come as rows, and the others are left, which are read by a reader or stand in the text
-pub record Read (IsLeft : List (List (List ℕ)) → Type 0) (s : PlainSchema) (null_text : List ℕ) (records : List (List (List ℕ))) (i weight : ℕ) (b : Batches) : Type 0 where
+pub record Read (IsLeft : List (List (List ℕ)) → Type 0) (s : PlainSchema) (form : PlainFieldForm) (records : List (List (List ℕ))) (i weight : ℕ) (b : Batches) : Type 0 where
   pub rows : List (List Cell)
   pub left : List (List (List ℕ))
   pub stands : IsLeft left
-  pub read : behind rows (rows_from (record_row s (with_numbers null_text)) (i + 1) left) ≡ rows_from (record_row s (with_numbers null_text)) 1 records
+  pub read : behind rows (rows_from (record_row s form) (i + 1) left) ≡ rows_from (record_row s form) 1 records
   pub count : length rows ≡ i
   pub weighs : table_weight s rows ≡ weight
   pub holds : HoldRows s rows b
 
-pub read_none : (IsLeft : List (List (List ℕ)) → Type 0) (s : PlainSchema) (null_text : List ℕ) (records : List (List (List ℕ))) (b : Batches) → IsLeft records → HoldRows s [] b
-    → Read IsLeft s null_text records 0 0 b
-read_none IsLeft s null_text records b has k = record { rows = []; left = records; stands = has; read = behind_none _; count = refl; weighs = refl; holds = k }
+pub read_none : (IsLeft : List (List (List ℕ)) → Type 0) (s : PlainSchema) (form : PlainFieldForm) (records : List (List (List ℕ))) (b : Batches) → IsLeft records → HoldRows s [] b
+    → Read IsLeft s form records 0 0 b
+read_none IsLeft s form records b has k = record { rows = []; left = records; stands = has; read = behind_none _; count = refl; weighs = refl; holds = k }
 
 -- the same rows in other batches
-pub read_same : (IsLeft : List (List (List ℕ)) → Type 0) (s : PlainSchema) (null_text : List ℕ) (records : List (List (List ℕ))) (i weight : ℕ) (old new : Batches) → HoldsSame s old new
-    → Read IsLeft s null_text records i weight old → Read IsLeft s null_text records i weight new
-read_same IsLeft s null_text records i weight old new same h =
+pub read_same : (IsLeft : List (List (List ℕ)) → Type 0) (s : PlainSchema) (form : PlainFieldForm) (records : List (List (List ℕ))) (i weight : ℕ) (old new : Batches) → HoldsSame s old new
+    → Read IsLeft s form records i weight old → Read IsLeft s form records i weight new
+read_same IsLeft s form records i weight old new same h =
     record { rows = h.rows; left = h.left; stands = h.stands; read = h.read; count = h.count; weighs = h.weighs; holds = same h.rows h.holds }
 
 -- a row that is not too heavy is accepted
-accepted_row : (s : PlainSchema) (null_text : List ℕ) (ts : List (List ℕ)) (rows : List (List Cell)) (weight : ℕ) (old new : List ColumnBuilder) (h : HasRow s.columns null_text ts weight rows new)
-    → length ts ≡ length s.columns → weight ≤ 16777216 → dictionaries_fit s (h.row ∷ []) ≡ true → record_row s (with_numbers null_text) ts ≡ Ok h.row
-accepted_row s null_text ts rows weight old new h count few full =
+accepted_row : (s : PlainSchema) (form : PlainFieldForm) (ts : List (List ℕ)) (rows : List (List Cell)) (weight : ℕ) (old new : List ColumnBuilder) (h : HasRow s.columns form ts weight rows new)
+    → length ts ≡ length s.columns → weight ≤ 16777216 → dictionaries_fit s (h.row ∷ []) ≡ true → record_row s form ts ≡ Ok h.row
+accepted_row s form ts rows weight old new h count few full =
     let width : (length ts == length s.columns) ≡ true = eq-eqb _ _ count in
     let light : nat_lt 16777216 (row_weight s h.row) ≡ false = le-ltb _ _ (omega (arith, h.weighs, few)) in
     rw (width, h.read, light, full) refl
 
-pub read_more : (IsLeft WillBeLeft : List (List (List ℕ)) → Type 0) (s : PlainSchema) (null_text : List ℕ) (records others : List (List (List ℕ))) (i weight more : ℕ) (old new : Batches)
-    (fields : List (List ℕ)) → (h : Read IsLeft s null_text records i weight old) → h.left ≡ fields ∷ others → WillBeLeft others → more ≤ 16777216 → KeepsRecord null_text fields more old.builders.items new.builders.items → AddsRow old new
-    → Read WillBeLeft s null_text records (i + 1) (weight + more) new
-read_more IsLeft WillBeLeft s null_text records others i weight more old new fields h whole has few keeps adds =
+pub read_more : (IsLeft WillBeLeft : List (List (List ℕ)) → Type 0) (s : PlainSchema) (form : PlainFieldForm) (records others : List (List (List ℕ))) (i weight more : ℕ) (old new : Batches)
+    (fields : List (List ℕ)) → (h : Read IsLeft s form records i weight old) → h.left ≡ fields ∷ others → WillBeLeft others → more ≤ 16777216 → KeepsRecord form fields more old.builders.items new.builders.items → AddsRow old new
+    → Read WillBeLeft s form records (i + 1) (weight + more) new
+read_more IsLeft WillBeLeft s form records others i weight more old new fields h whole has few keeps adds =
     let held = h.holds in
     let row = keeps.1 s.columns held.last held.keeps in
     let full = row_fits s held.last old.builders.items row.row held.keeps in
-    let accepted = accepted_row s null_text fields held.last more old.builders.items new.builders.items row (keeps.0 ∙ held.keeps.count) few full in
+    let accepted = accepted_row s form fields held.last more old.builders.items new.builders.items row (keeps.0 ∙ held.keeps.count) few full in
     let joined = sum_by-append (row_weight s) h.rows (row.row ∷ []) in
-    let given : numbered (i + 1) (record_row s (with_numbers null_text) fields) ≡ Ok row.row = rw accepted refl in
+    let given : numbered (i + 1) (record_row s form fields) ≡ Ok row.row = rw accepted refl in
     record {
       rows = h.rows ++ row.row ∷ [];
       left = others;
       stands = has;
-      read = sym (row_more (record_row s (with_numbers null_text)) (i + 1) h.rows fields others row.row given) ∙ rw whole at h.read;
+      read = sym (row_more (record_row s form) (i + 1) h.rows fields others row.row given) ∙ rw whole at h.read;
       count = length-append h.rows (row.row ∷ []) ∙ ap (λ (n : ℕ). n + 1) h.count;
       weighs = omega (arith, joined, h.weighs, row.weighs);
       holds = held_more s h.rows row.row old new held adds row.keeps;
     }
 
-pub read_rows : (IsLeft : List (List (List ℕ)) → Type 0) (s : PlainSchema) (null_text : List ℕ) (records : List (List (List ℕ))) (i weight : ℕ) (b : Batches)
-    → (h : Read IsLeft s null_text records i weight b) → h.left ≡ [] → weight ≤ 268435456 → HasRows s (rows_from (record_row s (with_numbers null_text)) 1 records) weight b
-read_rows IsLeft s null_text records i weight b h none few = record {
+pub read_rows : (IsLeft : List (List (List ℕ)) → Type 0) (s : PlainSchema) (form : PlainFieldForm) (records : List (List (List ℕ))) (i weight : ℕ) (b : Batches)
+    → (h : Read IsLeft s form records i weight b) → h.left ≡ [] → weight ≤ 268435456 → HasRows s (rows_from (record_row s form) 1 records) weight b
+read_rows IsLeft s form records i weight b h none few = record {
   rows = h.rows;
-  are_read = sym (rw none at h.read) ∙ rows_end (record_row s (with_numbers null_text)) (i + 1) h.rows;
+  are_read = sym (rw none at h.read) ∙ rows_end (record_row s form) (i + 1) h.rows;
   weighs = h.weighs;
   few = few;
   holds = h.holds;
@@ -251,12 +251,12 @@ none_left (x ∷ xs) h = absurd (omega arith)
 pub left_behind : (left others : List (List (List ℕ))) (fields : List (List ℕ)) (i most : ℕ) → left ≡ fields ∷ others → length left ≤ most - i → length others ≤ most - (i + 1)
 left_behind left others fields i most whole few = let len = ap length whole in omega (arith, len, few)
 
-pub read_refused : (IsLeft : List (List (List ℕ)) → Type 0) (s : PlainSchema) (null_text : List ℕ) (records others : List (List (List ℕ))) (i weight : ℕ) (b : Batches) (fields : List (List ℕ))
-    (o : Option Refused) → (h : Read IsLeft s null_text records i weight b) → h.left ≡ fields ∷ others → Reports o (numbered (i + 1) (record_row s (with_numbers null_text) fields))
-    → Reports o (rows_from (record_row s (with_numbers null_text)) 1 records)
-read_refused IsLeft s null_text records others i weight b fields o h whole refused =
-    told o (numbered (i + 1) (record_row s (with_numbers null_text) fields)) (rows_from (record_row s (with_numbers null_text)) 1 records) refused
-    (λ f e. sym (rw whole at h.read) ∙ row_refused (record_row s (with_numbers null_text)) (i + 1) h.rows fields others f e)
+pub read_refused : (IsLeft : List (List (List ℕ)) → Type 0) (s : PlainSchema) (form : PlainFieldForm) (records others : List (List (List ℕ))) (i weight : ℕ) (b : Batches) (fields : List (List ℕ))
+    (o : Option Refused) → (h : Read IsLeft s form records i weight b) → h.left ≡ fields ∷ others → Reports o (numbered (i + 1) (record_row s form fields))
+    → Reports o (rows_from (record_row s form) 1 records)
+read_refused IsLeft s form records others i weight b fields o h whole refused =
+    told o (numbered (i + 1) (record_row s form fields)) (rows_from (record_row s form) 1 records) refused
+    (λ f e. sym (rw whole at h.read) ∙ row_refused (record_row s form) (i + 1) h.rows fields others f e)
 
 -- a record that is refused by itself, or by none, and what that says of all
 pub refused_step : {A : Type 0} (s : PlainSchema) (own : Result A Refused) (stated : Result (List (List Cell)) Refused) (r : Result (Option ℕ) TextError) (new : Batches)

@@ -4,12 +4,14 @@ ghost use Rattle.std.specs.Str.{is_utf8};
 ghost use Rattle.text_columns.specs.declared.builder.ColumnBuilder.{Flat};
 ghost use Rattle.text_columns.specs.inner.Kept.{KeepsField};
 ghost use Rattle.text_columns.specs.inner.Plain.{IsScanned, IsTextAt, ends_field};
+ghost use Rattle.text_import.specs.FieldForm.{field_form};
 
 use crate::builder::ColumnBuilder;
 use crate::coding;
 use crate::flat::FlatBuilder;
 use crate::plain::ends_field;
 use std::alloc::AllocError;
+use text_import::FieldForm;
 
 /// Where a field ends, and each bit that one of its bytes has: all bytes are ASCII if this is below 128.
 #[derive(Clone, Copy)]
@@ -86,11 +88,11 @@ impl FlatBuilder {
     }
 
     // Appends the cell of a field of UTF-8, and returns its weight; `None` if the field is no cell of the column.
-    fn push_utf8(&mut self, null_text: &[u8], text: &[u8]) -> Result<Option<u64>, AllocError>
+    fn push_utf8(&mut self, form: &FieldForm<'_>, text: &[u8]) -> Result<Option<u64>, AllocError>
         requires { is_utf8 text.now ≡ true }
-        ensures { IfOk result (λ taken. IfSome taken (λ weight. KeepsField null_text.now text.now weight (Flat self.old) (Flat self.new))) }
+        ensures { IfOk result (λ taken. IfSome taken (λ weight. KeepsField (field_form form.now) text.now weight (Flat self.old) (Flat self.new))) }
     {
-        if self.is_null(null_text, text) {
+        if self.is_null(form.null_text, text) {
             return self.push_null();
         }
         let Some(weight) = coding::push_utf8(&mut self.values, &mut self.coding, text)? else {
@@ -113,14 +115,14 @@ impl ColumnBuilder {
     /// Appends the cell of a field of UTF-8, and returns its weight; `None` if the field is no cell of the column.
     pub(crate) fn push_utf8(
         &mut self,
-        null_text: &[u8],
+        form: &FieldForm<'_>,
         text: &[u8],
     ) -> Result<Option<u64>, AllocError>
         requires { is_utf8 text.now ≡ true }
-        ensures { IfOk result (λ taken. IfSome taken (λ weight. KeepsField null_text.now text.now weight self.old self.new)) }
+        ensures { IfOk result (λ taken. IfSome taken (λ weight. KeepsField (field_form form.now) text.now weight self.old self.new)) }
     {
         match self {
-            ColumnBuilder::Flat(flat) => flat.push_utf8(null_text, text),
+            ColumnBuilder::Flat(flat) => flat.push_utf8(form, text),
             _ => Ok(None),
         }
     }

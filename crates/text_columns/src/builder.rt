@@ -5,12 +5,14 @@ ghost use Rattle.columns.specs.Offsets.{width_of};
 ghost use Rattle.text_columns.specs.inner.Kept.{AllAppendNulls, AppendsNulls, KeepsField, PushesEmpty, PushesEnd, PushesThere, is_nullable, null_weight_of};
 ghost use Rattle.text_columns.specs.inner.Batches.{has_room};
 ghost use Rattle.text_columns.specs.inner.Lines.{KeepsNull};
+ghost use Rattle.text_import.specs.FieldForm.{field_form};
 
 use crate::flat::FlatBuilder;
 use cells::MAX_ROW_WEIGHT;
 use columns::{OffsetWidth, push_offset};
 use indexmap::IndexSet;
 use std::alloc::AllocError;
+use text_import::FieldForm;
 
 /// The cells of a column so far: those of a column without parts, of lists or lists of one size with the cells of their items, or of structs with those of
 /// their fields.
@@ -206,13 +208,13 @@ impl ColumnBuilder {
     /// Appends the cell of a field, and returns its weight; `None` if its text is no cell of the column, or the column has parts.
     pub(crate) fn push_field(
         &mut self,
-        null_text: &[u8],
+        form: &FieldForm<'_>,
         text: &[u8],
     ) -> Result<Option<u64>, AllocError>
-        ensures { IfOk result (λ taken. IfSome taken (λ weight. KeepsField null_text.now text.now weight self.old self.new)) }
+        ensures { IfOk result (λ taken. IfSome taken (λ weight. KeepsField (field_form form.now) text.now weight self.old self.new)) }
     {
         match self {
-            ColumnBuilder::Flat(flat) => flat.push_field(null_text, text),
+            ColumnBuilder::Flat(flat) => flat.push_field(form, text),
             _ => Ok(None),
         }
     }

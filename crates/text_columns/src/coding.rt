@@ -3,6 +3,7 @@ ghost use Rattle.std.specs.Prelude.{◌≡◌, ◌+◌, ◌++◌, ◌/◌, ◌�
 ghost use Rattle.std.specs.Str.{is_utf8};
 ghost use Rattle.cells.specs.Dictionary.{entry_limit, is_within};
 ghost use Rattle.cells.specs.Typed.{typed_integer};
+ghost use Rattle.civil_days.specs.declared.date_form.DateForm.{DateForm};
 ghost use Rattle.text_import.specs.Objects.{has_name};
 ghost use Rattle.text_columns.specs.inner.Kept.{Codes, Places, PushesPlace, TakesField, TakesNullCell, index_type, key_list};
 
@@ -10,6 +11,7 @@ use crate::column_values::ColumnValues;
 use crate::short_integers::ShortInteger;
 use arrow_schema::IntegerType;
 use cells::entry_limit;
+use civil_days::DateForm;
 use columns::push_index;
 use indexmap::IndexSet;
 use std::alloc::AllocError;
@@ -119,12 +121,13 @@ impl Coding {
     fn push_text(
         &mut self,
         entries: &mut ColumnValues,
+        date_form: DateForm,
         text: &[u8],
     ) -> Result<Option<u64>, AllocError>
-        ensures { IfOk result (λ taken. IfSome taken (λ weight. TakesCodedText text.now weight self.old entries.old self.new entries.new)) }
+        ensures { IfOk result (λ taken. IfSome taken (λ weight. TakesCodedText date_form text.now weight self.old entries.old self.new entries.new)) }
     {
         self.one.clear()?;
-        let Some(weight) = self.one.push_text(text)? else {
+        let Some(weight) = self.one.push_text(date_form, text)? else {
             return Ok(None);
         };
         if self.code(entries)? {
@@ -142,7 +145,7 @@ impl Coding {
         text: &[u8],
     ) -> Result<Option<u64>, AllocError>
         requires { is_utf8 text.now ≡ true }
-        ensures { IfOk result (λ taken. IfSome taken (λ weight. TakesCodedText text.now weight self.old entries.old self.new entries.new)) }
+        ensures { (date_form : DateForm) → IfOk result (λ taken. IfSome taken (λ weight. TakesCodedText date_form text.now weight self.old entries.old self.new entries.new)) }
     {
         if !entries.has_texts() {
             return Ok(None);
@@ -173,27 +176,30 @@ pub(crate) fn push_null(
 pub(crate) fn push_text(
     values: &mut ColumnValues,
     coding: &mut Option<Coding>,
+    date_form: DateForm,
     text: &[u8],
 ) -> Result<Option<u64>, AllocError>
-    ensures { IfOk result (λ taken. IfSome taken (λ weight. TakesField text.now weight values.old coding.old values.new coding.new)) }
+    ensures { IfOk result (λ taken. IfSome taken (λ weight. TakesField date_form text.now weight values.old coding.old values.new coding.new)) }
 {
     match coding {
-        None => values.push_text(text),
-        Some(coding) => coding.push_text(values, text),
+        None => values.push_text(date_form, text),
+        Some(coding) => coding.push_text(values, date_form, text),
     }
 }
 
-/// Appends an integer, and returns its weight; `None` if the type does not hold it, or the column has a dictionary.
+/// Appends an integer, and returns its weight; `None` if the type does not hold it, if its texts are those of dates or times, or if the column has a
+/// dictionary.
 pub(crate) fn push_short(
     values: &mut ColumnValues,
     coding: &mut Option<Coding>,
+    date_form: DateForm,
     short: ShortInteger,
 ) -> Result<Option<u64>, AllocError>
     ensures { (text : List ℕ) → typed_integer text ≡ Some short.number
-        → IfOk result (λ taken. IfSome taken (λ weight. TakesField text weight values.old coding.old values.new coding.new)) }
+        → IfOk result (λ taken. IfSome taken (λ weight. TakesField date_form text weight values.old coding.old values.new coding.new)) }
 {
     match coding {
-        None => values.push_short(short),
+        None => values.push_short(date_form, short),
         Some(_) => Ok(None),
     }
 }
@@ -205,7 +211,7 @@ pub(crate) fn push_utf8(
     text: &[u8],
 ) -> Result<Option<u64>, AllocError>
     requires { is_utf8 text.now ≡ true }
-    ensures { IfOk result (λ taken. IfSome taken (λ weight. TakesField text.now weight values.old coding.old values.new coding.new)) }
+    ensures { (date_form : DateForm) → IfOk result (λ taken. IfSome taken (λ weight. TakesField date_form text.now weight values.old coding.old values.new coding.new)) }
 {
     match coding {
         None => values.push_utf8(text),

@@ -2,24 +2,26 @@
 ghost use Rattle.std.specs.Prelude.{◌≡◌, ◌++◌, ◌/◌, ◌∷◌, [], IfOk, IfSome, OnOk, true, replicate};
 ghost use Rattle.std.specs.Str.{is_utf8};
 ghost use Rattle.arrow_schema.specs.View.{bits_of};
+ghost use Rattle.civil_days.specs.declared.date_form.DateForm.{DateForm};
 ghost use Rattle.text_columns.specs.inner.Kept.{AppendsBoolean, Clears, HoldContents, TakesKey, TakesNull, TakesSpelled, TakesText, first_key, has_texts, null_weight, value_bytes};
 
 use crate::bytes::{push_bytes, push_fixed};
-use crate::integers::{push_integer, push_short};
+use crate::dates::{dates_in, push_counted, push_number};
 use crate::short_integers::ShortInteger;
 use crate::texts::{extend, push_contents, push_utf8};
 use arrow_schema::{BitWidth, IntegerType};
+use civil_days::{DateColumn, DateForm};
 use columns::{OffsetWidth, push_offset};
 use std::alloc::AllocError;
 use text_import::spelled_boolean;
 
 /// What the cells of a column are written as, apart from the places of nulls: nothing, bits, the bytes of integers or of binaries of one width, or where
-/// strings or binaries end and their bytes.
+/// strings or binaries end and their bytes. Integers may count the days or the units of dates or times.
 #[derive(Drop)]
 pub(crate) enum ColumnValues {
     Nulls,
     Booleans(Vec<bool>),
-    Integers(IntegerType, Vec<u8>),
+    Integers(IntegerType, Option<DateColumn>, Vec<u8>),
     Texts(OffsetWidth, Vec<u8>, Vec<u8>),
     Binaries(OffsetWidth, Vec<u8>, Vec<u8>),
     FixedBinaries(u32, Vec<u8>),
@@ -112,7 +114,7 @@ impl ColumnValues {
         match self {
             ColumnValues::Nulls => {}
             ColumnValues::Booleans(bits) => bits.push(false)?,
-            ColumnValues::Integers(integer, values) => push_zeros(values, integer.width)?,
+            ColumnValues::Integers(integer, _, values) => push_zeros(values, integer.width)?,
             ColumnValues::Texts(width, offsets, contents) => {
                 push_offset(offsets, *width, contents.len() as u64)?;
             }
@@ -131,7 +133,7 @@ impl ColumnValues {
         match self {
             ColumnValues::Nulls => {}
             ColumnValues::Booleans(bits) => bits.clear(),
-            ColumnValues::Integers(_, values) => values.clear(),
+            ColumnValues::Integers(_, _, values) => values.clear(),
             ColumnValues::Texts(width, offsets, contents) => {
                 clear_contents(offsets, contents, *width)?;
             }
@@ -150,7 +152,7 @@ impl ColumnValues {
         match self {
             ColumnValues::Nulls => &[],
             ColumnValues::Booleans(bits) => bit_key(bits),
-            ColumnValues::Integers(_, values) => values,
+            ColumnValues::Integers(_, _, values) => values,
             ColumnValues::Texts(_, _, contents) => contents,
             ColumnValues::Binaries(_, _, contents) => contents,
             ColumnValues::FixedBinaries(_, values) => values,
@@ -164,7 +166,7 @@ impl ColumnValues {
         match self {
             ColumnValues::Nulls => {}
             ColumnValues::Booleans(bits) => bits.push(key == [1].as_slice())?,
-            ColumnValues::Integers(_, values) => values.extend_from_slice(key)?,
+            ColumnValues::Integers(_, _, values) => values.extend_from_slice(key)?,
             ColumnValues::Texts(width, offsets, contents) => extend(
                 offsets, contents, *width, key,
             )?,
@@ -178,13 +180,19 @@ impl ColumnValues {
 
     /// Appends the cell that a field spells, and returns its weight; `None` if it is none of the type.
     #[inline(always)]
-    pub(crate) fn push_text(&mut self, text: &[u8]) -> Result<Option<u64>, AllocError>
-        ensures { IfOk result (λ taken. IfSome taken (λ weight. TakesText text.now weight self.old self.new)) }
+    pub(crate) fn push_text(
+        &mut self,
+        date_form: DateForm,
+        text: &[u8],
+    ) -> Result<Option<u64>, AllocError>
+        ensures { IfOk result (λ taken. IfSome taken (λ weight. TakesText date_form text.now weight self.old self.new)) }
     {
         match self {
             ColumnValues::Nulls => Ok(None),
             ColumnValues::Booleans(bits) => push_boolean(bits, text),
-            ColumnValues::Integers(integer, values) => push_integer(values, *integer, text),
+            ColumnValues::Integers(integer, counted, values) => {
+                push_counted(values, *integer, dates_in(date_form, *counted), text)
+            }
             ColumnValues::Texts(width, offsets, contents) => {
                 push_contents(offsets, contents, *width, text)
             }
@@ -195,12 +203,18 @@ impl ColumnValues {
         }
     }
 
-    /// Appends an integer, and returns its weight; `None` if the type does not hold it.
-    pub(crate) fn push_short(&mut self, short: ShortInteger) -> Result<Option<u64>, AllocError>
-        ensures { TakesSpelled short.number result self.old self.new }
+    /// Appends an integer, and returns its weight; `None` if the type does not hold it, or its texts are those of dates or times.
+    pub(crate) fn push_short(
+        &mut self,
+        date_form: DateForm,
+        short: ShortInteger,
+    ) -> Result<Option<u64>, AllocError>
+        ensures { TakesSpelled date_form short.number result self.old self.new }
     {
         match self {
-            ColumnValues::Integers(integer, values) => push_short(values, *integer, short),
+            ColumnValues::Integers(integer, counted, values) => {
+                push_number(values, *integer, dates_in(date_form, *counted), short)
+            }
             _ => Ok(None),
         }
     }
@@ -208,7 +222,7 @@ impl ColumnValues {
     /// Appends a string of UTF-8, and returns its weight; `None` if the type has no strings.
     pub(crate) fn push_utf8(&mut self, text: &[u8]) -> Result<Option<u64>, AllocError>
         requires { is_utf8 text.now ≡ true }
-        ensures { IfOk result (λ taken. IfSome taken (λ weight. TakesText text.now weight self.old self.new)) }
+        ensures { (date_form : DateForm) → IfOk result (λ taken. IfSome taken (λ weight. TakesText date_form text.now weight self.old self.new)) }
     {
         match self {
             ColumnValues::Texts(width, offsets, contents) => push_utf8(

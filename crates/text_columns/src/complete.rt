@@ -1,5 +1,6 @@
 // Rows of which some columns have no cell yet.
 ghost use Rattle.std.specs.Prelude.{◌≡◌, ◌≤◌, ℕ, Option, Some, None, length, slice_get, IfOk, IfSome};
+ghost use Rattle.civil_days.specs.declared.date_form.DateForm.{DateForm};
 ghost use Rattle.text_columns.specs.inner.Lines.{Completes, CompletesRow};
 
 use crate::builder::ColumnBuilder;
@@ -8,7 +9,7 @@ use std::alloc::AllocError;
 
 // Returns the weight of the cell that a column has of a row. If it has none, appends a null; `None` if it takes no null.
 fn complete(builder: &mut ColumnBuilder, weight: Option<u64>) -> Result<Option<u64>, AllocError>
-    ensures { IfOk result (λ taken. IfSome taken (λ weighs. Completes weight weighs builder.old builder.new)) }
+    ensures { (date_form : DateForm) → IfOk result (λ taken. IfSome taken (λ weighs. Completes date_form weight weighs builder.old builder.new)) }
 {
     match weight {
         Some(weight) => Ok(Some(weight)),
@@ -23,7 +24,7 @@ pub(crate) fn complete_row(
 ) -> Result<Option<u64>, AllocError>
     requires { length weights.now ≡ length builders.old }
     ensures few { IfOk result (λ taken. IfSome taken (λ weight. weight ≤ MAX_ROW_WEIGHT)) }
-    ensures kept { IfOk result (λ taken. IfSome taken (λ weight. CompletesRow weights.now weight builders.old builders.new)) }
+    ensures kept { (date_form : DateForm) → IfOk result (λ taken. IfSome taken (λ weight. CompletesRow date_form weights.now weight builders.old builders.new)) }
 {
     let mut weight = 1;
     for i in 0..builders.len() {

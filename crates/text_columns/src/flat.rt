@@ -3,11 +3,13 @@ ghost use Rattle.std.specs.Prelude.{IfOk, IfSome, OnOk};
 ghost use Rattle.text_columns.specs.declared.builder.ColumnBuilder.{Flat};
 ghost use Rattle.text_columns.specs.inner.Kept.{AppendsNulls, KeepsField};
 ghost use Rattle.text_columns.specs.inner.Lines.{KeepsNull};
+ghost use Rattle.text_import.specs.FieldForm.{field_form};
 
 use crate::coding::{self, Coding};
 use crate::column_values::ColumnValues;
 use cells::MAX_ROW_WEIGHT;
 use std::alloc::AllocError;
+use text_import::FieldForm;
 
 /// The cells of a column without parts so far: which of them are not null, and their values, or the entries of a dictionary and what else it has.
 #[derive(Drop)]
@@ -48,15 +50,16 @@ impl FlatBuilder {
     #[inline(always)]
     pub(crate) fn push_field(
         &mut self,
-        null_text: &[u8],
+        form: &FieldForm<'_>,
         text: &[u8],
     ) -> Result<Option<u64>, AllocError>
-        ensures { IfOk result (λ taken. IfSome taken (λ weight. KeepsField null_text.now text.now weight (Flat self.old) (Flat self.new))) }
+        ensures { IfOk result (λ taken. IfSome taken (λ weight. KeepsField (field_form form.now) text.now weight (Flat self.old) (Flat self.new))) }
     {
-        if self.is_null(null_text, text) {
+        if self.is_null(form.null_text, text) {
             return self.push_null();
         }
-        let Some(weight) = coding::push_text(&mut self.values, &mut self.coding, text)? else {
+        let Some(weight) = coding::push_text(&mut self.values, &mut self.coding, form.dates, text)?
+        else {
             return Ok(None);
         };
         self.valid.push(true)?;

@@ -29,6 +29,7 @@ mod bytes;
 mod coding;
 mod column_values;
 mod complete;
+mod dates;
 mod flat;
 mod integers;
 mod lexemes;

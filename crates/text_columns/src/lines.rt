@@ -8,14 +8,14 @@ ghost use Rattle.text_import.specs.Objects.{jsonl_rows_of, names_of, repeats};
 ghost use Rattle.text_columns.specs.inner.Batches.{AddsRow, HasRows, HoldRows};
 ghost use Rattle.text_columns.specs.inner.Kept.{key_list};
 ghost use Rattle.text_columns.specs.inner.Lines.{KeepsLine, KeepsTokens};
-ghost use Rattle.civil_days.specs.declared.date_form.DateForm.TheVariants.{Numbers};
 
 use crate::batches::Batches;
 use crate::builder::ColumnBuilder;
 use crate::line_reader::{LineReader, has_escape};
-use crate::next::{push_fields, push_items};
+use crate::next::{ValueForm, push_fields, push_items};
 use arrow_schema::Schema;
 use cells::{MAX_ROW_WEIGHT, MAX_TABLE_WEIGHT};
+use civil_days::DateForm;
 use indexmap::IndexSet;
 use json::{Scratch, Token};
 use memchr::memchr;
@@ -50,6 +50,7 @@ fn first_line<'a>(text: &'a str) -> FirstLine<'a>
 
 // Appends the cells of the object that a reader is in, and returns the weight of its row; `None` if it is no row of the columns.
 fn push_object(
+    date_form: DateForm,
     names: &IndexSet<Vec<u8>>,
     order: &mut [usize],
     builders: &mut [ColumnBuilder],
@@ -58,9 +59,13 @@ fn push_object(
 ) -> Result<Option<u64>, AllocError>
     ensures few { IfOk result (λ taken. IfSome taken (λ weight. weight ≤ MAX_ROW_WEIGHT)) }
     ensures kept { IfOk result (λ taken. IfSome taken (λ weight.
-        KeepsTokens (key_list names.now.keys) (tokens.begin_object ∷ reader.old) weight builders.old builders.new)) }
+        KeepsTokens date_form (key_list names.now.keys) (tokens.begin_object ∷ reader.old) weight builders.old builders.new)) }
 {
-    let Some(weight) = push_fields(names, order, builders, weights, reader, MOST_DEPTH)? else {
+    let form = ValueForm {
+        depth: MOST_DEPTH,
+        dates: date_form,
+    };
+    let Some(weight) = push_fields(names, order, builders, weights, reader, form)? else {
         return Ok(None);
     };
     if !reader.is_at_end() {
@@ -71,14 +76,19 @@ fn push_object(
 
 // Appends the cells of the array that a reader is in, and returns the weight of its row; `None` if it is no row of the columns.
 fn push_array(
+    date_form: DateForm,
     builders: &mut [ColumnBuilder],
     reader: &mut LineReader<'_>,
 ) -> Result<Option<u64>, AllocError>
     ensures few { IfOk result (λ taken. IfSome taken (λ weight. weight ≤ MAX_ROW_WEIGHT)) }
     ensures kept { IfOk result (λ taken. IfSome taken (λ weight. (names : List (List ℕ))
-        → KeepsTokens names (tokens.begin_array ∷ reader.old) weight builders.old builders.new)) }
+        → KeepsTokens date_form names (tokens.begin_array ∷ reader.old) weight builders.old builders.new)) }
 {
-    let Some(weight) = push_items(builders, reader, MOST_DEPTH)? else {
+    let form = ValueForm {
+        depth: MOST_DEPTH,
+        dates: date_form,
+    };
+    let Some(weight) = push_items(builders, reader, form)? else {
         return Ok(None);
     };
     if !reader.is_at_end() {
@@ -89,6 +99,7 @@ fn push_array(
 
 // Appends the cells of the object or array that a reader is at, and returns the weight of its row; `None` if it is no row of the columns.
 fn push_value(
+    date_form: DateForm,
     names: &IndexSet<Vec<u8>>,
     order: &mut [usize],
     builders: &mut [ColumnBuilder],
@@ -96,17 +107,18 @@ fn push_value(
     reader: &mut LineReader<'_>,
 ) -> Result<Option<u64>, AllocError>
     ensures few { IfOk result (λ taken. IfSome taken (λ weight. weight ≤ MAX_ROW_WEIGHT)) }
-    ensures kept { IfOk result (λ taken. IfSome taken (λ weight. KeepsTokens (key_list names.now.keys) reader.old weight builders.old builders.new)) }
+    ensures kept { IfOk result (λ taken. IfSome taken (λ weight. KeepsTokens date_form (key_list names.now.keys) reader.old weight builders.old builders.new)) }
 {
     match reader.next() {
-        Some(Token::BeginObject) => push_object(names, order, builders, weights, reader),
-        Some(Token::BeginArray) => push_array(builders, reader),
+        Some(Token::BeginObject) => push_object(date_form, names, order, builders, weights, reader),
+        Some(Token::BeginArray) => push_array(date_form, builders, reader),
         _ => Ok(None),
     }
 }
 
 // Appends the cells of a line, and returns the weight of its row; `None` if it is no row of the columns.
 fn push_line(
+    date_form: DateForm,
     names: &IndexSet<Vec<u8>>,
     order: &mut [usize],
     builders: &mut [ColumnBuilder],
@@ -116,14 +128,15 @@ fn push_line(
     escapes: bool,
 ) -> Result<Option<u64>, AllocError>
     ensures few { IfOk result (λ taken. IfSome taken (λ weight. weight ≤ MAX_ROW_WEIGHT)) }
-    ensures kept { IfOk result (λ taken. IfSome taken (λ weight. KeepsLine (key_list names.now.keys) line.now weight builders.old builders.new)) }
+    ensures kept { IfOk result (λ taken. IfSome taken (λ weight. KeepsLine date_form (key_list names.now.keys) line.now weight builders.old builders.new)) }
 {
     let mut reader = LineReader::new(line, scratch, escapes)?;
-    push_value(names, order, builders, weights, &mut reader)
+    push_value(date_form, names, order, builders, weights, &mut reader)
 }
 
 // Adds a line to the record batch that is being read, and returns the weight of its row; `None` if it is no row of the columns.
 fn push_row(
+    date_form: DateForm,
     names: &IndexSet<Vec<u8>>,
     order: &mut [usize],
     batches: &mut Batches,
@@ -134,18 +147,21 @@ fn push_row(
 ) -> Result<Option<u64>, AllocError>
     ensures few { IfOk result (λ taken. IfSome taken (λ weight. weight ≤ MAX_ROW_WEIGHT)) }
     ensures kept { IfOk result (λ taken. IfSome taken (λ weight.
-        KeepsLine (key_list names.now.keys) line.now weight batches.old.builders.items batches.new.builders.items)) }
+        KeepsLine date_form (key_list names.now.keys) line.now weight batches.old.builders.items batches.new.builders.items)) }
     ensures adds { IfOk result (λ taken. IfSome taken (λ weight. AddsRow batches.old batches.new)) }
 {
     batches.count_row()?;
     let builders = batches.builders.as_mut_slice();
-    push_line(names, order, builders, weights, scratch, line, escapes)
+    push_line(
+        date_form, names, order, builders, weights, scratch, line, escapes,
+    )
 }
 
 /// Appends the rows of the lines of a text that are not blank, and returns their weight; `None` if a line is no row of the columns, if a dictionary is full,
 /// or if the rows are too heavy for a table. `ends` is whether a record batch ends if a dictionary is full.
 pub(crate) fn push_lines(
     alloc: Global,
+    date_form: DateForm,
     schema: &Schema,
     names: &IndexSet<Vec<u8>>,
     text: &str,
@@ -155,7 +171,7 @@ pub(crate) fn push_lines(
     requires { repeats (key_list names.now.keys) ≡ false }
     ensures { names_of (columns_of (schema_of schema.now).columns) ≡ key_list names.now.keys → HoldRows (schema_of schema.now) [] batches.old
         → IfOk result (λ read. IfSome read (λ weight.
-        HasRows (schema_of schema.now) (jsonl_rows_of Numbers (schema_of schema.now) text.now) weight batches.new)) }
+        HasRows (schema_of schema.now) (jsonl_rows_of date_form (schema_of schema.now) text.now) weight batches.new)) }
 {
     let mut scratch = Scratch::new(alloc);
     let mut weights = vec![in alloc; None; schema.fields.len()]?;
@@ -173,6 +189,7 @@ pub(crate) fn push_lines(
             return Ok(None);
         }
         let Some(row_weight) = push_row(
+            date_form,
             names,
             order.as_mut_slice(),
             batches,

@@ -9,9 +9,17 @@ use crate::complete::{clear, complete_row};
 use crate::line_reader::LineReader;
 use crate::members::find;
 use cells::MAX_ROW_WEIGHT;
+use civil_days::DateForm;
 use indexmap::IndexSet;
 use json::Token;
 use std::alloc::AllocError;
+
+/// How values are read: how deep they may nest, and how dates and times stand.
+#[derive(Clone, Copy)]
+pub(crate) struct ValueForm {
+    pub(crate) depth: u32,
+    pub(crate) dates: DateForm,
+}
 
 /// How many items were read, and the weight of their list.
 #[derive(Clone, Copy)]
@@ -65,22 +73,22 @@ fn end_struct(slots: &mut Slots, taken: Option<u64>) -> Result<Option<u64>, Allo
     Ok(Some(weight))
 }
 
-// Appends the items of the array that a reader is in; `None` if one is no cell of the column or nests deeper than `depth`, or if they are too heavy for a
+// Appends the items of the array that a reader is in; `None` if one is no cell of the column or nests too deep, or if they are too heavy for a
 // row.
 #[cycle(next)]
 fn push_list_items(
     items: &mut ColumnBuilder,
     reader: &mut LineReader<'_>,
-    depth: u32,
+    form: ValueForm,
 ) -> Result<Option<ItemsTaken>, AllocError>
-    ensures { IfOk result (λ found. IfSome found (λ taken. KeepsListItems depth reader.old reader.new taken items.old items.new)) }
+    ensures { IfOk result (λ found. IfSome found (λ taken. KeepsListItems form.dates form.depth reader.old reader.new taken items.old items.new)) }
 {
     let mut weight = 1;
     for count in 0..MAX_ROW_WEIGHT {
         if reader.take_end_array() {
             return Ok(Some(ItemsTaken { count, weight }));
         }
-        let Some(item_weight) = items.push_next(reader, depth)? else {
+        let Some(item_weight) = items.push_next(reader, form)? else {
             return Ok(None);
         };
         if item_weight > MAX_ROW_WEIGHT - weight {
@@ -92,20 +100,20 @@ fn push_list_items(
 }
 
 /// Appends the cells of the items that a reader is at, and returns the weight of their row; `None` if they are more or fewer than the columns, or one is no
-/// cell of its column or nests deeper than `depth`, or if the row is too heavy.
+/// cell of its column or nests too deep, or if the row is too heavy.
 #[cycle(next)]
 pub(crate) fn push_items(
     builders: &mut [ColumnBuilder],
     reader: &mut LineReader<'_>,
-    depth: u32,
+    form: ValueForm,
 ) -> Result<Option<u64>, AllocError>
     ensures few { IfOk result (λ taken. IfSome taken (λ weight. weight ≤ MAX_ROW_WEIGHT)) }
-    ensures kept { IfOk result (λ taken. IfSome taken (λ weight. KeepsItems depth reader.old reader.new weight builders.old builders.new)) }
+    ensures kept { IfOk result (λ taken. IfSome taken (λ weight. KeepsItems form.dates form.depth reader.old reader.new weight builders.old builders.new)) }
 {
     let mut weight = 1;
     for i in 0..builders.len() {
         let builder = &mut builders[i];
-        let Some(cell_weight) = builder.push_next(reader, depth)? else {
+        let Some(cell_weight) = builder.push_next(reader, form)? else {
             return Ok(None);
         };
         if cell_weight > MAX_ROW_WEIGHT - weight {
@@ -120,30 +128,30 @@ pub(crate) fn push_items(
 }
 
 // Appends the value that a reader is at to the column at the place `at`, and keeps its weight. Returns false if the column already has a cell of this row,
-// or if the value is no cell of it or nests deeper than `depth`.
+// or if the value is no cell of it or nests too deep.
 #[cycle(next)]
 fn push_member(
     builders: &mut [ColumnBuilder],
     weights: &mut [Option<u64>],
     at: usize,
     reader: &mut LineReader<'_>,
-    depth: u32,
+    form: ValueForm,
 ) -> Result<bool, AllocError>
-    ensures { IfOk result (λ done. done ≡ true → PushesMember depth at reader.old reader.new weights.old weights.new builders.old builders.new) }
+    ensures { IfOk result (λ done. done ≡ true → PushesMember form.dates form.depth at reader.old reader.new weights.old weights.new builders.old builders.new) }
 {
     if at >= builders.len() || at >= weights.len() || weights[at].is_some() {
         return Ok(false);
     }
     let builder = &mut builders[at];
-    let Some(weight) = builder.push_next(reader, depth)? else {
+    let Some(weight) = builder.push_next(reader, form)? else {
         return Ok(false);
     };
     weights[at] = Some(weight);
     Ok(true)
 }
 
-// Appends the values of the members that a reader is at, and keeps the weight of each. Returns false if one is no cell of a column or nests deeper than
-// `depth`, or if two have one name. `order` has the places of the columns of the previous object's members, and then those of this one's.
+// Appends the values of the members that a reader is at, and keeps the weight of each. Returns false if one is no cell of a column or nests too
+// deep, or if two have one name. `order` has the places of the columns of the previous object's members, and then those of this one's.
 #[cycle(next)]
 fn push_members(
     names: &IndexSet<Vec<u8>>,
@@ -151,10 +159,10 @@ fn push_members(
     builders: &mut [ColumnBuilder],
     weights: &mut [Option<u64>],
     reader: &mut LineReader<'_>,
-    depth: u32,
+    form: ValueForm,
 ) -> Result<bool, AllocError>
     ensures { IfOk result (λ done. done ≡ true
-        → PushesMembers depth (key_list names.now.keys) reader.old reader.new weights.old weights.new builders.old builders.new) }
+        → PushesMembers form.dates form.depth (key_list names.now.keys) reader.old reader.new weights.old weights.new builders.old builders.new) }
 {
     for k in 0..order.len() {
         let Ok(key) = reader.next_key() else {
@@ -167,7 +175,7 @@ fn push_members(
             return Ok(false);
         };
         order[k] = at;
-        if !push_member(builders, weights, at, reader, depth)? {
+        if !push_member(builders, weights, at, reader, form)? {
             return Ok(false);
         }
     }
@@ -186,17 +194,17 @@ pub(crate) fn push_fields(
     builders: &mut [ColumnBuilder],
     weights: &mut [Option<u64>],
     reader: &mut LineReader<'_>,
-    depth: u32,
+    form: ValueForm,
 ) -> Result<Option<u64>, AllocError>
     ensures few { IfOk result (λ taken. IfSome taken (λ weight. weight ≤ MAX_ROW_WEIGHT)) }
     ensures kept { IfOk result (λ taken. IfSome taken (λ weight.
-        KeepsFields depth (key_list names.now.keys) reader.old reader.new weight builders.old builders.new)) }
+        KeepsFields form.dates form.depth (key_list names.now.keys) reader.old reader.new weight builders.old builders.new)) }
 {
     if weights.len() != builders.len() {
         return Ok(None);
     }
     clear(weights);
-    if !push_members(names, order, builders, weights, reader, depth)? {
+    if !push_members(names, order, builders, weights, reader, form)? {
         return Ok(None);
     }
     complete_row(builders, weights)
@@ -207,11 +215,11 @@ pub(crate) fn push_fields(
 fn push_parts(
     fields: &mut Vec<ColumnBuilder>,
     reader: &mut LineReader<'_>,
-    depth: u32,
+    form: ValueForm,
 ) -> Result<Option<u64>, AllocError>
-    ensures { IfOk result (λ taken. IfSome taken (λ weight. KeepsItems depth reader.old reader.new weight fields.old.items fields.new.items)) }
+    ensures { IfOk result (λ taken. IfSome taken (λ weight. KeepsItems form.dates form.depth reader.old reader.new weight fields.old.items fields.new.items)) }
 {
-    push_items(fields.as_mut_slice(), reader, depth)
+    push_items(fields.as_mut_slice(), reader, form)
 }
 
 // Appends the members of the object that a reader is in to the fields of structs, and returns their weight; `None` if they are no struct.
@@ -220,10 +228,10 @@ fn push_named(
     names: &mut Names,
     fields: &mut Vec<ColumnBuilder>,
     reader: &mut LineReader<'_>,
-    depth: u32,
+    form: ValueForm,
 ) -> Result<Option<u64>, AllocError>
     ensures kept { IfOk result (λ taken. IfSome taken (λ weight.
-        KeepsFields depth (key_list names.old.names.keys) reader.old reader.new weight fields.old.items fields.new.items)) }
+        KeepsFields form.dates form.depth (key_list names.old.names.keys) reader.old reader.new weight fields.old.items fields.new.items)) }
     ensures same { names.new.names ≡ names.old.names }
 {
     push_fields(
@@ -232,7 +240,7 @@ fn push_named(
         fields.as_mut_slice(),
         names.weights.as_mut_slice(),
         reader,
-        depth,
+        form,
     )
 }
 
@@ -242,22 +250,22 @@ impl ColumnBuilder {
     fn push_array(
         &mut self,
         reader: &mut LineReader<'_>,
-        depth: u32,
+        form: ValueForm,
     ) -> Result<Option<u64>, AllocError>
-        ensures { IfOk result (λ taken. IfSome taken (λ weight. KeepsArray depth reader.old reader.new weight self.old self.new)) }
+        ensures { IfOk result (λ taken. IfSome taken (λ weight. KeepsArray form.dates form.depth reader.old reader.new weight self.old self.new)) }
     {
         match self {
             ColumnBuilder::Flat(_) => Ok(None),
             ColumnBuilder::List(slots, offsets, items) => {
-                let taken = push_list_items(items, reader, depth)?;
+                let taken = push_list_items(items, reader, form)?;
                 end_list(slots, offsets, taken)
             }
             ColumnBuilder::FixedList(slots, size, items) => {
-                let taken = push_list_items(items, reader, depth)?;
+                let taken = push_list_items(items, reader, form)?;
                 end_fixed_list(slots, *size, taken)
             }
             ColumnBuilder::Struct(slots, _, fields) => {
-                let taken = push_parts(fields, reader, depth)?;
+                let taken = push_parts(fields, reader, form)?;
                 end_struct(slots, taken)
             }
         }
@@ -268,13 +276,13 @@ impl ColumnBuilder {
     fn push_object(
         &mut self,
         reader: &mut LineReader<'_>,
-        depth: u32,
+        form: ValueForm,
     ) -> Result<Option<u64>, AllocError>
-        ensures { IfOk result (λ taken. IfSome taken (λ weight. KeepsObject depth reader.old reader.new weight self.old self.new)) }
+        ensures { IfOk result (λ taken. IfSome taken (λ weight. KeepsObject form.dates form.depth reader.old reader.new weight self.old self.new)) }
     {
         match self {
             ColumnBuilder::Struct(slots, names, fields) => {
-                let taken = push_named(names, fields, reader, depth)?;
+                let taken = push_named(names, fields, reader, form)?;
                 end_struct(slots, taken)
             }
             _ => Ok(None),
@@ -282,41 +290,45 @@ impl ColumnBuilder {
     }
 
     // Appends the cell of the value that a reader is at to a column with parts, and returns its weight; `None` if it is no cell of the column, or nests
-    // deeper than `depth`.
+    // too deep.
     #[cycle(next)]
     fn push_nested(
         &mut self,
         reader: &mut LineReader<'_>,
-        depth: u32,
+        form: ValueForm,
     ) -> Result<Option<u64>, AllocError>
-        ensures { IfOk result (λ taken. IfSome taken (λ weight. KeepsNext depth reader.old reader.new weight self.old self.new)) }
+        ensures { IfOk result (λ taken. IfSome taken (λ weight. KeepsNext form.dates form.depth reader.old reader.new weight self.old self.new)) }
     {
-        if depth == 0 {
+        if form.depth == 0 {
             return Ok(None);
         }
+        let below = ValueForm {
+            depth: form.depth - 1,
+            dates: form.dates,
+        };
         match reader.next() {
             Some(Token::Null) => self.push_null(),
-            Some(Token::BeginArray) => self.push_array(reader, depth - 1),
-            Some(Token::BeginObject) => self.push_object(reader, depth - 1),
+            Some(Token::BeginArray) => self.push_array(reader, below),
+            Some(Token::BeginObject) => self.push_object(reader, below),
             _ => Ok(None),
         }
     }
 
-    /// Appends the cell of the value that a reader is at, and returns its weight; `None` if it is no cell of the column, or nests deeper than `depth`.
+    /// Appends the cell of the value that a reader is at, and returns its weight; `None` if it is no cell of the column, or nests too deep.
     #[cycle(next)]
     pub(crate) fn push_next(
         &mut self,
         reader: &mut LineReader<'_>,
-        depth: u32,
+        form: ValueForm,
     ) -> Result<Option<u64>, AllocError>
-        ensures { IfOk result (λ taken. IfSome taken (λ weight. KeepsNext depth reader.old reader.new weight self.old self.new)) }
+        ensures { IfOk result (λ taken. IfSome taken (λ weight. KeepsNext form.dates form.depth reader.old reader.new weight self.old self.new)) }
     {
         match self {
             ColumnBuilder::Flat(flat) => match reader.next() {
-                Some(token) => flat.push_token(token),
+                Some(token) => flat.push_token(form.dates, token),
                 None => Ok(None),
             },
-            _ => self.push_nested(reader, depth),
+            _ => self.push_nested(reader, form),
         }
     }
 }

@@ -90,7 +90,7 @@ fn place_values(
     match values {
         ColumnValues::Nulls => Ok(PlacedLayout::Null),
         ColumnValues::Booleans(bits) => Ok(PlacedLayout::Bits(append_bits(alloc, bytes, bits)?)),
-        ColumnValues::Integers(_, values) => Ok(PlacedLayout::Fixed(append(bytes, values)?)),
+        ColumnValues::Integers(_, _, values) => Ok(PlacedLayout::Fixed(append(bytes, values)?)),
         ColumnValues::Texts(_, offsets, contents) => {
             let offsets = append(bytes, offsets)?;
             let contents = append(bytes, contents)?;
@@ -241,7 +241,7 @@ fn values_size(values: &ColumnValues) -> usize {
     match values {
         ColumnValues::Nulls => 0,
         ColumnValues::Booleans(bits) => bits.len() / 8 + 1,
-        ColumnValues::Integers(_, values) => values.len(),
+        ColumnValues::Integers(_, _, values) => values.len(),
         ColumnValues::Texts(_, offsets, contents) => offsets.len().saturating_add(contents.len()),
         ColumnValues::Binaries(_, offsets, contents) => {
             offsets.len().saturating_add(contents.len())

@@ -8,7 +8,7 @@ ghost use Rattle.text_import.specs.Rows.{rows_from};
 ghost use Rattle.text_import.specs.Stands.{Left};
 ghost use Rattle.text_columns.specs.inner.Batches.{AddsRow, HasRows, HoldRows};
 ghost use Rattle.text_columns.specs.inner.Plain.{IsFieldAt, PushesField, PushesPlain, SkipsEnds, SkipsHeader, begins_quoted, begins_with, ends_field, ends_line};
-ghost use Rattle.text_import.specs.FieldForm.{with_numbers};
+ghost use Rattle.text_import.specs.FieldForm.{field_form};
 
 use crate::ascii_texts::text_field;
 use crate::batches::Batches;
@@ -16,6 +16,7 @@ use crate::builder::ColumnBuilder;
 use arrow_schema::Schema;
 use cells::{MAX_ROW_WEIGHT, MAX_TABLE_WEIGHT};
 use std::alloc::{AllocError, Global};
+use text_import::FieldForm;
 
 /// Where a record ends, with its line end, and the weight of its row.
 #[derive(Clone, Copy)]
@@ -134,18 +135,18 @@ fn behind_line(text: &[u8], end: usize) -> usize
 // twice: for its end, and for its cell.
 fn push_any_field(
     builder: &mut ColumnBuilder,
-    null_text: &[u8],
+    form: &FieldForm<'_>,
     text: &[u8],
     from: usize,
 ) -> Result<Option<PlainField>, AllocError>
     requires { from ≤ length text.now }
-    ensures { IfOk result (λ taken. IfSome taken (λ field. PushesField text.now null_text.now from field builder.old builder.new)) }
+    ensures { IfOk result (λ taken. IfSome taken (λ field. PushesField text.now (field_form form.now) from field builder.old builder.new)) }
 {
     if is_quoted(text, from) {
         return Ok(None);
     }
     let end = field_end(text, from);
-    match builder.push_field(null_text, &text[from..end])? {
+    match builder.push_field(form, &text[from..end])? {
         Some(weight) => Ok(Some(PlainField { end, weight })),
         None => Ok(None),
     }
@@ -155,19 +156,19 @@ fn push_any_field(
 // with a quote. ASCII is read once.
 fn push_text_field(
     builder: &mut ColumnBuilder,
-    null_text: &[u8],
+    form: &FieldForm<'_>,
     text: &[u8],
     from: usize,
 ) -> Result<Option<PlainField>, AllocError>
     requires { from ≤ length text.now }
-    ensures { IfOk result (λ taken. IfSome taken (λ field. PushesField text.now null_text.now from field builder.old builder.new)) }
+    ensures { IfOk result (λ taken. IfSome taken (λ field. PushesField text.now (field_form form.now) from field builder.old builder.new)) }
 {
     let field = text_field(text, from);
     if field.bits >= 128 || is_quoted(text, from) {
-        return push_any_field(builder, null_text, text, from);
+        return push_any_field(builder, form, text, from);
     }
     let end = field.end;
-    match builder.push_utf8(null_text, &text[from..end])? {
+    match builder.push_utf8(form, &text[from..end])? {
         Some(weight) => Ok(Some(PlainField { end, weight })),
         None => Ok(None),
     }
@@ -177,21 +178,21 @@ fn push_text_field(
 // integer and ASCII are read once.
 fn push_plain_field(
     builder: &mut ColumnBuilder,
-    null_text: &[u8],
+    form: &FieldForm<'_>,
     text: &[u8],
     from: usize,
 ) -> Result<Option<PlainField>, AllocError>
     requires { from ≤ length text.now }
-    ensures { IfOk result (λ taken. IfSome taken (λ field. PushesField text.now null_text.now from field builder.old builder.new)) }
+    ensures { IfOk result (λ taken. IfSome taken (λ field. PushesField text.now (field_form form.now) from field builder.old builder.new)) }
 {
     if builder.has_texts() {
-        return push_text_field(builder, null_text, text, from);
+        return push_text_field(builder, form, text, from);
     }
-    let Some(short) = builder.short_integer(text, from) else {
-        return push_any_field(builder, null_text, text, from);
+    let Some(short) = builder.short_integer(form.dates, text, from) else {
+        return push_any_field(builder, form, text, from);
     };
     let end = short.end;
-    match builder.push_short(null_text, &text[from..end], short)? {
+    match builder.push_short(form, &text[from..end], short)? {
         Some(weight) => Ok(Some(PlainField { end, weight })),
         None => Ok(None),
     }
@@ -201,19 +202,19 @@ fn push_plain_field(
 #[inline(never)]
 fn push_plain(
     builders: &mut [ColumnBuilder],
-    null_text: &[u8],
+    form: &FieldForm<'_>,
     text: &[u8],
     from: usize,
 ) -> Result<Option<PlainRow>, AllocError>
     requires { from ≤ length text.now }
     ensures few { IfOk result (λ taken. IfSome taken (λ row. row.weight ≤ MAX_ROW_WEIGHT)) }
-    ensures pushed { IfOk result (λ taken. IfSome taken (λ row. PushesPlain text.now null_text.now from row builders.old builders.new)) }
+    ensures pushed { IfOk result (λ taken. IfSome taken (λ row. PushesPlain text.now (field_form form.now) from row builders.old builders.new)) }
 {
     let mut at = from;
     let mut weight = 1;
     for i in 0..builders.len() {
         let builder = &mut builders[i];
-        let Some(field) = push_plain_field(builder, null_text, text, at)? else {
+        let Some(field) = push_plain_field(builder, form, text, at)? else {
             return Ok(None);
         };
         let cell_weight = field.weight;
@@ -238,18 +239,18 @@ fn push_plain(
 // begins with a quote.
 fn push_plain_row(
     batches: &mut Batches,
-    null_text: &[u8],
+    form: &FieldForm<'_>,
     text: &[u8],
     from: usize,
 ) -> Result<Option<PlainRow>, AllocError>
     requires { from ≤ length text.now }
     ensures few { IfOk result (λ taken. IfSome taken (λ row. row.weight ≤ MAX_ROW_WEIGHT)) }
     ensures pushed { IfOk result (λ taken. IfSome taken (λ row.
-        PushesPlain text.now null_text.now from row batches.old.builders.items batches.new.builders.items)) }
+        PushesPlain text.now (field_form form.now) from row batches.old.builders.items batches.new.builders.items)) }
     ensures adds { IfOk result (λ taken. IfSome taken (λ row. AddsRow batches.old batches.new)) }
 {
     batches.count_row()?;
-    push_plain(batches.builders.as_mut_slice(), null_text, text, from)
+    push_plain(batches.builders.as_mut_slice(), form, text, from)
 }
 
 // Appends the rows of the records from `from` on, and returns their weight; `None` if one is no row of the columns or has a field that begins with a quote,
@@ -259,14 +260,14 @@ fn push_plain_rows(
     schema: &Schema,
     batches: &mut Batches,
     ends: bool,
-    null_text: &[u8],
+    form: &FieldForm<'_>,
     text: &[u8],
     from: usize,
 ) -> Result<Option<u64>, AllocError>
     requires { from ≤ length text.now }
     ensures { IfOk result (λ read. IfSome read (λ weight. (records : List (List (List ℕ)))
         → Left records st.StartRecord (drop from text.now) → HoldRows (schema_of schema.now) [] batches.old
-        → HasRows (schema_of schema.now) (rows_from (record_row (schema_of schema.now) (with_numbers null_text.now)) 1 records) weight batches.new)) }
+        → HasRows (schema_of schema.now) (rows_from (record_row (schema_of schema.now) (field_form form.now)) 1 records) weight batches.new)) }
 {
     let mut at = from;
     let mut weight = 0;
@@ -278,7 +279,7 @@ fn push_plain_rows(
         if !batches.make_room(alloc, schema, ends)? {
             return Ok(None);
         }
-        let Some(row) = push_plain_row(batches, null_text, text, start)? else {
+        let Some(row) = push_plain_row(batches, form, text, start)? else {
             return Ok(None);
         };
         if row.weight > MAX_TABLE_WEIGHT - weight {
@@ -298,17 +299,17 @@ pub(crate) fn push_plain_text(
     schema: &Schema,
     batches: &mut Batches,
     ends: bool,
-    null_text: &[u8],
+    form: &FieldForm<'_>,
     text: &[u8],
 ) -> Result<Option<u64>, AllocError>
     ensures { IfOk result (λ read. IfSome read (λ weight. (header : List (List ℕ)) (records : List (List (List ℕ)))
         → records_of text.now ≡ header ∷ records → HoldRows (schema_of schema.now) [] batches.old
-        → HasRows (schema_of schema.now) (rows_from (record_row (schema_of schema.now) (with_numbers null_text.now)) 1 records) weight batches.new)) }
+        → HasRows (schema_of schema.now) (rows_from (record_row (schema_of schema.now) (field_form form.now)) 1 records) weight batches.new)) }
 {
     let header = skip_ends(text, behind_mark(text));
     let Some(from) = skip_header(text, header) else {
         return Ok(None);
     };
-    let read = push_plain_rows(alloc, schema, batches, ends, null_text, text, from)?;
+    let read = push_plain_rows(alloc, schema, batches, ends, form, text, from)?;
     Ok(read)
 }

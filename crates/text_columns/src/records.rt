@@ -9,13 +9,12 @@ ghost use Rattle.text_import.specs.Rows.{rows_from};
 ghost use Rattle.text_import.specs.Stands.{HasLeft};
 ghost use Rattle.text_columns.specs.inner.Batches.{AddsRow, HoldRows, ReadsRows};
 ghost use Rattle.text_columns.specs.inner.Kept.{KeepsFields, KeepsRecord};
-ghost use Rattle.text_import.specs.FieldForm.{with_numbers};
+ghost use Rattle.text_import.specs.FieldForm.{field_form};
 
 use crate::batches::Batches;
 use crate::builder::ColumnBuilder;
 use arrow_schema::Schema;
 use cells::{MAX_ROW_WEIGHT, MAX_TABLE_WEIGHT, has_limits};
-use civil_days::DateForm;
 use csv::{ByteRecord, Reader};
 use std::alloc::{AllocError, Global};
 use text_import::{FieldForm, TextError, csv_records, numbered_row, read_next, record_field};
@@ -23,17 +22,17 @@ use text_import::{FieldForm, TextError, csv_records, numbered_row, read_next, re
 // Appends the cells of as many fields as columns, and returns the weight of their row; `None` if a field is no cell of its column, or the row is too heavy.
 fn push_fields(
     builders: &mut [ColumnBuilder],
-    null_text: &[u8],
+    form: &FieldForm<'_>,
     row: &ByteRecord,
 ) -> Result<Option<u64>, AllocError>
     requires { length (fields_of row.now) ≡ length builders.old }
     ensures few { IfOk result (λ taken. IfSome taken (λ weight. weight ≤ MAX_ROW_WEIGHT)) }
-    ensures kept { IfOk result (λ taken. IfSome taken (λ weight. KeepsFields null_text.now (fields_of row.now) weight builders.old builders.new)) }
+    ensures kept { IfOk result (λ taken. IfSome taken (λ weight. KeepsFields (field_form form.now) (fields_of row.now) weight builders.old builders.new)) }
 {
     let mut weight = 1;
     for i in 0..builders.len() {
         let builder = &mut builders[i];
-        let Some(cell_weight) = builder.push_field(null_text, record_field(row, i))? else {
+        let Some(cell_weight) = builder.push_field(form, record_field(row, i))? else {
             return Ok(None);
         };
         if cell_weight > MAX_ROW_WEIGHT - weight {
@@ -47,49 +46,45 @@ fn push_fields(
 // Appends the cells of a record, and returns the weight of its row; `None` if it is no row of the columns.
 fn push_record(
     builders: &mut [ColumnBuilder],
-    null_text: &[u8],
+    form: &FieldForm<'_>,
     row: &ByteRecord,
 ) -> Result<Option<u64>, AllocError>
     ensures few { IfOk result (λ taken. IfSome taken (λ weight. weight ≤ MAX_ROW_WEIGHT)) }
-    ensures kept { IfOk result (λ taken. IfSome taken (λ weight. KeepsRecord null_text.now (fields_of row.now) weight builders.old builders.new)) }
+    ensures kept { IfOk result (λ taken. IfSome taken (λ weight. KeepsRecord (field_form form.now) (fields_of row.now) weight builders.old builders.new)) }
 {
     if row.len() != builders.len() {
         return Ok(None);
     }
-    push_fields(builders, null_text, row)
+    push_fields(builders, form, row)
 }
 
 // Adds a record to the record batch that is being read, and returns the weight of its row; `None` if it is no row of the columns.
 fn push_row(
     batches: &mut Batches,
-    null_text: &[u8],
+    form: &FieldForm<'_>,
     row: &ByteRecord,
 ) -> Result<Option<u64>, AllocError>
     ensures few { IfOk result (λ taken. IfSome taken (λ weight. weight ≤ MAX_ROW_WEIGHT)) }
     ensures kept { IfOk result (λ taken. IfSome taken (λ weight.
-        KeepsRecord null_text.now (fields_of row.now) weight batches.old.builders.items batches.new.builders.items)) }
+        KeepsRecord (field_form form.now) (fields_of row.now) weight batches.old.builders.items batches.new.builders.items)) }
     ensures adds { IfOk result (λ taken. IfSome taken (λ weight. AddsRow batches.old batches.new)) }
 {
     batches.count_row()?;
-    push_record(batches.builders.as_mut_slice(), null_text, row)
+    push_record(batches.builders.as_mut_slice(), form, row)
 }
 
 // Reports why a record is refused. `None` if it is a row by itself: then a dictionary is full.
 fn refuse(
     alloc: Global,
     schema: &Schema,
-    null_text: &[u8],
+    form: &FieldForm<'_>,
     row: &ByteRecord,
     number: u64,
 ) -> Result<Option<u64>, TextError>
     ensures { MatchResult result (λ read. read ≡ None)
-        (λ e. Reports (refused_by e) (numbered number (record_row (schema_of schema.now) (with_numbers null_text.now) (fields_of row.now)))) }
+        (λ e. Reports (refused_by e) (numbered number (record_row (schema_of schema.now) (field_form form.now) (fields_of row.now)))) }
 {
-    let form = FieldForm {
-        null_text,
-        dates: DateForm::Numbers,
-    };
-    let _row = numbered_row(alloc, schema, has_limits(schema), &form, row, number)?;
+    let _row = numbered_row(alloc, schema, has_limits(schema), form, row, number)?;
     Ok(None)
 }
 
@@ -98,7 +93,7 @@ fn refuse(
 fn push_records(
     alloc: Global,
     schema: &Schema,
-    null_text: &[u8],
+    form: &FieldForm<'_>,
     reader: &mut Reader<&[u8]>,
     row: &mut ByteRecord,
     batches: &mut Batches,
@@ -107,7 +102,7 @@ fn push_records(
 ) -> Result<Option<u64>, TextError>
     ensures { (records : List (List (List ℕ))) → HasLeft reader.old records → length records ≤ most
         → HoldRows (schema_of schema.now) [] batches.old
-        → ReadsRows (schema_of schema.now) (rows_from (record_row (schema_of schema.now) (with_numbers null_text.now)) 1 records) result batches.new }
+        → ReadsRows (schema_of schema.now) (rows_from (record_row (schema_of schema.now) (field_form form.now)) 1 records) result batches.new }
 {
     let mut weight = 0;
     for index in 0..most {
@@ -117,8 +112,8 @@ fn push_records(
         if !batches.make_room(alloc, schema, ends)? {
             return Ok(None);
         }
-        let Some(row_weight) = push_row(batches, null_text, row)? else {
-            return refuse(alloc, schema, null_text, row, index as u64 + 1);
+        let Some(row_weight) = push_row(batches, form, row)? else {
+            return refuse(alloc, schema, form, row, index as u64 + 1);
         };
         if row_weight > MAX_TABLE_WEIGHT - weight {
             return Ok(None);
@@ -138,12 +133,12 @@ pub(crate) fn push_rows(
     alloc: Global,
     schema: &Schema,
     text: &[u8],
-    null_text: &[u8],
+    form: &FieldForm<'_>,
     batches: &mut Batches,
     ends: bool,
 ) -> Result<Option<u64>, TextError>
     ensures { HoldRows (schema_of schema.now) [] batches.old
-        → ReadsRows (schema_of schema.now) (csv_rows_of (schema_of schema.now) (with_numbers null_text.now) text.now) result batches.new }
+        → ReadsRows (schema_of schema.now) (csv_rows_of (schema_of schema.now) (field_form form.now) text.now) result batches.new }
 {
     match csv_records(alloc, schema, text) {
         Ok(mut reader) => {
@@ -151,7 +146,7 @@ pub(crate) fn push_rows(
             push_records(
                 alloc,
                 schema,
-                null_text,
+                form,
                 &mut reader,
                 &mut row,
                 batches,

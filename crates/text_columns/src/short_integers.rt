@@ -4,13 +4,17 @@ ghost use Rattle.cells.specs.Typed.{typed_integer};
 ghost use Rattle.text_columns.specs.declared.builder.ColumnBuilder.{Flat};
 ghost use Rattle.text_columns.specs.inner.Kept.{KeepsField};
 ghost use Rattle.text_columns.specs.inner.Plain.{AreDigits, IsShortInteger, begins_with, ends_field};
+ghost use Rattle.text_import.specs.FieldForm.{field_form};
 
 use crate::builder::ColumnBuilder;
 use crate::coding;
 use crate::column_values::ColumnValues;
+use crate::dates::dates_in;
 use crate::flat::FlatBuilder;
 use crate::plain::ends_field;
+use civil_days::DateForm;
 use std::alloc::AllocError;
+use text_import::FieldForm;
 
 /// An integer of at most 18 digits, and where its field ends.
 #[derive(Clone, Copy)]
@@ -142,8 +146,8 @@ fn short_integer(text: &[u8], from: usize) -> Option<ShortInteger>
 }
 
 impl FlatBuilder {
-    // Returns the short integer at `from`; `None` if the field is none, or the column has no integers, or has a dictionary.
-    fn short_integer(&self, text: &[u8], from: usize) -> Option<ShortInteger>
+    // Returns the short integer at `from`; `None` if the field is none, or the column has no integers, or has a dictionary, or the texts of dates or times.
+    fn short_integer(&self, date_form: DateForm, text: &[u8], from: usize) -> Option<ShortInteger>
         requires { from ≤ length text.now }
         ensures { IfSome result (IsShortInteger text.now from) }
     {
@@ -151,7 +155,10 @@ impl FlatBuilder {
             return None;
         }
         match &self.values {
-            ColumnValues::Integers(_, _) => short_integer(text, from),
+            ColumnValues::Integers(_, counted, _) => match dates_in(date_form, *counted) {
+                None => short_integer(text, from),
+                Some(_) => None,
+            },
             _ => None,
         }
     }
@@ -159,17 +166,23 @@ impl FlatBuilder {
     // Appends the cell of a field that spells a short integer, and returns its weight; `None` if the field is no cell of the column.
     fn push_short(
         &mut self,
-        null_text: &[u8],
+        form: &FieldForm<'_>,
         text: &[u8],
         short: ShortInteger,
     ) -> Result<Option<u64>, AllocError>
         requires { typed_integer text.now ≡ Some short.number }
-        ensures { IfOk result (λ taken. IfSome taken (λ weight. KeepsField null_text.now text.now weight (Flat self.old) (Flat self.new))) }
+        ensures { IfOk result (λ taken. IfSome taken (λ weight. KeepsField (field_form form.now) text.now weight (Flat self.old) (Flat self.new))) }
     {
-        if self.is_null(null_text, text) {
+        if self.is_null(form.null_text, text) {
             return self.push_null();
         }
-        let Some(weight) = coding::push_short(&mut self.values, &mut self.coding, short)? else {
+        let Some(weight) = coding::push_short(
+            &mut self.values,
+            &mut self.coding,
+            form.dates,
+            short,
+        )?
+        else {
             return Ok(None);
         };
         self.valid.push(true)?;
@@ -178,13 +191,18 @@ impl FlatBuilder {
 }
 
 impl ColumnBuilder {
-    /// Returns the short integer at `from`; `None` if the field is none, or the column has no integers, or has a dictionary.
-    pub(crate) fn short_integer(&self, text: &[u8], from: usize) -> Option<ShortInteger>
+    /// Returns the short integer at `from`; `None` if the field is none, or the column has no integers, or has a dictionary, or the texts of dates or times.
+    pub(crate) fn short_integer(
+        &self,
+        date_form: DateForm,
+        text: &[u8],
+        from: usize,
+    ) -> Option<ShortInteger>
         requires { from ≤ length text.now }
         ensures { IfSome result (IsShortInteger text.now from) }
     {
         match self {
-            ColumnBuilder::Flat(flat) => flat.short_integer(text, from),
+            ColumnBuilder::Flat(flat) => flat.short_integer(date_form, text, from),
             _ => None,
         }
     }
@@ -192,15 +210,15 @@ impl ColumnBuilder {
     /// Appends the cell of a field that spells a short integer, and returns its weight; `None` if the field is no cell of the column.
     pub(crate) fn push_short(
         &mut self,
-        null_text: &[u8],
+        form: &FieldForm<'_>,
         text: &[u8],
         short: ShortInteger,
     ) -> Result<Option<u64>, AllocError>
         requires { typed_integer text.now ≡ Some short.number }
-        ensures { IfOk result (λ taken. IfSome taken (λ weight. KeepsField null_text.now text.now weight self.old self.new)) }
+        ensures { IfOk result (λ taken. IfSome taken (λ weight. KeepsField (field_form form.now) text.now weight self.old self.new)) }
     {
         match self {
-            ColumnBuilder::Flat(flat) => flat.push_short(null_text, text, short),
+            ColumnBuilder::Flat(flat) => flat.push_short(form, text, short),
             _ => Ok(None),
         }
     }

@@ -12,6 +12,7 @@ use crate::flat::FlatBuilder;
 use crate::members::names_of;
 use arrow_schema::{DataType, DictSpec, Field};
 use cells::has_limit;
+use civil_days::date_column_of;
 use columns::{OffsetWidth, date_integer, push_offset, timestamp_integer};
 use indexmap::IndexSet;
 use std::alloc::{AllocError, Global};
@@ -46,9 +47,15 @@ fn empty_values(alloc: Global, data_type: &DataType) -> Result<Option<ColumnValu
     let values = match data_type {
         DataType::Null => ColumnValues::Nulls,
         DataType::Bool => ColumnValues::Booleans(Vec::new(alloc)),
-        DataType::Int(integer) => ColumnValues::Integers(*integer, Vec::new(alloc)),
-        DataType::Date(unit) => ColumnValues::Integers(date_integer(*unit), Vec::new(alloc)),
-        DataType::Timestamp(_, _) => ColumnValues::Integers(timestamp_integer(), Vec::new(alloc)),
+        DataType::Int(integer) => ColumnValues::Integers(*integer, None, Vec::new(alloc)),
+        DataType::Date(unit) => {
+            let counted = date_column_of(data_type);
+            ColumnValues::Integers(date_integer(*unit), counted, Vec::new(alloc))
+        }
+        DataType::Timestamp(_, _) => {
+            let counted = date_column_of(data_type);
+            ColumnValues::Integers(timestamp_integer(), counted, Vec::new(alloc))
+        }
         DataType::Utf8 => empty_texts(alloc, OffsetWidth::Four)?,
         DataType::LargeUtf8 => empty_texts(alloc, OffsetWidth::Eight)?,
         DataType::Binary => empty_binaries(alloc, OffsetWidth::Four)?,

@@ -12,8 +12,7 @@ ghost use Rattle.text_import.specs.Refusals.{refused_by};
 ghost use Rattle.values.specs.Parts.{part_rows};
 ghost use Rattle.values.specs.TableView.{table_of, is_in_parts};
 ghost use Rattle.text_columns.specs.inner.Tables.{HasTable, MakesRows};
-ghost use Rattle.civil_days.specs.declared.date_form.DateForm.TheVariants.{Numbers};
-ghost use Rattle.text_import.specs.FieldForm.{field_form, with_numbers};
+ghost use Rattle.text_import.specs.FieldForm.{field_form};
 
 use crate::batches::{Batches, end_batches};
 use crate::reading::{WeighedBatches, read_csv, read_jsonl};
@@ -36,12 +35,11 @@ fn build_table(alloc: Global, schema: &Schema, batches: Batches) -> Result<Table
 
 /// Returns the table of the rows of a CSV text, and their weight. It is kept in record batches with the rows of a piece; in one, if a column has parts or a
 /// dictionary; or in several, if such a column has more entries than its indices can name. `None` for some schemas with lists or structs, or if the rows
-/// are too heavy for a table, and for texts of dates as people write them: the rows are then those of `text_import::csv_rows`, or its refusal.
+/// are too heavy for a table: the rows are then those of `text_import::csv_rows`, or its refusal.
 ///
 /// # Errors
 ///
 /// Those of `csv_rows`: the first refusal, of the header or of a record, with its number.
-#[tactic(auto, using(crate::proofs::Forms::numbers_form))]
 pub fn csv_table(
     alloc: Global,
     schema: &Schema,
@@ -55,28 +53,8 @@ pub fn csv_table(
     ensures in_parts { IfOk result (λ found. IfSome found (λ w. is_in_parts w.table ≡ true)) }
     ensures refused { IfErr result (λ e. Reports (refused_by e) (csv_rows_of (schema_of schema.now) (field_form form.now) text.now)) }
 {
-    match form.dates {
-        DateForm::Numbers => csv_numbers(alloc, schema, text, form.null_text),
-        DateForm::Iso => Ok(None),
-    }
-}
-
-// The same for dates and times that are numbers.
-fn csv_numbers(
-    alloc: Global,
-    schema: &Schema,
-    text: &[u8],
-    null_text: &[u8],
-) -> Result<Option<WeighedTable>, TextError>
-    requires { IsWithinLimits (schema_of schema.now) }
-    ensures read { IfOk result (λ found. IfSome found (λ w. csv_rows_of (schema_of schema.now) (with_numbers null_text.now) text.now ≡ Ok (table_of w.table).rows)) }
-    ensures schema { IfOk result (λ found. IfSome found (λ w. (table_of w.table).schema ≡ schema_of schema.now)) }
-    ensures weight { IfOk result (λ found. IfSome found (λ w. w.weight ≡ table_weight (schema_of schema.now) (table_of w.table).rows)) }
-    ensures in_parts { IfOk result (λ found. IfSome found (λ w. is_in_parts w.table ≡ true)) }
-    ensures refused { IfErr result (λ e. Reports (refused_by e) (csv_rows_of (schema_of schema.now) (with_numbers null_text.now) text.now)) }
-{
     rows_of_texts_are_rows();
-    let Some(read) = read_csv(alloc, schema, text, null_text)? else {
+    let Some(read) = read_csv(alloc, schema, text, form)? else {
         return Ok(None);
     };
     let WeighedBatches { batches, weight } = read;
@@ -86,8 +64,8 @@ fn csv_numbers(
 
 /// Returns the table of the rows of a text of JSON Lines, and their weight. It is kept in record batches as that of `csv_table` is. `None` if a line is
 /// refused or has a member twice, if two columns, or two fields of a struct, have one name (even if all lines are arrays), if a dictionary below a list or
-/// a struct has indices of fewer than 32 bits, if the rows are too heavy for a table, and for texts of dates as people write them: the rows are then those
-/// of `text_import::jsonl_rows`, or its refusal.
+/// a struct has indices of fewer than 32 bits, or if the rows are too heavy for a table: the rows are then those of `text_import::jsonl_rows`, or its
+/// refusal.
 ///
 /// # Errors
 /// `AllocError` if memory was refused. For a text that is refused, `None` is returned.
@@ -103,26 +81,8 @@ pub fn jsonl_table(
     ensures weight { IfOk result (λ found. IfSome found (λ w. w.weight ≡ table_weight (schema_of schema.now) (table_of w.table).rows)) }
     ensures in_parts { IfOk result (λ found. IfSome found (λ w. is_in_parts w.table ≡ true)) }
 {
-    match date_form {
-        DateForm::Numbers => jsonl_numbers(alloc, schema, text),
-        DateForm::Iso => Ok(None),
-    }
-}
-
-// The same for dates and times that are numbers.
-fn jsonl_numbers(
-    alloc: Global,
-    schema: &Schema,
-    text: &[u8],
-) -> Result<Option<WeighedTable>, AllocError>
-    requires { IsWithinLimits (schema_of schema.now) }
-    ensures read { IfOk result (λ found. IfSome found (λ w. jsonl_rows_of Numbers (schema_of schema.now) text.now ≡ Ok (table_of w.table).rows)) }
-    ensures schema { IfOk result (λ found. IfSome found (λ w. (table_of w.table).schema ≡ schema_of schema.now)) }
-    ensures weight { IfOk result (λ found. IfSome found (λ w. w.weight ≡ table_weight (schema_of schema.now) (table_of w.table).rows)) }
-    ensures in_parts { IfOk result (λ found. IfSome found (λ w. is_in_parts w.table ≡ true)) }
-{
     rows_of_texts_are_rows();
-    let Some(read) = read_jsonl(alloc, schema, text)? else {
+    let Some(read) = read_jsonl(alloc, date_form, schema, text)? else {
         return Ok(None);
     };
     let WeighedBatches { batches, weight } = read;

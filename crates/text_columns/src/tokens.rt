@@ -1,20 +1,23 @@
 // Cells of JSON tokens.
 ghost use Rattle.std.specs.Prelude.{◌≡◌, ◌==◌, ◌++◌, ◌∷◌, ◌^◌, ◌≤◌, ◌<◌, [], true, false, length, slice_index, IfOk, IfSome, Some};
 ghost use Rattle.fast_float.specs.Text.{Parts};
+ghost use Rattle.civil_days.specs.declared.date_form.DateForm.{DateForm};
 ghost use Rattle.json.specs.Reads.{token_of};
 ghost use Rattle.text_columns.specs.declared.builder.ColumnBuilder.{Flat};
 ghost use Rattle.text_columns.specs.inner.Kept.{has_texts};
 ghost use Rattle.text_columns.specs.inner.Plain.{AreDigits};
-ghost use Rattle.text_columns.specs.inner.Lines.{AppendsBinary, AppendsBit, AppendsFixedBinary, AppendsNumber, AppendsString, TakesCellToken, TakesCodedToken, TakesNumber, TakesToken, integer_after, integer_in};
+ghost use Rattle.text_columns.specs.inner.Lines.{AppendsBinary, AppendsBit, AppendsCounted, AppendsDate, AppendsFixedBinary, AppendsNumber, AppendsString, TakesCellToken, TakesCodedToken, TakesNumber, TakesToken, integer_after, integer_in};
 
 use crate::bytes::{push_bytes, push_fixed};
 use crate::coding::Coding;
 use crate::column_values::ColumnValues;
+use crate::dates::{dates_in, push_date};
 use crate::flat::FlatBuilder;
 use crate::integers::{push_number, push_small};
 use crate::short_integers::read_digits;
 use crate::texts::push_utf8;
 use arrow_schema::IntegerType;
+use civil_days::{DateColumn, DateForm};
 use columns::OffsetWidth;
 use fast_float::Numeral;
 use json::Token;
@@ -139,8 +142,8 @@ fn push_integer_of(
     }
 }
 
-// Appends the integer that a token is, and returns its weight; `None` if it is none, or the type does not hold it.
-fn push_integer(
+// Appends the integer that a number is, and returns its weight; `None` if the token is no number, or the type does not hold it.
+fn push_number_token(
     values: &mut Vec<u8>,
     integer: IntegerType,
     token: Token<'_>,
@@ -155,6 +158,39 @@ fn push_integer(
         Ok(Some(1))
     } else {
         Ok(None)
+    }
+}
+
+// Appends the number that the text of a date or a time states, and returns its weight; `None` if the token is no such text, or the type does not hold it.
+fn push_date_token(
+    values: &mut Vec<u8>,
+    integer: IntegerType,
+    column: DateColumn,
+    token: Token<'_>,
+) -> Result<Option<u64>, AllocError>
+    ensures { IfOk result (λ taken. IfSome taken (λ weight. (weight ≡ 1)
+        × AppendsDate column integer (token_of token.entry) values.old.items values.new.items)) }
+{
+    let Token::String(text) = token else {
+        return Ok(None);
+    };
+    push_date(values, integer, column, text.as_bytes())
+}
+
+// Appends the integer that a token is, and returns its weight; `None` if it is none, or the type does not hold it. It is a number, unless `dates` says which
+// dates or times the texts are.
+fn push_integer(
+    values: &mut Vec<u8>,
+    integer: IntegerType,
+    dates: Option<DateColumn>,
+    token: Token<'_>,
+) -> Result<Option<u64>, AllocError>
+    ensures { IfOk result (λ taken. IfSome taken (λ weight. (weight ≡ 1)
+        × AppendsCounted dates integer (token_of token.entry) values.old.items values.new.items)) }
+{
+    match dates {
+        None => push_number_token(values, integer, token),
+        Some(column) => push_date_token(values, integer, column, token),
     }
 }
 
@@ -217,13 +253,19 @@ fn push_fixed_binary(
 
 impl ColumnValues {
     /// Appends the cell that a token is, and returns its weight; `None` if it is none of the type, or a null.
-    pub(crate) fn push_token(&mut self, token: Token<'_>) -> Result<Option<u64>, AllocError>
-        ensures { IfOk result (λ taken. IfSome taken (λ weight. TakesToken (token_of token.entry) weight self.old self.new)) }
+    pub(crate) fn push_token(
+        &mut self,
+        date_form: DateForm,
+        token: Token<'_>,
+    ) -> Result<Option<u64>, AllocError>
+        ensures { IfOk result (λ taken. IfSome taken (λ weight. TakesToken date_form (token_of token.entry) weight self.old self.new)) }
     {
         match self {
             ColumnValues::Nulls => Ok(None),
             ColumnValues::Booleans(bits) => push_boolean(bits, token),
-            ColumnValues::Integers(integer, values) => push_integer(values, *integer, token),
+            ColumnValues::Integers(integer, counted, values) => {
+                push_integer(values, *integer, dates_in(date_form, *counted), token)
+            }
             ColumnValues::Texts(width, offsets, contents) => push_text(
                 offsets, contents, *width, token,
             ),
@@ -244,7 +286,7 @@ impl Coding {
         token: Token<'_>,
     ) -> Result<Option<u64>, AllocError>
         requires { has_texts entries.old ≡ true }
-        ensures { IfOk result (λ taken. IfSome taken (λ weight. TakesCodedToken (token_of token.entry) weight self.old entries.old self.new entries.new)) }
+        ensures { (date_form : DateForm) → IfOk result (λ taken. IfSome taken (λ weight. TakesCodedToken date_form (token_of token.entry) weight self.old entries.old self.new entries.new)) }
     {
         let Token::String(text) = token else {
             return Ok(None);
@@ -256,15 +298,16 @@ impl Coding {
     fn push_token(
         &mut self,
         entries: &mut ColumnValues,
+        date_form: DateForm,
         token: Token<'_>,
     ) -> Result<Option<u64>, AllocError>
-        ensures { IfOk result (λ taken. IfSome taken (λ weight. TakesCodedToken (token_of token.entry) weight self.old entries.old self.new entries.new)) }
+        ensures { IfOk result (λ taken. IfSome taken (λ weight. TakesCodedToken date_form (token_of token.entry) weight self.old entries.old self.new entries.new)) }
     {
         if entries.has_texts() {
             return self.push_string(entries, token);
         }
         self.one.clear()?;
-        let Some(weight) = self.one.push_token(token)? else {
+        let Some(weight) = self.one.push_token(date_form, token)? else {
             return Ok(None);
         };
         if self.code(entries)? {
@@ -279,14 +322,15 @@ impl Coding {
 fn push_token(
     values: &mut ColumnValues,
     coding: &mut Option<Coding>,
+    date_form: DateForm,
     token: Token<'_>,
 ) -> Result<Option<u64>, AllocError>
     ensures { IfOk result (λ taken. IfSome taken (λ weight.
-        TakesCellToken (token_of token.entry) weight values.old coding.old values.new coding.new)) }
+        TakesCellToken date_form (token_of token.entry) weight values.old coding.old values.new coding.new)) }
 {
     match coding {
-        None => values.push_token(token),
-        Some(coding) => coding.push_token(values, token),
+        None => values.push_token(date_form, token),
+        Some(coding) => coding.push_token(values, date_form, token),
     }
 }
 
@@ -294,21 +338,29 @@ impl FlatBuilder {
     ghost use Rattle.text_columns.specs.inner.Lines.{KeepsToken};
 
     // Appends the cell of a token that is no null, and returns its weight; `None` if it is no cell of the column.
-    fn push_there(&mut self, token: Token<'_>) -> Result<Option<u64>, AllocError>
-        ensures { IfOk result (λ taken. IfSome taken (λ weight. KeepsToken (token_of token.entry) weight (Flat self.old) (Flat self.new))) }
+    fn push_there(
+        &mut self,
+        date_form: DateForm,
+        token: Token<'_>,
+    ) -> Result<Option<u64>, AllocError>
+        ensures { IfOk result (λ taken. IfSome taken (λ weight. KeepsToken date_form (token_of token.entry) weight (Flat self.old) (Flat self.new))) }
     {
-        let taken = push_token(&mut self.values, &mut self.coding, token)?;
+        let taken = push_token(&mut self.values, &mut self.coding, date_form, token)?;
         self.valid.push(true)?;
         Ok(taken)
     }
 
     /// Appends the cell that a token is, and returns its weight; `None` if it is no cell of the column.
-    pub(crate) fn push_token(&mut self, token: Token<'_>) -> Result<Option<u64>, AllocError>
-        ensures { IfOk result (λ taken. IfSome taken (λ weight. KeepsToken (token_of token.entry) weight (Flat self.old) (Flat self.new))) }
+    pub(crate) fn push_token(
+        &mut self,
+        date_form: DateForm,
+        token: Token<'_>,
+    ) -> Result<Option<u64>, AllocError>
+        ensures { IfOk result (λ taken. IfSome taken (λ weight. KeepsToken date_form (token_of token.entry) weight (Flat self.old) (Flat self.new))) }
     {
         match token {
             Token::Null => self.push_null(),
-            _ => self.push_there(token),
+            _ => self.push_there(date_form, token),
         }
     }
 }

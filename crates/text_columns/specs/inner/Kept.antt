@@ -30,8 +30,11 @@ use Rattle.text_columns.specs.declared.builder.ColumnBuilder.TheOpen as builders
 use Rattle.text_columns.specs.declared.builder.Names.{Names}
 use Rattle.text_columns.specs.declared.builder.ListOffsets.{ListOffsets}
 use Rattle.text_columns.specs.declared.builder.Slots.{Slots}
-use Rattle.civil_days.specs.declared.date_form.DateForm.TheVariants.{Numbers}
-use Rattle.text_import.specs.FieldForm.{with_numbers}
+use Rattle.civil_days.specs.Typed.{date_column, spelled_in}
+use Rattle.civil_days.specs.declared.date_column.DateColumn.{DateColumn}
+use Rattle.civil_days.specs.declared.date_form.DateForm.{DateForm}
+use Rattle.civil_days.specs.declared.date_form.DateForm.TheVariants.{Numbers, Iso}
+use Rattle.text_import.specs.FieldForm.{PlainFieldForm}
 
 -- the bytes of an integer that fits the type come after others
 abbrev pub AppendsInteger : (bits : ℕ) → (signed : Bool) → ℤ → List ℕ → List ℕ → Type 0
@@ -42,6 +45,22 @@ pub record AppendsSpelled (bits : ℕ) (signed : Bool) (text old new : List ℕ)
   pub spelled : ℤ
   pub read : number_cell (integers bits signed) (typed_integer text) ≡ Ok (number spelled)
   pub bytes : new ≡ old ++ integer_bytes (bits / 8) (number spelled)
+
+-- the number that the text of a date or a time states, of a type
+pub record AppendsStated (dated : DateColumn) (bits : ℕ) (signed : Bool) (text old new : List ℕ) : Type 0 where
+  pub stated : ℤ
+  pub read : spelled_in dated text ≡ Ok stated
+  pub appended : AppendsInteger bits signed stated old new
+
+-- the integer that a text is in a column: a number, or a date or a time
+abbrev pub AppendsRead : Option DateColumn → (bits : ℕ) → (signed : Bool) → (text old new : List ℕ) → Type 0
+AppendsRead None bits signed text old new = AppendsSpelled bits signed text old new
+AppendsRead (Some dated) bits signed text old new = AppendsStated dated bits signed text old new
+
+-- the dates that texts are in this form, of integers that count them
+abbrev pub dates_in : DateForm → Option DateColumn → Option DateColumn
+dates_in Numbers counted = None
+dates_in Iso counted = counted
 
 -- the boolean that a text spells
 pub record AppendsBoolean (text : List ℕ) (old new : List Bool) : Type 0 where
@@ -76,9 +95,10 @@ pub record AppendsFixed (width : ℕ) (digits : List ℕ) (weight : ℕ) (old ne
 abbrev pub IsOf : Kind → ColumnValues → Type 0
 IsOf nulls Nulls = Unit {0}
 IsOf booleans (Booleans bits) = Unit {0}
-IsOf (integers bits signed) (Integers integer bytes) = (bits_of integer.width ≡ bits) × (integer.signed ≡ signed)
-IsOf (dates unit) (Integers integer bytes) = (bits_of integer.width ≡ date_bits unit) × (integer.signed ≡ true)
-IsOf (timestamps unit timezone) (Integers integer bytes) = (bits_of integer.width ≡ 64) × (integer.signed ≡ true)
+IsOf (integers bits signed) (Integers integer counted bytes) = (bits_of integer.width ≡ bits) × (integer.signed ≡ signed) × (counted ≡ None)
+IsOf (dates unit) (Integers integer counted bytes) = (bits_of integer.width ≡ date_bits unit) × (integer.signed ≡ true) × (counted ≡ date_column (dates unit))
+IsOf (timestamps unit timezone) (Integers integer counted bytes) =
+    (bits_of integer.width ≡ 64) × (integer.signed ≡ true) × (counted ≡ date_column (timestamps unit timezone))
 IsOf texts (Texts width offsets contents) = width ≡ Four
 IsOf large_texts (Texts width offsets contents) = width ≡ Eight
 IsOf binaries (Binaries width offsets contents) = width ≡ Four
@@ -104,7 +124,7 @@ HoldContents width cells offsets contents = (offsets ≡ offsets_of (width_of wi
 abbrev pub Holds : ColumnValues → List Cell → Type 0
 Holds Nulls cells = Unit {0}
 Holds (Booleans bits) cells = bits.items ≡ map is_set cells
-Holds (Integers integer bytes) cells = bytes.items ≡ flat_map (integer_bytes (bits_of integer.width / 8)) cells
+Holds (Integers integer counted bytes) cells = bytes.items ≡ flat_map (integer_bytes (bits_of integer.width / 8)) cells
 Holds (Texts width offsets contents) cells = HoldContents width cells offsets.items contents.items
 Holds (Binaries width offsets contents) cells = HoldContents width cells offsets.items contents.items
 Holds (FixedBinaries width bytes) cells = bytes.items ≡ flat_map (fixed_bytes width) cells
@@ -119,19 +139,19 @@ abbrev pub TakesNull : ColumnValues → ColumnValues → Type 0
 TakesNull old new = (kind : Kind) (cells : List Cell) → Takes kind cells old → Takes kind (cells ++ null ∷ []) new
 
 -- the cell of a text comes after the cells of a type
-pub record HasTaken (kind : Kind) (text : List ℕ) (weight : ℕ) (cells : List Cell) (new : ColumnValues) : Type 0 where
+pub record HasTaken (date_form : DateForm) (kind : Kind) (text : List ℕ) (weight : ℕ) (cells : List Cell) (new : ColumnValues) : Type 0 where
   pub taken : Cell
-  pub read : cell_of_text Numbers kind text ≡ Ok taken
+  pub read : cell_of_text date_form kind text ≡ Ok taken
   pub there : is_there taken ≡ true
   pub weighs : kind_weight kind taken ≡ weight
   pub takes : Takes kind (cells ++ taken ∷ []) new
 
-abbrev pub TakesText : List ℕ → ℕ → ColumnValues → ColumnValues → Type 0
-TakesText text weight old new = (kind : Kind) (cells : List Cell) → Takes kind cells old → HasTaken kind text weight cells new
+abbrev pub TakesText : DateForm → List ℕ → ℕ → ColumnValues → ColumnValues → Type 0
+TakesText date_form text weight old new = (kind : Kind) (cells : List Cell) → Takes kind cells old → HasTaken date_form kind text weight cells new
 
 -- the cell of each text that spells the number, if a call returns a weight
-abbrev pub TakesSpelled : {E : Type 0} → ℤ → Result (Option ℕ) E → ColumnValues → ColumnValues → Type 0
-TakesSpelled n result old new = (text : List ℕ) → typed_integer text ≡ Some n → IfOk result (λ taken. IfSome taken (λ weight. TakesText text weight old new))
+abbrev pub TakesSpelled : {E : Type 0} → DateForm → ℤ → Result (Option ℕ) E → ColumnValues → ColumnValues → Type 0
+TakesSpelled date_form n result old new = (text : List ℕ) → typed_integer text ≡ Some n → IfOk result (λ taken. IfSome taken (λ weight. TakesText date_form text weight old new))
 
 -- ---- columns with a dictionary: entries are looked up by their bytes
 
@@ -148,7 +168,7 @@ first_key (b ∷ bits) = bit_key b
 abbrev pub value_bytes : ColumnValues → List ℕ
 value_bytes Nulls = []
 value_bytes (Booleans bits) = first_key bits.items
-value_bytes (Integers integer bytes) = bytes.items
+value_bytes (Integers integer counted bytes) = bytes.items
 value_bytes (Texts width offsets contents) = contents.items
 value_bytes (Binaries width offsets contents) = contents.items
 value_bytes (FixedBinaries width bytes) = bytes.items
@@ -236,13 +256,13 @@ abbrev pub TakesNullCell : ColumnValues → Option Coding → ColumnValues → O
 TakesNullCell old o new o2 =
     (dictionary : Option Index) (kind : Kind) (cells : List Cell) → HoldsCells dictionary kind cells old o → HoldsCells dictionary kind (cells ++ null ∷ []) new o2
 
-abbrev pub TakesCodedText : List ℕ → ℕ → Coding → ColumnValues → Coding → ColumnValues → Type 0
-TakesCodedText text weight old values new values2 =
-    (index : Index) (kind : Kind) (cells : List Cell) → IsCoded index kind cells values old → HasCell (Some index) kind (cell_of_text Numbers kind text) weight cells values2 (Some new)
+abbrev pub TakesCodedText : DateForm → List ℕ → ℕ → Coding → ColumnValues → Coding → ColumnValues → Type 0
+TakesCodedText date_form text weight old values new values2 =
+    (index : Index) (kind : Kind) (cells : List Cell) → IsCoded index kind cells values old → HasCell (Some index) kind (cell_of_text date_form kind text) weight cells values2 (Some new)
 
-abbrev pub TakesField : List ℕ → ℕ → ColumnValues → Option Coding → ColumnValues → Option Coding → Type 0
-TakesField text weight old o new o2 =
-    (dictionary : Option Index) (kind : Kind) (cells : List Cell) → HoldsCells dictionary kind cells old o → HasCell dictionary kind (cell_of_text Numbers kind text) weight cells new o2
+abbrev pub TakesField : DateForm → List ℕ → ℕ → ColumnValues → Option Coding → ColumnValues → Option Coding → Type 0
+TakesField date_form text weight old o new o2 =
+    (dictionary : Option Index) (kind : Kind) (cells : List Cell) → HoldsCells dictionary kind cells old o → HasCell dictionary kind (cell_of_text date_form kind text) weight cells new o2
 
 -- ---- columns with parts: their slots, and the cells below them
 
@@ -427,27 +447,27 @@ abbrev pub StartsBinaries : OffsetWidth → ColumnValues → Type 0
 StartsBinaries width values = (offsets : Vec ℕ) × (contents : Vec ℕ) × (values ≡ Binaries width offsets contents) × HoldContents width [] offsets.items contents.items
 
 -- the cell of a field comes after the cells of a column
-pub record HasKept (c : Column) (null_text text : List ℕ) (weight : ℕ) (cells : List Cell) (new : ColumnBuilder) : Type 0 where
+pub record HasKept (c : Column) (form : PlainFieldForm) (text : List ℕ) (weight : ℕ) (cells : List Cell) (new : ColumnBuilder) : Type 0 where
   pub kept : Cell
-  pub read : field_cell (with_numbers null_text) c text ≡ Ok kept
+  pub read : field_cell form c text ≡ Ok kept
   pub weighs : cell_weight c kept ≡ weight
   pub keeps : Keeps c (cells ++ kept ∷ []) new
 
-abbrev pub KeepsField : (null_text text : List ℕ) → ℕ → ColumnBuilder → ColumnBuilder → Type 0
-KeepsField null_text text weight old new = (c : Column) (cells : List Cell) → Keeps c cells old → HasKept c null_text text weight cells new
+abbrev pub KeepsField : (form : PlainFieldForm) (text : List ℕ) → ℕ → ColumnBuilder → ColumnBuilder → Type 0
+KeepsField form text weight old new = (c : Column) (cells : List Cell) → Keeps c cells old → HasKept c form text weight cells new
 
 -- ---- rows
 
 -- the cells of fields come after the rows
-pub record HasRow (cs : List Column) (null_text : List ℕ) (ts : List (List ℕ)) (weight : ℕ) (rows : List (List Cell)) (new : List ColumnBuilder) : Type 0 where
+pub record HasRow (cs : List Column) (form : PlainFieldForm) (ts : List (List ℕ)) (weight : ℕ) (rows : List (List Cell)) (new : List ColumnBuilder) : Type 0 where
   pub row : List Cell
-  pub read : field_cells (with_numbers null_text) cs ts ≡ Ok row
+  pub read : field_cells form cs ts ≡ Ok row
   pub weighs : 1 + parts_weight (columns_of cs) (cells_of row) ≡ weight
   pub keeps : KeepAll cs (rows ++ row ∷ []) new
 
-abbrev pub KeepsFields : (null_text : List ℕ) → List (List ℕ) → ℕ → List ColumnBuilder → List ColumnBuilder → Type 0
-KeepsFields null_text ts weight old new = (cs : List Column) (rows : List (List Cell)) → KeepAll cs rows old → HasRow cs null_text ts weight rows new
+abbrev pub KeepsFields : (form : PlainFieldForm) → List (List ℕ) → ℕ → List ColumnBuilder → List ColumnBuilder → Type 0
+KeepsFields form ts weight old new = (cs : List Column) (rows : List (List Cell)) → KeepAll cs rows old → HasRow cs form ts weight rows new
 
 -- there are as many fields as columns
-abbrev pub KeepsRecord : (null_text : List ℕ) → List (List ℕ) → ℕ → List ColumnBuilder → List ColumnBuilder → Type 0
-KeepsRecord null_text ts weight old new = (length ts ≡ length old) × KeepsFields null_text ts weight old new
+abbrev pub KeepsRecord : (form : PlainFieldForm) → List (List ℕ) → ℕ → List ColumnBuilder → List ColumnBuilder → Type 0
+KeepsRecord form ts weight old new = (length ts ≡ length old) × KeepsFields form ts weight old new

@@ -41,7 +41,7 @@ validity_in has valid = if has then validity_of_bits valid else []
 abbrev pub layout_of : ColumnValues → Layout
 layout_of Nulls = null_layout
 layout_of (Booleans bits) = bit_layout (packed bits.items)
-layout_of (Integers integer bytes) = fixed_layout bytes.items
+layout_of (Integers integer counted bytes) = fixed_layout bytes.items
 layout_of (Texts width offsets contents) = binary_layout offsets.items contents.items
 layout_of (Binaries width offsets contents) = binary_layout offsets.items contents.items
 layout_of (FixedBinaries width bytes) = fixed_layout bytes.items

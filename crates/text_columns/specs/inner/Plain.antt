@@ -15,6 +15,7 @@ use Rattle.text_columns.specs.declared.plain.PlainField.{PlainField}
 use Rattle.text_columns.specs.declared.plain.PlainRow.{PlainRow}
 use Rattle.text_columns.specs.declared.short_integers.ShortInteger.{ShortInteger}
 use Rattle.text_columns.specs.inner.Kept.{KeepsField, KeepsRecord}
+use Rattle.text_import.specs.FieldForm.{PlainFieldForm}
 
 abbrev pub ends_line : ℕ → Bool
 ends_line b = (b == 13) || (b == 10)
@@ -69,10 +70,10 @@ pub record IsTextAt (text : List ℕ) (from : ℕ) (t : TextField) : Type 0 wher
   pub ascii : t.bits < 128 → is_utf8 (take (t.end - from) (drop from text)) ≡ true
 
 -- a field without quotes, whose cell came after those of a column
-pub record PushesField (text null_text : List ℕ) (from : ℕ) (f : PlainField) (old new : ColumnBuilder) : Type 0 where
+pub record PushesField (text : List ℕ) (form : PlainFieldForm) (from : ℕ) (f : PlainField) (old new : ColumnBuilder) : Type 0 where
   pub field : IsFieldAt text from f.end
   pub unquoted : begins_quoted (drop from text) ≡ false
-  pub keeps : KeepsField null_text (take (f.end - from) (drop from text)) f.weight old new
+  pub keeps : KeepsField form (take (f.end - from) (drop from text)) f.weight old new
 
 -- line ends from a place up to another
 pub record SkipsEnds (text : List ℕ) (from next : ℕ) : Type 0 where
@@ -95,10 +96,10 @@ abbrev pub IsFresh : State → Type 0
 IsFresh s = (xs : List ℕ) → next_record default_config s [] [] xs ≡ next_record default_config st.StartRecord [] [] xs
 
 -- a record that was read from a place of a text, and whose cells came after the rows
-pub record PushesPlain (text null_text : List ℕ) (from : ℕ) (row : PlainRow) (old new : List ColumnBuilder) : Type 0 where
+pub record PushesPlain (text : List ℕ) (form : PlainFieldForm) (from : ℕ) (row : PlainRow) (old new : List ColumnBuilder) : Type 0 where
   pub fields : List (List ℕ)
   pub state : State
   pub read : next_record default_config st.StartField [] [] (drop from text) ≡ Some (fields, state, drop row.next text)
   pub fresh : IsFresh state
   pub within : row.next ≤ length text
-  pub keeps : KeepsRecord null_text fields row.weight old new
+  pub keeps : KeepsRecord form fields row.weight old new

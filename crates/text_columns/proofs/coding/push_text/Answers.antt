@@ -7,12 +7,12 @@ use Rattle.text_columns.proofs.coding.push_text.Goals as goal
 
 pub returns-in-None : goal.returns-in-None
 returns-in-None c =
-    subst (λ (o : Option Coding). IfOk c.push_text.result (λ taken. IfSome taken (λ weight. TakesField c.args.text.now weight c.args.values.now o c.push_text.new.self o))) (sym c.in-None.is)
-    (plain_text_step c.args.text.now c.args.values.now c.push_text.new.self c.push_text.result c.push_text.ensures)
+    subst (λ (o : Option Coding). IfOk c.push_text.result (λ taken. IfSome taken (λ weight. TakesField c.args.date_form c.args.text.now weight c.args.values.now o c.push_text.new.self o))) (sym c.in-None.is)
+    (plain_text_step c.args.date_form c.args.text.now c.args.values.now c.push_text.new.self c.push_text.result c.push_text.ensures)
 
 pub returns-in-Some : goal.returns-in-Some
 returns-in-Some c =
     let new : Coding = c.push_text-in-Some.new.self in
-    subst (λ (o : Option Coding). IfOk c.push_text-in-Some.result (λ taken. IfSome taken (λ weight. TakesField c.args.text.now weight c.args.values.now o c.push_text-in-Some.new.entries (Some new))))
+    subst (λ (o : Option Coding). IfOk c.push_text-in-Some.result (λ taken. IfSome taken (λ weight. TakesField c.args.date_form c.args.text.now weight c.args.values.now o c.push_text-in-Some.new.entries (Some new))))
     (sym c.in-Some.is)
-    (coded_text_step c.args.text.now c.in-Some.coding new c.args.values.now c.push_text-in-Some.new.entries c.push_text-in-Some.result c.push_text-in-Some.ensures)
+    (coded_text_step c.args.date_form c.args.text.now c.in-Some.coding new c.args.values.now c.push_text-in-Some.new.entries c.push_text-in-Some.result c.push_text-in-Some.ensures)

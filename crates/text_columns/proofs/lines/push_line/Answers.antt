@@ -10,4 +10,4 @@ pub returns-clause-kept : goal.returns-clause-kept
 returns-clause-kept c =
     let line = c.args.line.now in
     let text : Some line ≡ text_where_utf8 line = rw (is_utf8-from_IsUtf8 line c.utf8.line) refl in
-    line_step (key_list c.args.names.now.keys) line line c.args.builders.now c.push_value.new.builders c.push_value.result text (rw c.in_ok-reader.ensures at c.push_value.ensures.kept)
+    line_step c.args.date_form (key_list c.args.names.now.keys) line line c.args.builders.now c.push_value.new.builders c.push_value.result text (rw c.in_ok-reader.ensures at c.push_value.ensures.kept)

@@ -13,7 +13,7 @@ abbrev pub invariant-loop-left : goal.invariant-loop-left
 invariant-loop-left l = record {
   few : l.weight ≤ 268435456;
   read : names_of (columns_of (schema_of l.schema).columns) ≡ key_list l.names.keys → HoldRows (schema_of l.schema) [] l.initial.batches
-      → LinesRead (schema_of l.schema) (slice_split (λ b. b == 10) l.text) (lines_left l.left) l.weight l.batches;
+      → LinesRead l.date_form (schema_of l.schema) (slice_split (λ b. b == 10) l.text) (lines_left l.left) l.weight l.batches;
 }
 
 abbrev pub decreases-loop-left : goal.decreases-loop-left

@@ -9,7 +9,7 @@ returns-in_ok-append_bits-in-Booleans c =
 pub returns-in_ok-append-in-Integers : goal.returns-in_ok-append-in-Integers
 returns-in_ok-append-in-Integers c =
     rw c.in-Integers.is
-    (values_laid c.in-Integers.field-0 c.in-Integers.values c.args.bytes.now.items c.append.new.bytes.items c.in_ok-append-in-Integers.field-0
+    (values_laid c.in-Integers.field-0 c.in-Integers.field-1 c.in-Integers.values c.args.bytes.now.items c.append.new.bytes.items c.in_ok-append-in-Integers.field-0
     (rw c.deref-in-Integers.ensures.value at c.in_ok-append-in-Integers.ensures))
 
 pub returns-in_ok-contents-in-Texts : goal.returns-in_ok-contents-in-Texts

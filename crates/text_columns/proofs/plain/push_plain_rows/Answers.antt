@@ -2,13 +2,14 @@ use Rattle.std.proofs.Common.{◌<◌, length, arith}
 use Rattle.arrow_schema.specs.View.{schema_of}
 use Rattle.text_columns.proofs.PlainRows.{InText, ends_passed, next_stands, text_ended}
 use Rattle.text_columns.proofs.Rows.{read_more, read_none, read_rows, read_same}
+use Rattle.text_import.specs.FieldForm.{field_form}
 use Rattle.text_columns.proofs.plain.push_plain_rows.Goals as goal
 
 pub loop-rows-init : goal.loop-rows-init
 loop-rows-init c = record {
   few = omega arith;
   within = c.requires;
-  read = λ records stands holds. read_none (InText c.args.text.now c.args.from) (schema_of c.args.schema.now) c.args.null_text.now records c.args.batches.now stands holds;
+  read = λ records stands holds. read_none (InText c.args.text.now c.args.from) (schema_of c.args.schema.now) (field_form c.args.form.now) records c.args.batches.now stands holds;
 }
 
 pub loop-rows-preserved : goal.loop-rows-preserved
@@ -28,10 +29,10 @@ loop-rows-preserved c =
       few = omega (arith, c.loop-rows.invariant.few, c.if-row-weight.false);
       within = pushed.within;
       read = λ records stands holds.
-          let h = read_same (InText text c.loop-rows.at) s c.args.null_text.now records c.loop-rows.rows c.loop-rows.weight c.loop-rows.batches roomy same (c.loop-rows.invariant.read records stands holds) in
+          let h = read_same (InText text c.loop-rows.at) s (field_form c.args.form.now) records c.loop-rows.rows c.loop-rows.weight c.loop-rows.batches roomy same (c.loop-rows.invariant.read records stands holds) in
           let left = ends_passed text c.loop-rows.at start h.left c.skip_ends-start.ensures h.stands in
-          let (others, whole, more) = next_stands text c.args.null_text.now start row roomy.builders.items new.builders.items h.left pushed inside (c.skip_ends-start.ensures.stops inside) left in
-          read_more (InText text c.loop-rows.at) (InText text row.next) s c.args.null_text.now records others c.loop-rows.rows c.loop-rows.weight row.weight roomy new pushed.fields h whole more light pushed.keeps adds;
+          let (others, whole, more) = next_stands text (field_form c.args.form.now) start row roomy.builders.items new.builders.items h.left pushed inside (c.skip_ends-start.ensures.stops inside) left in
+          read_more (InText text c.loop-rows.at) (InText text row.next) s (field_form c.args.form.now) records others c.loop-rows.rows c.loop-rows.weight row.weight roomy new pushed.fields h whole more light pushed.keeps adds;
     }
 
 pub returns-then-start-text : goal.returns-then-start-text
@@ -41,4 +42,4 @@ returns-then-start-text c =
     let start = c.skip_ends-start.result in
     let h = c.loop-rows.invariant.read records stands holds in
     let none = text_ended text start h.left c.if-start-text.true (ends_passed text c.loop-rows.at start h.left c.skip_ends-start.ensures h.stands) in
-    read_rows (InText text c.loop-rows.at) (schema_of c.args.schema.now) c.args.null_text.now records c.loop-rows.rows c.loop-rows.weight c.loop-rows.batches h none c.loop-rows.invariant.few
+    read_rows (InText text c.loop-rows.at) (schema_of c.args.schema.now) (field_form c.args.form.now) records c.loop-rows.rows c.loop-rows.weight c.loop-rows.batches h none c.loop-rows.invariant.few

@@ -3,10 +3,11 @@ use Rattle.std.specs.Prelude.{Some, slice_get}
 use Rattle.std.proofs.lemmas.Option.{slice_get-get_or}
 use Rattle.csv.specs.Records.{fields_of}
 use Rattle.text_columns.proofs.Rows.{half_all, half_more, half_none}
+use Rattle.text_import.specs.FieldForm.{field_form}
 use Rattle.text_columns.proofs.records.push_fields.Goals as goal
 
 pub loop-i-init : goal.loop-i-init
-loop-i-init c = record { some = omega arith; few = omega arith; half = λ cs rows keeps. half_none cs c.args.null_text.now (fields_of c.args.row.now) rows c.args.builders.now keeps }
+loop-i-init c = record { some = omega arith; few = omega arith; half = λ cs rows keeps. half_none cs (field_form c.args.form.now) (fields_of c.args.row.now) rows c.args.builders.now keeps }
 
 pub loop-i-preserved : goal.loop-i-preserved
 loop-i-preserved c =
@@ -23,11 +24,11 @@ loop-i-preserved c =
       some = omega (arith, c.loop-i.invariant.some);
       few = omega (arith, c.loop-i.invariant.few, c.if-cell_weight-weight.false);
       half = λ cs rows keeps.
-          half_more cs c.args.null_text.now ts rows i c.loop-i.weight c.in-Some.cell_weight bs old c.push_field.new.self c.record_field.result.now here text taken (c.loop-i.invariant.half cs rows keeps);
+          half_more cs (field_form c.args.form.now) ts rows i c.loop-i.weight c.in-Some.cell_weight bs old c.push_field.new.self c.record_field.result.now here text taken (c.loop-i.invariant.half cs rows keeps);
     }
 
 pub returns-clause-kept : goal.returns-clause-kept
 returns-clause-kept c =
     λ cs rows keeps.
-    half_all cs c.args.null_text.now (fields_of c.args.row.now) rows c.loop-i.i c.loop-i.weight c.loop-i.builders (omega (arith, c.loop-i-test.false, c.loop-i.auto.builders))
+    half_all cs (field_form c.args.form.now) (fields_of c.args.row.now) rows c.loop-i.i c.loop-i.weight c.loop-i.builders (omega (arith, c.loop-i-test.false, c.loop-i.auto.builders))
     (c.loop-i.invariant.half cs rows keeps)

@@ -8,5 +8,5 @@ use Rattle.text_columns.proofs.column_values.ColumnValues.push_short.Goals as go
 
 pub returns-in-Integers : goal.returns-in-Integers
 returns-in-Integers c = λ text is.
-    subst (λ (v : ColumnValues). IfOk c.push_short.result (λ taken. IfSome taken (λ weight. TakesText text weight v (Integers c.in-Integers.integer c.push_short.new.values)))) (sym c.in-Integers.is)
-    (integer_step c.in-Integers.integer text c.in-Integers.values c.push_short.new.values c.push_short.result (c.push_short.ensures text is))
+    subst (λ (v : ColumnValues). IfOk c.push_number.result (λ taken. IfSome taken (λ weight. TakesText c.args.date_form text weight v (Integers c.in-Integers.integer c.in-Integers.counted c.push_number.new.values)))) (sym c.in-Integers.is)
+    (integer_step c.args.date_form c.in-Integers.integer c.in-Integers.counted text c.in-Integers.values c.push_number.new.values c.push_number.result (rw c.dates_in.ensures at (c.push_number.ensures text is)))

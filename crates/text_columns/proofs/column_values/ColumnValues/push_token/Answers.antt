@@ -9,27 +9,27 @@ use Rattle.text_columns.proofs.column_values.ColumnValues.push_token.Goals as go
 
 pub returns-in-Booleans : goal.returns-in-Booleans
 returns-in-Booleans c =
-    subst (λ (v : ColumnValues). IfOk c.push_boolean.result (λ taken. IfSome taken (λ weight. TakesToken (token_of c.args.token) weight v (Booleans c.push_boolean.new.bits)))) (sym c.in-Booleans.is)
-    (bit_step (token_of c.args.token) c.in-Booleans.bits c.push_boolean.new.bits c.push_boolean.result c.push_boolean.ensures)
+    subst (λ (v : ColumnValues). IfOk c.push_boolean.result (λ taken. IfSome taken (λ weight. TakesToken c.args.date_form (token_of c.args.token) weight v (Booleans c.push_boolean.new.bits)))) (sym c.in-Booleans.is)
+    (bit_step c.args.date_form (token_of c.args.token) c.in-Booleans.bits c.push_boolean.new.bits c.push_boolean.result c.push_boolean.ensures)
 
 pub returns-in-Integers : goal.returns-in-Integers
 returns-in-Integers c =
-    subst (λ (v : ColumnValues). IfOk c.push_integer.result (λ taken. IfSome taken (λ weight. TakesToken (token_of c.args.token) weight v (Integers c.in-Integers.integer c.push_integer.new.values)))) (sym c.in-Integers.is)
-    (number_step c.in-Integers.integer (token_of c.args.token) c.in-Integers.values c.push_integer.new.values c.push_integer.result c.push_integer.ensures)
+    subst (λ (v : ColumnValues). IfOk c.push_integer.result (λ taken. IfSome taken (λ weight. TakesToken c.args.date_form (token_of c.args.token) weight v (Integers c.in-Integers.integer c.in-Integers.counted c.push_integer.new.values)))) (sym c.in-Integers.is)
+    (number_step c.args.date_form c.in-Integers.integer c.in-Integers.counted (token_of c.args.token) c.in-Integers.values c.push_integer.new.values c.push_integer.result (rw c.dates_in.ensures at c.push_integer.ensures))
 
 pub returns-in-Texts : goal.returns-in-Texts
 returns-in-Texts c =
-    subst (λ (v : ColumnValues). IfOk c.push_text.result (λ taken. IfSome taken (λ weight. TakesToken (token_of c.args.token) weight v (Texts c.in-Texts.width c.push_text.new.offsets c.push_text.new.contents)))) (sym c.in-Texts.is)
-    (string_step c.in-Texts.width (token_of c.args.token) c.in-Texts.offsets c.in-Texts.contents c.push_text.new.offsets c.push_text.new.contents c.push_text.result c.push_text.ensures)
+    subst (λ (v : ColumnValues). IfOk c.push_text.result (λ taken. IfSome taken (λ weight. TakesToken c.args.date_form (token_of c.args.token) weight v (Texts c.in-Texts.width c.push_text.new.offsets c.push_text.new.contents)))) (sym c.in-Texts.is)
+    (string_step c.args.date_form c.in-Texts.width (token_of c.args.token) c.in-Texts.offsets c.in-Texts.contents c.push_text.new.offsets c.push_text.new.contents c.push_text.result c.push_text.ensures)
 
 pub returns-in-Binaries : goal.returns-in-Binaries
 returns-in-Binaries c =
-    subst (λ (v : ColumnValues). IfOk c.push_binary.result (λ taken. IfSome taken (λ weight. TakesToken (token_of c.args.token) weight v (Binaries c.in-Binaries.width c.push_binary.new.offsets c.push_binary.new.contents))))
+    subst (λ (v : ColumnValues). IfOk c.push_binary.result (λ taken. IfSome taken (λ weight. TakesToken c.args.date_form (token_of c.args.token) weight v (Binaries c.in-Binaries.width c.push_binary.new.offsets c.push_binary.new.contents))))
     (sym c.in-Binaries.is)
-    (binary_step c.in-Binaries.width (token_of c.args.token) c.in-Binaries.offsets c.in-Binaries.contents c.push_binary.new.offsets c.push_binary.new.contents c.push_binary.result c.push_binary.ensures)
+    (binary_step c.args.date_form c.in-Binaries.width (token_of c.args.token) c.in-Binaries.offsets c.in-Binaries.contents c.push_binary.new.offsets c.push_binary.new.contents c.push_binary.result c.push_binary.ensures)
 
 pub returns-in-FixedBinaries : goal.returns-in-FixedBinaries
 returns-in-FixedBinaries c =
-    subst (λ (v : ColumnValues). IfOk c.push_fixed_binary.result (λ taken. IfSome taken (λ weight. TakesToken (token_of c.args.token) weight v (FixedBinaries c.in-FixedBinaries.width c.push_fixed_binary.new.values))))
+    subst (λ (v : ColumnValues). IfOk c.push_fixed_binary.result (λ taken. IfSome taken (λ weight. TakesToken c.args.date_form (token_of c.args.token) weight v (FixedBinaries c.in-FixedBinaries.width c.push_fixed_binary.new.values))))
     (sym c.in-FixedBinaries.is)
-    (fixed_binary_step c.in-FixedBinaries.width (token_of c.args.token) c.in-FixedBinaries.values c.push_fixed_binary.new.values c.push_fixed_binary.result c.push_fixed_binary.ensures)
+    (fixed_binary_step c.args.date_form c.in-FixedBinaries.width (token_of c.args.token) c.in-FixedBinaries.values c.push_fixed_binary.new.values c.push_fixed_binary.result c.push_fixed_binary.ensures)

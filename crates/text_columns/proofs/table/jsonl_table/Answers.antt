@@ -5,32 +5,31 @@ use Rattle.cells.specs.Weight.{table_weight}
 use Rattle.text_import.specs.Objects.{jsonl_rows_of}
 use Rattle.values.specs.TableView.{table_of}
 use Rattle.text_columns.proofs.Tables.{makes_rows, table_told}
-use Rattle.text_columns.proofs.table.jsonl_numbers.Goals as goal
-use Rattle.civil_days.specs.declared.date_form.DateForm.TheVariants.{Numbers}
+use Rattle.text_columns.proofs.table.jsonl_table.Goals as goal
 
 pub build_table-requires : goal.build_table-requires
 build_table-requires c =
     let s = schema_of c.args.schema.now in
-    let stated = jsonl_rows_of Numbers s c.args.text.now in
+    let stated = jsonl_rows_of c.args.date_form s c.args.text.now in
     let read = rw c.in-Some.is at c.in_ok-read.ensures in
-    makes_rows s stated c.in-Some.read.weight c.in-Some.read.batches c.requires (c.rows_of_texts_are_rows.ensures.jsonl Numbers s c.args.text.now) read
+    makes_rows s stated c.in-Some.read.weight c.in-Some.read.batches c.requires (c.rows_of_texts_are_rows.ensures.jsonl c.args.date_form s c.args.text.now) read
 
 pub returns : goal.returns
 returns c =
     let s = schema_of c.args.schema.now in
-    let stated = jsonl_rows_of Numbers s c.args.text.now in
+    let stated = jsonl_rows_of c.args.date_form s c.args.text.now in
     let read = rw c.in-Some.is at c.in_ok-read.ensures in
     let told =
-    table_told s stated c.in-Some.read.weight c.in-Some.read.batches (table_of c.in_ok-table.table) c.requires (c.rows_of_texts_are_rows.ensures.jsonl Numbers s c.args.text.now) read
+    table_told s stated c.in-Some.read.weight c.in-Some.read.batches (table_of c.in_ok-table.table) c.requires (c.rows_of_texts_are_rows.ensures.jsonl c.args.date_form s c.args.text.now) read
     c.in_ok-table.ensures.rows in
     record { read = told.read; schema = told.schema; weight = told.weighs; in_parts = c.in_ok-table.ensures.in_parts }
 
 pub invariant_of-result : goal.invariant_of-result
 invariant_of-result c =
     let s = schema_of c.args.schema.now in
-    let stated = jsonl_rows_of Numbers s c.args.text.now in
+    let stated = jsonl_rows_of c.args.date_form s c.args.text.now in
     let read = rw c.in-Some.is at c.in_ok-read.ensures in
     let told =
-    table_told s stated c.in-Some.read.weight c.in-Some.read.batches (table_of c.in_ok-table.table) c.requires (c.rows_of_texts_are_rows.ensures.jsonl Numbers s c.args.text.now) read
+    table_told s stated c.in-Some.read.weight c.in-Some.read.batches (table_of c.in_ok-table.table) c.requires (c.rows_of_texts_are_rows.ensures.jsonl c.args.date_form s c.args.text.now) read
     c.in_ok-table.ensures.rows in
     record { weighs = told.weighs ∙ sym (ap (λ (t : PlainSchema). table_weight t (table_of c.in_ok-table.table).rows) told.schema) }
