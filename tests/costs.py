@@ -484,7 +484,7 @@ def of_laid():
     yield from of_many("segments", laid_segments, 500, 2_000)
     yield from of_many("tables", laid_tables, 250, 1_000)
     yield "copy-2-segments", growing(copying_laid(laid_segments), 500)
-    yield "apply_to_a_table-2-lines", growing(applying(lambda number: "t"), 200)
+    yield "apply_to_a_table-2-lines", growing(applying(lambda number: "t"), 2_000)
     yield "apply_to_each_table-2-lines", growing(applying(lambda number: f"t{number:04}"), 100)
     yield "tables_by_turns-2-segments", growing(on_laid(laid_by_turns, "tables"), 2_000)
     yield "compact-2-tables", growing(on_laid(laid_tables, "compact"), 1_000)

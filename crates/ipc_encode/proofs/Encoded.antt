@@ -3,14 +3,14 @@ use Rattle.std.specs.Prelude.{Bool, ◌/◌, ◌&&◌, not, nat_le, Some, None}
 use Rattle.std.specs.List.{flat_map, list_all, range_with_len}
 use Rattle.std.proofs.Common.{◌≡◌, ℕ, ◌*◌, List, map, refl, sym, ap, ◌∙◌}
 use Rattle.arrow_schema.specs.Column.{Kind, Column, Columns, columns_of, PlainSchema, lists, large_lists, fixed_lists, structs, column, no_column, and_column}
-use Rattle.cells.specs.Cell.{Cell, Cells, PlainTable, items, parts, no_cell, and_cell, cells_of, cell_list}
-use Rattle.columns.specs.Array.{Array, Arrays, slots_in, items_in, children_in, indices_in, dictionary_in, array_list, first_array, other_arrays}
-use Rattle.columns.specs.CellAt.{cell_at, kind_cell, part_cells, cells_from, span_cells, unless_null, entries_by, entry_at, index_at, rows_in}
+use Rattle.cells.specs.Cell.{PlainTable, items, parts, and_cell, cells_of, cell_list}
+use Rattle.columns.specs.Array.{Array, slots_in, items_in, children_in, indices_in, dictionary_in, array_list, first_array, other_arrays}
+use Rattle.columns.specs.CellAt.{cell_at, kind_cell, part_cells, cells_from, span_cells, unless_null, entries_by, entry_at, index_at}
 use Rattle.columns.specs.Sound.{is_sound, has_sound_children, are_sound, is_sound_by}
 use Rattle.columns.specs.Tests.{are_few, has_short_validity}
 use Rattle.values.specs.declared.table_part.Batch.{Batch}
 use Rattle.values.specs.declared.table_part.TablePart.{TablePart}
-use Rattle.values.specs.Parts.{arrays_with, batch_rows, part_rows, parts_rows, parts_table, is_batch_sound, are_parts_sound}
+use Rattle.values.specs.Parts.{arrays_with, parts_rows, parts_table, are_parts_sound}
 use Rattle.ipc_encode.specs.inner.Encoding.{encoding, encodings, kind_encoding}
 
 -- ---- cells

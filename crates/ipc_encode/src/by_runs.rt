@@ -211,13 +211,15 @@ fn push_left<'k, 'a: 'k>(
     Ok(())
 }
 
-/// Encodes the pieces of the rows of record batches as a stream each.
+/// Encodes the pieces of the rows of record batches as a stream each, behind the message of the schema.
 pub(crate) fn encode_parts_pieces<'a>(
     alloc: Global,
+    message: Vec<u8>,
     schema: &Schema,
     parts: &'a [TablePart],
     rows: usize,
 ) -> Result<EncodedPieces<'a>, AllocError>
+    requires message { message.items ≡ schema_message (schema_of schema.now) }
     requires table { IsTable (parts_table (schema_of schema.now) parts.now) }
     requires sound { are_parts_sound (columns_of (schema_of schema.now).columns) parts.now ≡ true }
     requires count { rows ≡ length (parts_rows (columns_of (schema_of schema.now).columns) parts.now) }
@@ -225,7 +227,7 @@ pub(crate) fn encode_parts_pieces<'a>(
     ensures rows { IfOk result (λ pieces. pieces.rows.items ≡ piece_counts (parts_table (schema_of schema.now) parts.now)) }
     ensures short { IfOk result (λ pieces. AllByRecursion (λ stream. length stream < 2 ^ 64) (streams_in pieces)) }
 {
-    let mut pieces = no_pieces(alloc, schema)?;
+    let mut pieces = no_pieces(alloc, message);
     let before = pieces.schema_message.len();
     let mut left = RowsLeft::new(alloc, parts)?;
     push_left(

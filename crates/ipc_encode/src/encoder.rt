@@ -1,7 +1,6 @@
 // Encodes a table as one stream, and its pieces as a stream each.
 ghost use Rattle.std.specs.Prelude.{◌≡◌, ◌<◌, ◌^◌, ◌∷◌, ◌++◌, [], true, IfOk, OnOk, length, map};
 ghost use Rattle.std.specs.List.{AllByRecursion};
-ghost use Rattle.arrow_schema.specs.Limits.{IsWithinLimits};
 ghost use Rattle.arrow_schema.specs.View.{schema_of};
 ghost use Rattle.ipc_canonical.specs.Canonical.{canonical, rows_messages};
 ghost use Rattle.ipc_canonical.specs.Pieces.{IsPieceOf};
@@ -37,18 +36,17 @@ pub struct EncodedPieces<'a> {
     pub rows: Vec<u64>,
 }
 
-/// Makes a list of no pieces.
-pub(crate) fn no_pieces<'a>(alloc: Global, schema: &Schema) -> Result<EncodedPieces<'a>, AllocError>
-    requires { IsWithinLimits (schema_of schema.now) }
-    ensures message { IfOk result (λ pieces. pieces.schema_message.items ≡ schema_message (schema_of schema.now)) }
-    ensures none { IfOk result (λ pieces. pieces.parts.items ≡ []) }
-    ensures uncounted { IfOk result (λ pieces. pieces.rows.items ≡ []) }
+/// Makes a list of no pieces behind a message.
+pub(crate) fn no_pieces<'a>(alloc: Global, message: Vec<u8>) -> EncodedPieces<'a>
+    ensures message { result.schema_message.items ≡ message.items }
+    ensures none { result.parts.items ≡ [] }
+    ensures uncounted { result.rows.items ≡ [] }
 {
-    Ok(EncodedPieces {
-        schema_message: encode_schema(alloc, schema)?,
+    EncodedPieces {
+        schema_message: message,
         parts: Vec::new(alloc),
         rows: Vec::new(alloc),
-    })
+    }
 }
 
 // Writes the messages of the rows of a table, under a schema. The caller owns the front that is kept for the next piece, so that no iteration does.
@@ -203,21 +201,47 @@ fn push_table<'a>(
     Ok(())
 }
 
-// Encodes the pieces of rows that are borrowed one by one as a stream each.
+// Encodes the pieces of rows that are borrowed one by one as a stream each, behind the message of the schema.
 fn encode_rows_pieces<'a>(
     alloc: Global,
+    message: Vec<u8>,
     schema: &Schema,
     table: &Table,
 ) -> Result<EncodedPieces<'a>, AllocError>
-    requires { IsTable (with_schema (schema_of schema.now) (table_of table.now)) }
+    requires table { IsTable (with_schema (schema_of schema.now) (table_of table.now)) }
+    requires message { message.items ≡ schema_message (schema_of schema.now) }
     ensures streams { IfOk result (λ pieces. streams_in pieces ≡ piece_streams (with_schema (schema_of schema.now) (table_of table.now))) }
     ensures rows { IfOk result (λ pieces. pieces.rows.items ≡ piece_counts (with_schema (schema_of schema.now) (table_of table.now))) }
     ensures short { IfOk result (λ pieces. AllByRecursion (λ stream. length stream < 2 ^ 64) (streams_in pieces)) }
 {
-    let mut pieces = no_pieces(alloc, schema)?;
+    let mut pieces = no_pieces(alloc, message);
     let before = pieces.schema_message.len();
     push_table(alloc, schema, before, table, &mut None, &mut pieces)?;
     Ok(pieces)
+}
+
+/// Encodes the same pieces as [`encode_pieces`], behind the message of the schema, which the caller has.
+///
+/// # Errors
+/// `AllocError` if memory is refused. The message is freed.
+pub fn encode_pieces_behind<'a>(
+    alloc: Global,
+    message: Vec<u8>,
+    schema: &Schema,
+    table: &'a Table,
+) -> Result<EncodedPieces<'a>, AllocError>
+    requires table { IsTable (with_schema (schema_of schema.now) (table_of table.now)) }
+    requires message { message.items ≡ schema_message (schema_of schema.now) }
+    ensures streams { IfOk result (λ pieces. streams_in pieces ≡ piece_streams (with_schema (schema_of schema.now) (table_of table.now))) }
+    ensures rows { IfOk result (λ pieces. pieces.rows.items ≡ piece_counts (with_schema (schema_of schema.now) (table_of table.now))) }
+    ensures short { IfOk result (λ pieces. AllByRecursion (λ stream. length stream < 2 ^ 64) (streams_in pieces)) }
+{
+    if let Some(parts) = table.parts() {
+        if have_same_encodings(&schema.fields, &table.schema().fields) {
+            return encode_parts_pieces(alloc, message, schema, parts, table.len());
+        }
+    }
+    encode_rows_pieces(alloc, message, schema, table)
 }
 
 /// Encodes the pieces of the rows of a table of any types, under a schema, each as a stream of its own. Under the table's own schema they are cut
@@ -241,12 +265,8 @@ pub fn encode_pieces<'a>(
     ensures rows { IfOk result (λ pieces. pieces.rows.items ≡ piece_counts (with_schema (schema_of schema.now) (table_of table.now))) }
     ensures short { IfOk result (λ pieces. AllByRecursion (λ stream. length stream < 2 ^ 64) (streams_in pieces)) }
 {
-    if let Some(parts) = table.parts() {
-        if have_same_encodings(&schema.fields, &table.schema().fields) {
-            return encode_parts_pieces(alloc, schema, parts, table.len());
-        }
-    }
-    encode_rows_pieces(alloc, schema, table)
+    let message = encode_schema(alloc, schema)?;
+    encode_pieces_behind(alloc, message, schema, table)
 }
 
 /// Encodes the pieces of the rows of a table of any types under its own schema, as [`encode_pieces`] does.

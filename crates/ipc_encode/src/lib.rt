@@ -22,6 +22,8 @@ mod stream;
 mod writing;
 
 pub use by_runs::encode_runs;
-pub use encoder::{EncodedPieces, encode, encode_messages, encode_own_pieces, encode_pieces};
+pub use encoder::{
+    EncodedPieces, encode, encode_messages, encode_own_pieces, encode_pieces, encode_pieces_behind,
+};
 pub use laws::pieces_are_tables;
 pub use writing::{WriteError, encode_to};

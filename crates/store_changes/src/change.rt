@@ -6,10 +6,11 @@ ghost use Rattle.store_changes.specs.Picked.{streams_at};
 ghost use Rattle.store_changes.specs.Under.{table_under};
 ghost use Rattle.values.specs.Table.{IsTable};
 
+use crate::kept_message::{KeptMessage, keep_message};
 use arrow_schema::Schema;
 use batch_build::Buffer;
 use catalogue::Catalogue;
-use ipc_encode::{EncodedPieces, encode_own_pieces, encode_pieces};
+use ipc_encode::{EncodedPieces, encode_own_pieces, encode_pieces_behind};
 use segments::Run;
 use std::alloc::{AllocError, Global};
 use values::Table;
@@ -92,14 +93,21 @@ impl SegmentRows {
     ghost use Rattle.ipc_canonical.specs.PieceStreams.{piece_streams, piece_counts};
     ghost use Rattle.store_changes.specs.Change.{rows_table};
 
-    // Encodes the pieces of the rows.
-    fn pieces(&self, alloc: Global) -> Result<EncodedPieces<'_>, AllocError>
+    // Encodes the pieces of the rows. The message of a schema that is given is kept.
+    fn pieces(
+        &self,
+        alloc: Global,
+        kept: &mut Option<KeptMessage>,
+    ) -> Result<EncodedPieces<'_>, AllocError>
         ensures streams { IfOk result (λ pieces. streams_in pieces ≡ piece_streams (rows_table self.now)) }
         ensures counts { IfOk result (λ pieces. pieces.rows.items ≡ piece_counts (rows_table self.now)) }
         ensures short { IfOk result (λ pieces. AreShort (streams_in pieces)) }
     {
         match &self.schema {
-            Some(schema) => encode_pieces(alloc, schema, &self.table),
+            Some(schema) => {
+                let message = keep_message(alloc, kept, schema)?;
+                encode_pieces_behind(alloc, message, schema, &self.table)
+            }
             None => encode_own_pieces(alloc, &self.table),
         }
     }
@@ -183,8 +191,21 @@ impl Change {
         ensures counts { IfOk result (λ pieces. pieces.rows.items ≡ (change_of self.now).counts) }
         ensures short { IfOk result (λ pieces. AreShort (streams_in pieces)) }
     {
+        self.pieces_and_message(alloc, &mut None)
+    }
+
+    // Returns the same. The message of the schema of new rows is copied if it is kept, and kept otherwise.
+    pub(crate) fn pieces_and_message(
+        &self,
+        alloc: Global,
+        kept: &mut Option<KeptMessage>,
+    ) -> Result<EncodedPieces<'_>, AllocError>
+        ensures streams { IfOk result (λ pieces. streams_in pieces ≡ (change_of self.now).streams) }
+        ensures counts { IfOk result (λ pieces. pieces.rows.items ≡ (change_of self.now).counts) }
+        ensures short { IfOk result (λ pieces. AreShort (streams_in pieces)) }
+    {
         match &self.new {
-            Some(NewSegments::Rows(rows)) => rows.pieces(alloc),
+            Some(NewSegments::Rows(rows)) => rows.pieces(alloc, kept),
             Some(NewSegments::Copied { bytes, rows }) => copied_piece(alloc, bytes, *rows),
             Some(
                 NewSegments::Streams {

@@ -1,5 +1,6 @@
 // A device with the streams of a draft, which are not written yet.
 use crate::drafting::{Draft, place_of};
+use crate::kept_message::KeptMessage;
 use crate::source::SegmentSource;
 use sector_dev::SectorDevice;
 use segments::{Extent, ReadError, read_run};
@@ -38,6 +39,13 @@ impl<'a, D: SectorDevice> SegmentSource for DraftSource<'a, D> {
         }
         let stream = place_of(&self.draft.starts, place.run.start);
         Ok(Vec::from_slice(alloc, &self.draft.streams[stream])?)
+    }
+
+    fn kept_message(&self) -> Option<&KeptMessage> {
+        match &self.draft.message {
+            Some(message) => Some(message),
+            None => None,
+        }
     }
 
     ghost stays = { λ source. (refl, below_stays D.size D.story D.tells source.device.ghost_name source.device.now) };

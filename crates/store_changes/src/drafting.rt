@@ -16,6 +16,7 @@ ghost use Rattle.store_changes.specs.laws.Laid.{HaveStreams};
 
 use crate::change::{Change, Edit, NewSegments};
 use crate::editing::{edited_in_place, given_up, segments_after};
+use crate::kept_message::KeptMessage;
 use crate::rebuilding::new_segments;
 use batch_build::Buffer;
 use catalogue::{Catalogue, MAX_SEGMENTS, Segment, one_page_each};
@@ -41,6 +42,8 @@ pub struct Draft {
     pub starts: Vec<u64>,
     /// Where the next one would start.
     pub next: u64,
+    /// The message with which the last of them begins, or one before it.
+    pub message: Option<KeptMessage>,
 }
 
 // New segments, where each starts, and the sector behind them.
@@ -186,6 +189,7 @@ fn with_pieces(
         mut streams,
         mut starts,
         next,
+        message,
     } = draft;
     let mut more = owned_streams(alloc, pieces)?;
     let placed = place_streams(alloc, next, &more, &pieces.rows)?;
@@ -203,6 +207,7 @@ fn with_pieces(
         streams,
         starts,
         next: placed.next,
+        message,
     })
 }
 
@@ -229,6 +234,7 @@ impl Draft {
             streams: Vec::new(alloc),
             starts: Vec::new(alloc),
             next: sectors,
+            message: None,
         })
     }
 
@@ -247,12 +253,13 @@ impl Draft {
         ensures told { IfErr result (λ e. (e ≡ Refusal.OutOfMemory)
             ⊎ ((e ≡ Refusal.TooMany Limit.Segments) × ExceedsSegments self.next (catalogue_of self.made) (change_of change.now))) }
     {
-        let pieces = change.pieces(alloc)?;
+        let mut draft = self;
+        let pieces = change.pieces_and_message(alloc, &mut draft.message)?;
         let count = pieces.parts.len() as u64;
-        if segments_after(&self.made, &change.edit, count) > MAX_SEGMENTS {
+        if segments_after(&draft.made, &change.edit, count) > MAX_SEGMENTS {
             return Err(Refusal::TooMany(Limit::Segments));
         }
-        Ok(with_pieces(alloc, self, change, &pieces)?)
+        Ok(with_pieces(alloc, draft, change, &pieces)?)
     }
 
     /// Returns all changes as one: the streams are those of the new segments that are still named.
@@ -276,6 +283,7 @@ impl Draft {
             streams,
             starts: _starts,
             next: _next,
+            message: _message,
         } = self;
         Ok(Change {
             edit: Edit::Rebuild {

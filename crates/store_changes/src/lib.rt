@@ -13,6 +13,7 @@ mod digests;
 mod draft_source;
 mod drafting;
 mod editing;
+mod kept_message;
 mod laws;
 mod lightness;
 mod moving;
@@ -36,6 +37,7 @@ pub use deciding::{
 pub use digests::all_digests;
 pub use draft_source::DraftSource;
 pub use drafting::Draft;
+pub use kept_message::KeptMessage;
 pub use laws::{
     compactions_end, decisions_are_verdicts, laws_below, rows_have_their_digest, table_laws,
     what_is_done_is_the_verdict,

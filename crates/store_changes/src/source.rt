@@ -7,6 +7,7 @@ ghost use Rattle.segments.specs.Sectors.{sector_count, bytes_at};
 ghost use Rattle.segments.specs.declared.extent.Extent.{Extent};
 ghost use Rattle.commit.specs.Standing.{is_size};
 
+use crate::kept_message::KeptMessage;
 use sector_dev::SectorDevice;
 use segments::{Extent, ReadError, read_run};
 use std::alloc::Global;
@@ -49,6 +50,9 @@ pub trait SegmentSource {
         ensures unreadable { IsErrOf result ReadError.Unreadable → tells ≡ true
             → bytes_at (shown_image (now (story self.old))) place.run.start place.bytes ≡ None };
 
+    /// Returns the message of a schema that is kept beside what is read, if there is one.
+    fn kept_message(&self) -> Option<&KeptMessage>;
+
     /// No read leaves it as it is.
     ghost stays: { (source : Self) → goes_on source source };
 
@@ -79,6 +83,10 @@ impl<D: SectorDevice> SegmentSource for D {
 
     fn read_extent(&mut self, alloc: Global, place: Extent) -> Result<Vec<u8>, ReadError> {
         read_run(alloc, self, place.run.start, place.bytes as usize)
+    }
+
+    fn kept_message(&self) -> Option<&KeptMessage> {
+        None
     }
 
     ghost stays = { λ device. refl };

@@ -21,11 +21,11 @@ ghost use Rattle.store_changes.specs.Weights.{Weighs};
 ghost use Rattle.store_changes.specs.inner.ReadRows.{WeighsRows, WeighsNext};
 
 use crate::ahead::ReadAhead;
+use crate::kept_message::message_of;
 use crate::laws::table_laws;
 use crate::reading::read_next_segment;
 use crate::source::SegmentSource;
 use catalogue::{Segment, TableEntry};
-use ipc_write::encode_schema;
 use std::alloc::Global;
 use tables::Refusal;
 
@@ -107,8 +107,13 @@ pub fn weigh_entry<D: SegmentSource>(
     ensures unread { IfErr result (Unreads D.tells (shown_image (now (D.story device.old))) (plain_entry entry.now)) }
 {
     table_laws();
-    match encode_schema(alloc, entry.schema()) {
-        Ok(front) => match weigh_segments(alloc, device, &front, entry.segments()) {
+    let segments = entry.segments();
+    // Such a table weighs nothing, and no message of its schema is made.
+    if segments.is_empty() {
+        return Ok(0);
+    }
+    match message_of(alloc, device.kept_message(), entry.schema()) {
+        Ok(front) => match weigh_segments(alloc, device, &front, segments) {
             Ok(weight) => Ok(weight),
             Err(refusal) => Err(refusal),
         },

@@ -1,12 +1,9 @@
-use Rattle.std.proofs.Common.{◌≡◌, List, length, sym, ap, subst, ◌∙◌, arith}
+use Rattle.std.proofs.Common.{List, length, sym, ap, subst, ◌∙◌, arith}
 use Rattle.std.proofs.lemmas.Result.{IfOk-weaker}
-use Rattle.arrow_schema.specs.Column.{PlainSchema, Columns, columns_of}
+use Rattle.arrow_schema.specs.Column.{PlainSchema, columns_of}
 use Rattle.arrow_schema.specs.View.{schema_of}
 use Rattle.ipc_canonical.specs.Canonical.{canonical}
 use Rattle.cells.specs.Cell.{Cell, PlainTable}
-use Rattle.table_cut.specs.Left.{runs_left, rows_left}
-use Rattle.table_cut.specs.Rows.{runs_table}
-use Rattle.values.specs.Parts.{parts_rows, parts_table}
 use Rattle.values.specs.Table.{IsTable}
 use Rattle.ipc_encode.proofs.by_runs.encode_parts.Goals as goal
 

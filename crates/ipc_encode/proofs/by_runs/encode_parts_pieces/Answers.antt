@@ -22,15 +22,15 @@ push_left-requires-clause-count c =
     omega (arith, c.requires.count, ap length (c.in_ok-left.ensures.rows (columns_of (schema_of c.args.schema.now).columns)))
 
 pub push_left-requires-clause-none : goal.push_left-requires-clause-none
-push_left-requires-clause-none c = c.in_ok-pieces.ensures.none
+push_left-requires-clause-none c = c.no_pieces-pieces.ensures.none
 
 pub push_left-requires-clause-uncounted : goal.push_left-requires-clause-uncounted
-push_left-requires-clause-uncounted c = c.in_ok-pieces.ensures.uncounted
+push_left-requires-clause-uncounted c = c.no_pieces-pieces.ensures.uncounted
 
 pub returns-clause-streams : goal.returns-clause-streams
 returns-clause-streams c =
     let s : PlainSchema = schema_of c.args.schema.now in
-    ap (λ (front : List ℕ). streams_behind front c.push_left.new.pieces.parts.items) (c.in_ok-push_left.ensures.message ∙ c.in_ok-pieces.ensures.message)
+    ap (λ (front : List ℕ). streams_behind front c.push_left.new.pieces.parts.items) (c.in_ok-push_left.ensures.message ∙ c.no_pieces-pieces.ensures.message ∙ c.requires.message)
     ∙ c.in_ok-push_left.ensures.streams
     ∙ ap (λ (rows : List (List Cell)). piece_streams (plain_table s rows)) (c.in_ok-left.ensures.rows (columns_of s.columns))
 
@@ -43,4 +43,4 @@ returns-clause-rows c =
 pub returns-clause-short : goal.returns-clause-short
 returns-clause-short c =
     subst (λ (front : List ℕ). AllByRecursion (λ (stream : List ℕ). length stream < 2 ^ 64) (streams_behind front c.push_left.new.pieces.parts.items))
-    (sym (c.in_ok-push_left.ensures.message ∙ c.in_ok-pieces.ensures.message)) c.in_ok-push_left.ensures.short
+    (sym (c.in_ok-push_left.ensures.message ∙ c.no_pieces-pieces.ensures.message ∙ c.requires.message)) c.in_ok-push_left.ensures.short

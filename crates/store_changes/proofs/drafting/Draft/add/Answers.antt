@@ -41,3 +41,11 @@ with_pieces-requires-clause-few c = λ segments count.
 
 pub returns-in_err-with_pieces-clause-told : goal.returns-in_err-with_pieces-clause-told
 returns-in_err-with_pieces-clause-told c = let p = err_from_is_err_and c.from_residual-in_err-with_pieces.result c.from_residual-in_err-with_pieces.ensures.1 in rw (p.1, p.2) (inl refl)
+
+-- the message is no part of what is drafted
+pub with_pieces-requires-clause-draft : goal.with_pieces-requires-clause-draft
+with_pieces-requires-clause-draft c = record {
+  drafted = c.requires.draft.drafted;
+  starts = c.requires.draft.starts;
+  next = c.requires.draft.next;
+}

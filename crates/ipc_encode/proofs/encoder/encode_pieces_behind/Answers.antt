@@ -12,7 +12,7 @@ use Rattle.ipc_encode.proofs.Encoded.{rows_under_encoding, sound_alike}
 use Rattle.values.specs.PlainTables.{plain_table}
 use Rattle.values.specs.Table.{IsTable}
 use Rattle.values.specs.TableView.{table_of}
-use Rattle.ipc_encode.proofs.encoder.encode_pieces.Goals as goal
+use Rattle.ipc_encode.proofs.encoder.encode_pieces_behind.Goals as goal
 
 pub encode_parts_pieces-requires-clause-table : goal.encode_parts_pieces-requires-clause-table
 encode_parts_pieces-requires-clause-table c =
@@ -22,7 +22,7 @@ encode_parts_pieces-requires-clause-table c =
     (λ j. encodings (fields_of (sym c.deref.ensures.value j))) ∙ c.have_same_encodings.ensures c.if-have_same_encodings.true ∙ (λ j. encodings (fields_of (c.deref-in-Some.ensures.value j)))
     ∙ ap (λ (x : PlainSchema). encodings (columns_of x.columns)) c.schema.ensures.schema in
     let same = rows_under_encoding s t c.in-Some.parts.now alike c.in-Some.ensures.rows in
-    subst (λ (rows : List (List Cell)). IsTable (plain_table s rows)) same c.requires
+    subst (λ (rows : List (List Cell)). IsTable (plain_table s rows)) same c.requires.table
 
 pub encode_parts_pieces-requires-clause-sound : goal.encode_parts_pieces-requires-clause-sound
 encode_parts_pieces-requires-clause-sound c =
