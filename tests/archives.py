@@ -309,6 +309,8 @@ def unpacked(case):
     os.mkdir("unpacked")
     done = subprocess.run(["tar", "-xf", "sent.tar", "-C", "unpacked"], capture_output=True)
     case.compare("tar -x", (done.returncode, done.stderr), (0, b""))
+    summed = subprocess.run("sha256sum < unpacked/manifest.jsonl", shell=True, capture_output=True, check=True).stdout
+    case.compare("the digest of the manifest in end", content("unpacked/end"), summed.split()[0] + b"\n")
     for digest in digests:
         stream = content(f"unpacked/{model.segment_name(digest)}")
         case.compare(f"the digest of {digest}", model.digest_of(stream), digest)
@@ -787,41 +789,93 @@ def cut(case):
     case.receives("the whole", "receiver", archive)
 
 
-def without_name(table):
-    """A table as it is listed, but for its name and its numbers of rows."""
-    return table._replace(name="", segments=[it._replace(rows=0) for it in table.segments])
+def repaired(header):
+    """The header of a member with the checksum of its other bytes."""
+    return header[:148] + b"%06o\0 " % (sum(header[:148]) + sum(header[156:]) + 8 * 32) + header[156:]
+
+
+def with_byte(case, archive, place):
+    """The archive with another byte at this place."""
+    byte = archive[place] ^ case.chance.choice((1, 1, 2, 4, 8, 16, 32, 64, 128, case.chance.randrange(1, 256)))
+    return archive[:place] + bytes([byte]) + archive[place + 1:]
+
+
+def altered_at(archive, places, case):
+    """What is altered, and the archive: at each of these places, and in headers with the right checksum too."""
+    starts = limits_of(archive).values()
+    for place in places:
+        given = with_byte(case, archive, place)
+        yield f"byte {place:,} as {given[place]:#04x}", given
+        for start in starts:
+            if start <= place < start + 512:
+                yield f"byte {place:,} as {given[place]:#04x}, with its checksum", given[:start] + repaired(given[start:start + 512]) + given[start + 512:]
+
+
+def no_alteration(case, archive, places, receiver):
+    """Each of these alterations is refused. A schema, or texts of another one, may be no manifest."""
+    first_end = list(limits_of(archive).values())[1]
+    for what, given in altered_at(archive, places, case):
+        line = line_of(given)
+        if given != archive:
+            case.refuses(f"{what}, by {receiver}", receiver, given, line, *(["A2 NotAnArchive"] if given[first_end:] == archive[first_end:] else []))
 
 
 def altered(case):
-    """One byte of an archive is another one. What the manifest says is not digested: with another letter in a name of a table, or another digit of the epoch
-    or of a number of rows, an archive may be one of other tables, and then these are received. All else is refused, and nothing changes."""
-    path, archive = an_archive(case)
-    base, pick, taken = content("receiver"), case.chance, 0
-    sent = list(map(without_name, case.listed(path)))
-    in_front = range(list(limits_of(archive).values())[1])
-    for place in [*pick.sample(range(len(archive)), ALTERED // 2), *(pick.choice(in_front) for _ in range(ALTERED // 2))]:
-        byte = archive[place] ^ pick.choice((1, 1, 2, 4, 8, 16, 32, 64, 128, pick.randrange(1, 256)))
-        given = archive[:place] + bytes([byte]) + archive[place + 1:]
-        what = f"byte {place:,} as {byte:#04x}"
-        put("receiver", base)
-        try:
-            tables = model.read_archive(given).tables
-        except model.Refused as refused:
-            case.refuses(what, "receiver", given, str(refused))
-            continue
-        status, output, said = case.run(["receive", "receiver"], given)
-        if status:
-            known = said if re.fullmatch(rb"refused (A4 LacksSegment [0-9a-f]{64}|S3 BadName)\n", said) else b"refused A2 NotAnArchive\n"
-            case.compare(f"{what}: refused", (status, output, said, content("receiver") == base), (1, b"", known, True))
-            continue
-        taken += 1
-        held = {table.name: table for table in model.read_store(content("receiver")).tables}
-        for table in tables:
-            found = held[table.name].listed(None)
-            case.compare(f"{what}: the table {table.name}", [(it.digest, it.size) for it in found.segments], [(it.digest, it.size) for it in table.segments])
-            case.compare(f"{what}: the schema of {table.name}", found.schema, table.schema)
-        case.compare(f"{what}: all but a name, the epoch and a number of rows", list(map(without_name, tables)), sent)
-    case.compare("some are archives of other tables", taken < ALTERED // 20, True)
+    """One byte of an archive is another one: all of a small archive in turn, and drawn ones of a larger one. All are refused, and nothing changes."""
+    case.make("small")
+    case.table("small", "a", ["n:int32"], [[7], [8]])
+    case.table("small", "b", ["t:utf8?"])
+    archive = case.archive("small")
+    for version in (1, 2):
+        case.make(f"receiver{version}", version, "64")
+        case.table(f"receiver{version}", "a", ["n:int32"], [[1]])
+        no_alteration(case, archive, range(len(archive)), f"receiver{version}")
+        case.receives("the small one as it is", f"receiver{version}", archive)
+    _, archive = an_archive(case)
+    no_alteration(case, archive, case.chance.sample(range(len(archive)), ALTERED), "receiver")
+
+
+# What may be written in a manifest in the place of something else, so that it is one of other tables.
+OTHER_TABLES = {
+    "another name": (b'"table":"b"', b'"table":"c"'), "a longer name": (b'"table":"b"', b'"table":"bb"'), "a first name": (b'"table":"a"', b'"table":"A"'),
+    "another number of rows": (b'"rows":2', b'"rows":3'), "another epoch": (b'"epoch":', b'"epoch":1'), "version 1": (b'"archive":2', b'"archive":1'),
+}
+
+
+def other_tables(case):
+    """A manifest that is one of other tables: `end` has the digest of the one that was sent. With its own digest it is an archive of those tables."""
+    case.make("small")
+    case.table("small", "a", ["n:int32"], [[7], [8]])
+    case.table("small", "b", ["t:utf8?"])
+    archive = case.archive("small")
+    epoch, tables, _ = model.read_archive(archive)
+    text, rest = model.manifest(epoch, tables), archive[list(limits_of(archive).values())[1]:]
+    for version in (1, 2):
+        case.make("receiver", version, "64")
+        for what, (there, other) in OTHER_TABLES.items():
+            made = text.replace(there, other, 1)
+            case.compare(f"{what} is another manifest", (made != text, line_of(model.member("manifest.jsonl", made) + rest)), (True, "A3 BadMember manifest.jsonl"))
+            case.refuses(f"{what} by version {version}", "receiver", model.member("manifest.jsonl", made) + rest, "A3 BadMember manifest.jsonl")
+        made = text.replace(*OTHER_TABLES["another name"])
+        given = model.member("manifest.jsonl", made) + rest[:-len(model.end(2, text))] + model.end(2, made)
+        case.receives(f"another name, which is digested, by version {version}", "receiver", given)
+        case.compare(f"the tables of version {version}", sorted(case.seen("receiver")), ["a", "c"])
+        case.refuses(f"another digest by version {version}", "receiver", given[:-1536] + b"0" * 64 + given[-1472:], "A3 BadMember manifest.jsonl")
+
+
+def old_archives(case):
+    """Archives of version 1, whose `end` has no digest, are received as they were."""
+    path = a_small_store(case, "sender")
+    epoch, tables, found = model.read_archive(case.archive(path))
+    old, new = (model.archive_of(epoch, tables, list(found.values()), version) for version in model.VERSIONS)
+    case.compare("the end of an archive of version 1", old.endswith(model.header("end", 0) + bytes(1024)), True)
+    for version in (1, 2):
+        case.make("receiver", version)
+        case.refuses("version 1 that is cut", "receiver", old[:-1], "A3 BadMember end")
+        case.refuses("version 1 with the end of version 2", "receiver", old[:-1536] + new[-2048:], "A3 BadMember manifest.jsonl")
+        case.refuses("version 2 with the end of version 1", "receiver", new[:-2048] + old[-1536:], "A3 BadMember end")
+        case.receives(f"version 1 by version {version}", "receiver", old)
+        case.same(f"version 1 by version {version}", case.seen("receiver"), case.seen(path))
 
 
 def made_of(case, path, change_streams=None, change_tables=None):
@@ -910,11 +964,12 @@ def manifests(case):
     """Manifests that are none: other forms of the same JSON, tables out of order or twice, schemas that are none, texts of another schema."""
     path, archive = an_archive(case)
     epoch, tables, found = model.read_archive(archive)
-    text, rest = model.manifest(epoch, tables), archive[limits_of(archive)[model.segment_name(list(found)[0])]:]
+    text = model.manifest(epoch, tables)
+    rest = archive[limits_of(archive)[model.segment_name(list(found)[0])]:limits_of(archive)["end"]]
     lines = text.decode().split("\n")
 
     def with_text(made):
-        return model.member("manifest.jsonl", made) + rest
+        return model.member("manifest.jsonl", made) + rest + model.end(2, made)
 
     def with_lines(*made):
         return with_text("\n".join([*made, ""]).encode())
@@ -928,7 +983,7 @@ def manifests(case):
         ("an empty line at the end", with_text(text + b"\n")),
         ("spaces", with_text(text.replace(b":", b": "))),
         ("carriage returns", with_text(text.replace(b"\n", b"\r\n"))),
-        ("another version", with_text(text.replace(b'"archive":1', b'"archive":2'))),
+        ("a later version", with_text(text.replace(b'"archive":2', b'"archive":3'))), ("version 0", with_text(text.replace(b'"archive":2', b'"archive":0'))),
         ("a table fewer than it says", with_lines(*lines[:-2])),
         ("a number of tables too large", with_text(text.replace(b'"tables":3', b'"tables":4'))),
         ("no tables in it, and some said", with_lines(lines[0])),
@@ -944,7 +999,7 @@ def manifests(case):
         ("a digest too short", with_text(text.replace(list(found)[0].encode(), list(found)[0][1:].encode()))),
         ("no UTF-8", with_text(text.replace(b'"e"', b'"\xff"'))),
         ("a member more", with_text(text.replace(b'"tables":3', b'"tables":3,"x":1'))),
-        ("the members the other way", with_text(re.sub(rb'\{"archive":1,("epoch":\d+)', rb'{\1,"archive":1', text))),
+        ("the members the other way", with_text(re.sub(rb'\{"archive":2,("epoch":\d+)', rb'{\1,"archive":2', text))),
         ("nested a million deep", with_text(b"[" * 1000000 + b"\n")),
         ("a byte order mark", with_text(b"\xef\xbb\xbf" + text)),
         ("nothing in it", with_text(b"")),
@@ -955,7 +1010,7 @@ def manifests(case):
     for what, made in ((b"e/f", "a slash"), (b"", "no letter"), (b"d" * 65, "65 letters")):
         case.refuses(f"a table's name of {made}", "receiver", with_text(text.replace(b'"table":"e"', b'"table":"%s"' % what)), "S3 BadName")
     for name in ("manifest.json", "MANIFEST.jsonl", "./manifest.jsonl", "manifest.jsonl.", ""):
-        case.refuses(f"a manifest with the name {name!r}", "receiver", model.member(name, text) + rest, "A2 NotAnArchive")
+        case.refuses(f"a manifest with the name {name!r}", "receiver", model.member(name, text) + rest + model.end(2, text), "A2 NotAnArchive")
     # A stream of other columns under the schema of a table.
     other = tables[0]._replace(segments=tables[1].segments)
     case.refuses("streams of another schema", "receiver", model.archive_of(epoch, [other, *tables[1:]], list(found.values())), "S4 SchemaMismatch")
@@ -1005,7 +1060,7 @@ def hurried(case):
 
 CASES = {it.__name__: it for it in (
     worked, kinds, pages, parts, unpacked, drawn, lists, bad_lists, words, outputs, damaged, locks, slow_reader,
-    received, grown, changes, old_receivers, whole_archives, both, drawn_replicas, chain, cut, altered, lacking, foreign, manifests, no_room, hurried,
+    received, grown, changes, old_receivers, whole_archives, both, drawn_replicas, chain, cut, altered, other_tables, old_archives, lacking, foreign, manifests, no_room, hurried,
 )}
 
 

@@ -11,6 +11,7 @@ Prints each difference, and last 'N passed, M failed'."""
 import concurrent.futures
 import contextlib
 import dataclasses
+import hashlib
 import io
 import json
 import os
@@ -1530,7 +1531,7 @@ def play_stopped_replica():
 def play_bad_chains():
     """Archives of a chain that are cut, altered or missing restore nothing, by either script."""
     for title, spoil in (
-        ("cut within a stream", lambda made: made[: len(made) // 2]), ("cut between two members", lambda made: made[:-1536]), ("cut to nothing", lambda made: b""),
+        ("cut within a stream", lambda made: made[: len(made) // 2]), ("cut between two members", lambda made: made[:-2048]), ("cut to nothing", lambda made: b""),
         ("with a stream altered", lambda made: made.replace(b"\xff\xff\xff\xff", b"\xff\xff\xff\xfe", 1)),
     ):
         with tempfile.TemporaryDirectory() as folder:
@@ -1611,15 +1612,19 @@ def play_altered_manifest():
         with tarfile.open(room.path("sent")) as sent:
             members = [(it.name, sent.extractfile(it).read()) for it in sent.getmembers()]
         before = sorted(os.listdir(folder))
+        manifest = dict(members)["manifest.jsonl"]
         for name in "../../over", "log\ncreate more n:int8", "a b":
-            with tarfile.open(room.path("altered"), "w") as altered:
-                for member, made in members:
-                    info = tarfile.TarInfo(member)
-                    made = made.replace(b'"log"', json.dumps(name).encode()) if member == "manifest.jsonl" else made
-                    info.size = len(made)
-                    altered.addfile(info, io.BytesIO(made))
-            told = 1, "The archive has a name that no table can have.\n"
-            answers.compare(f"by_tar.sh of the name {name!r}", room.run("sh", "plain/by_tar.sh", "4096", "altered"), told)
+            made = manifest.replace(b'"log"', json.dumps(name).encode())
+            for end, told in (
+                (hashlib.sha256(made).hexdigest().encode() + b"\n", "The archive has a name that no table can have.\n"),
+                (b"", "The archive has a name that no table can have.\n"), (dict(members)["end"], "The list of tables of altered was altered.\n"),
+            ):
+                with tarfile.open(room.path("altered"), "w") as altered:
+                    for member, bytes_of in {**dict(members), "manifest.jsonl": made, "end": end}.items():
+                        info = tarfile.TarInfo(member)
+                        info.size = len(bytes_of)
+                        altered.addfile(info, io.BytesIO(bytes_of))
+                answers.compare(f"by_tar.sh of the name {name!r}", room.run("sh", "plain/by_tar.sh", "4096", "altered"), (1, told))
         answers.compare("what it leaves", sorted(os.listdir(folder)), sorted([*before, "altered", "restored.store.lock", "unpacked"]))
 
 

@@ -41,6 +41,7 @@ archive_refusal faults.NotAnArchive = NotAnArchive
 archive_refusal (faults.BadMember digest) = BadMember (members.Segment digest)
 archive_refusal (faults.UnnamedMember place) = BadMember (members.At place)
 archive_refusal faults.NoEnd = BadMember members.End
+archive_refusal faults.AlteredManifest = BadMember members.Manifest
 archive_refusal faults.OutOfMemory = OutOfMemory
 
 -- some bytes are reported as no archive

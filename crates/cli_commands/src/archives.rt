@@ -107,6 +107,7 @@ fn archive_refusal(fault: ArchiveFault) -> Refusal
         ArchiveFault::BadMember(digest) => Refusal::BadMember(ArchiveMember::Segment(digest)),
         ArchiveFault::UnnamedMember(place) => Refusal::BadMember(ArchiveMember::At(place)),
         ArchiveFault::NoEnd => Refusal::BadMember(ArchiveMember::End),
+        ArchiveFault::AlteredManifest => Refusal::BadMember(ArchiveMember::Manifest),
         ArchiveFault::OutOfMemory => Refusal::OutOfMemory,
     }
 }

@@ -39,6 +39,7 @@ text_refusal texts.OutOfMemory = OutOfMemory
 
 -- a member of an archive, by its name or its place
 abbrev pub member_text : ArchiveMember → List ℕ
+member_text members.Manifest = codes "manifest.jsonl"
 member_text (members.Segment digest) = codes "segments/" ++ encode_lower digest ++ codes ".arrows"
 member_text (members.At place) = codes "member " ++ decimal place
 member_text members.End = codes "end"

@@ -302,7 +302,8 @@ The archive, or the list, is read before the store is opened.
     GIVE_AN_ARCHIVE,
     "
 - A3 BadMember MEMBER: the archive was cut off or altered at this member: the segment of this name, `end`, or
-  `member N`, counted from 0, which has another name than one of these.
+  `member N`, counted from 0, which has another name than one of these. `manifest.jsonl`: the list of tables has
+  another digest than the one in `end`; either was altered.
   ",
     SEND_AGAIN,
     "

@@ -28,6 +28,8 @@ pub enum Side {
 /// A member of an archive.
 #[derive(Clone, Copy, Debug)]
 pub enum ArchiveMember {
+    /// The list of the tables.
+    Manifest,
     /// The stream of the segment with this digest.
     Segment([u8; 32]),
     /// The member at this place; the manifest is at 0.
@@ -45,6 +47,7 @@ impl fmt::Display for ArchiveMember {
 
     fn fmt<W: fmt::Write>(&self, f: &mut fmt::Formatter<W>) -> fmt::Result {
         match self {
+            ArchiveMember::Manifest => f.write_str("manifest.jsonl"),
             ArchiveMember::Segment(digest) => write!(f, "segments/{}.arrows", HexDigits { digest }),
             ArchiveMember::At(place) => write!(f, "member {place}"),
             ArchiveMember::End => f.write_str("end"),

@@ -124,7 +124,7 @@ pub const LINES_OF_DIGESTS: &str =
     "Give the lines that `have` prints for the store of the receiver: 64 hexadecimal digits each, without spaces and empty lines.";
 
 pub const GIVE_AN_ARCHIVE: &str =
-    "Give what `send` has written, from its beginning: neither compressed, nor packed again by `tar`.";
+    "Give what `send` has written, from its beginning: neither compressed, nor packed again by `tar`. An archive of a later version needs a later program.";
 
 pub const SEND_AGAIN: &str =
     "Send the archive again, and give all of it: it was cut off or altered on its way, or `send` was refused.";

@@ -1,14 +1,10 @@
 -- The commands that an archive brings, step by step.
 use Rattle.std.specs.Prelude.{◌≢◌, ◌⊎◌, ◌&&◌, if◌then◌else◌, Option, option_map, Result, IfErr, OnOk}
-use Rattle.std.specs.Str.{bytes_eq}
 use Rattle.std.proofs.Common.{◌≡◌, ◌+◌, ◌<◌, ◌≤◌, ◌∙◌, ◌++◌, ℕ, Bool, true, false, List, [], ◌∷◌, Some, None, Ok, Err, inl, inr, arith, refl, get_or}
 use Rattle.std.proofs.Common.{length, map, take, drop, append_assoc, append-nil, refl, sym, ap, subst}
 use Rattle.std.proofs.lemmas.Bool.{true≢false, cond-true, cond-false, and_right, and_parts}
-use Rattle.std.proofs.lemmas.Bool.Decides.{not_from_Decides}
-use Rattle.std.proofs.lemmas.Slice.Eq.{bytes_eq-Decides}
 use Rattle.std.proofs.lemmas.List.{map-append, length-map, get_or-map}
 use Rattle.facts.specs.laws.Lists.{drop-item, take-item}
-use Rattle.sha2.specs.Sha256.{sha256}
 use Rattle.sector_dev.specs.Disk.{Story}
 use Rattle.sector_dev.specs.declared.device.SectorDevice.{Ghosts}
 use Rattle.arrow_schema.specs.Column.{PlainSchema}
@@ -16,7 +12,8 @@ use Rattle.catalogue.specs.declared.entry.Segment.{Segment}
 use Rattle.catalogue.specs.Edits.{entry_of, tables_of}
 use Rattle.catalogue.specs.Entries.{PlainEntry, PlainCatalogue}
 use Rattle.table_archive.specs.declared.manifest.ListedSegment.{ListedSegment}
-use Rattle.table_archive.specs.Archive.{IsStreamOf, AreStreamsOf}
+use Rattle.table_archive.specs.Archive.{IsStreamOf, AreStreamsOf, Collision}
+use Rattle.table_archive.specs.laws.Collisions.{same_or_collision}
 use Rattle.table_archive.specs.Manifest.{PlainListed}
 use Rattle.tables.specs.declared.command.Command.{Command}
 use Rattle.tables.specs.Commands.{PlainCommand, append_stream}
@@ -32,7 +29,7 @@ use Rattle.store.specs.Fits.{listed_in}
 use Rattle.store.specs.Reading.{OnlyReadsStore}
 use Rattle.store.specs.SegmentStreams.{info_of}
 use Rattle.store.specs.Receiving.{same_schema, has_digest, begin_with, left_of, ArePart, AreParts, AreReceived, drops_if, ended_receiving}
-use Rattle.store.specs.Receiving.{received_by, AnswersAll, EndsAll, Receives, Collision}
+use Rattle.store.specs.Receiving.{received_by, AnswersAll, EndsAll, Receives}
 
 -- ---- whether a table is continued
 
@@ -183,24 +180,9 @@ module _ {D : Type 0} {g : Ghosts D} (size : D → ℕ) (story : D → Story) (f
 
 -- ---- the streams of listed segments
 
--- two lists of bytes are the same, or they are not
-same_bytes : (xs ys : List ℕ) → (xs ≡ ys) ⊎ (xs ≢ ys)
-same_bytes xs ys = by_test (bytes_eq xs ys) refl
-  where
-    by_test : (b : Bool) → bytes_eq xs ys ≡ b → (xs ≡ ys) ⊎ (xs ≢ ys)
-    by_test true is = inl ((bytes_eq-Decides xs ys).0 is)
-    by_test false is = inr (not_from_Decides (bytes_eq xs ys) (bytes_eq-Decides xs ys) is)
-
-one_stream : (l : ListedSegment) (x y : List ℕ) → IsStreamOf l x → IsStreamOf l y → (x ≡ y) ⊎ Collision
-one_stream l x y one other = by_bytes (same_bytes x y)
-  where
-    by_bytes : (x ≡ y) ⊎ (x ≢ y) → (x ≡ y) ⊎ Collision
-    by_bytes (inl same) = inl same
-    by_bytes (inr differ) = inr (record { one = x; other = y; differ = differ; alike = sym one.digest ∙ other.digest })
-
 pub streams_told : (ls : List ListedSegment) (xs ys : List (List ℕ)) → AreStreamsOf ls xs → AreStreamsOf ls ys → (xs ≡ ys) ⊎ Collision
 streams_told [] [] [] all also = inl refl
-streams_told (l ∷ ls) (x ∷ xs) (y ∷ ys) all also = both (one_stream l x y all.0 also.0) (streams_told ls xs ys all.1 also.1)
+streams_told (l ∷ ls) (x ∷ xs) (y ∷ ys) all also = both (same_or_collision x y (sym all.0.digest ∙ also.0.digest)) (streams_told ls xs ys all.1 also.1)
   where
     both : (x ≡ y) ⊎ Collision → (xs ≡ ys) ⊎ Collision → (x ∷ xs ≡ y ∷ ys) ⊎ Collision
     both (inl same) (inl rest) = inl (λ i. same i ∷ rest i)

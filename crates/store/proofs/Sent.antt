@@ -18,6 +18,7 @@ use Rattle.catalogue.specs.View.{catalogue_of}
 use Rattle.commit.specs.declared.recovery.Opened.{Opened}
 use Rattle.pages.specs.declared.stored.StoredCatalogue.{StoredCatalogue}
 use Rattle.segments.specs.laws.Usages.{or_false}
+use Rattle.table_archive.specs.declared.manifest.ArchiveVersion.TheVariants.{Two}
 use Rattle.table_archive.specs.declared.manifest.ListedSegment.{ListedSegment}
 use Rattle.table_archive.specs.Archive.{is_among, lacked_by, segments_of, segment_member, archive_of}
 use Rattle.table_archive.specs.Manifest.{PlainListed}
@@ -300,7 +301,7 @@ module _ {D : Type 0} {g : Ghosts D} (size : D → ℕ) (story : D → Story) (f
   pub sends_tables : (had : List (List ℕ)) (ts : List PlainListed) (old new : Option (List ℕ))
       → ListsTables tells (shown_image (now (story a.device))) (listed_in a) (tables_of (listed_in a)) ts → (streams : List (List ℕ))
       → AreSent tells (shown_image (now (story b.device))) (listed_in b) (lacked_by (λ (x : Located). x.digest) had (flat_map located_in ts)) streams
-      → Appends old new (archive_of (commit_of b).epoch ts streams)
+      → Appends old new (archive_of Two (commit_of b).epoch ts streams)
       → Sends tells (shown_image (now (story a.device))) (listed_in a) (commit_of a).epoch had old new
   sends_tables had ts old new listed streams sent written =
       record {
@@ -309,5 +310,5 @@ module _ {D : Type 0} {g : Ghosts D} (size : D → ℕ) (story : D → Story) (f
         streams = streams;
         sent = first_all_sent size story failed tells a b reads (lacked_by (λ (x : Located). x.digest) had (flat_map located_in ts)) streams sent;
         written =
-            subst (λ (epoch : ℕ). Appends old new (archive_of epoch ts streams)) (ap (λ (o : Opened StoredCatalogue). o.commit.epoch) reads.kept) written;
+            subst (λ (epoch : ℕ). Appends old new (archive_of Two epoch ts streams)) (ap (λ (o : Opened StoredCatalogue). o.commit.epoch) reads.kept) written;
       }

@@ -1,9 +1,8 @@
 -- What a store does with an archive: a list of commands, which are done as one.
-use Rattle.std.specs.Prelude.{◌≡◌, ◌≢◌, ◌⊎◌, ◌&&◌, ℕ, Bool, true, false, if◌then◌else◌, List, [], ◌∷◌, ◌++◌, length, map, drop, Option, Some, None}
+use Rattle.std.specs.Prelude.{◌≡◌, ◌&&◌, ℕ, Bool, true, false, if◌then◌else◌, List, [], ◌∷◌, ◌++◌, length, map, drop, Option, Some, None}
 use Rattle.std.specs.Prelude.{Result, Ok, Err, IfErr}
 use Rattle.std.specs.List.{list_any}
 use Rattle.std.specs.Str.{bytes_eq}
-use Rattle.sha2.specs.Sha256.{sha256}
 use Rattle.sector_dev.specs.Disk.{Story, now, shown_image}
 use Rattle.sector_dev.specs.declared.device.SectorDevice.{Ghosts}
 use Rattle.arrow_schema.specs.Column.{PlainSchema}
@@ -133,12 +132,3 @@ pub record Receives {D : Type 0} {g : Ghosts D} (size : D → ℕ) (story : D �
   pub commands : List PlainCommand
   pub are : AreReceived (listed_in old) ts delete commands
   pub ends : EndsAll size story failed tells mid commands result new
-
--- ---- the streams that are appended
-
--- two different byte strings have one SHA-256 (FIPS 180-4)
-pub record Collision : Type 0 where
-  pub one : List ℕ
-  pub other : List ℕ
-  pub differ : one ≢ other
-  pub alike : sha256 one ≡ sha256 other

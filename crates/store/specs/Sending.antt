@@ -6,6 +6,7 @@ use Rattle.arrow_schema.specs.Column.{PlainSchema}
 use Rattle.catalogue.specs.declared.entry.Segment.{Segment}
 use Rattle.catalogue.specs.Entries.{PlainEntry, PlainCatalogue}
 use Rattle.catalogue.specs.Edits.{entry_of, tables_of}
+use Rattle.table_archive.specs.declared.manifest.ArchiveVersion.TheVariants.{Two}
 use Rattle.table_archive.specs.declared.manifest.ListedSegment.{ListedSegment}
 use Rattle.table_archive.specs.Manifest.{PlainListed}
 use Rattle.table_archive.specs.Archive.{lacked, lacked_by, segments_of, archive_of}
@@ -86,7 +87,7 @@ pub record Sends (tells : Bool) (image : Image) (c : PlainCatalogue) (epoch : �
   pub listed : ListsTables tells image c (tables_of c) tables
   pub streams : List (List ℕ)
   pub sent : AreSent tells image c (lacked_by (λ (x : Located). x.digest) had (flat_map located_in tables)) streams
-  pub written : Appends old new (archive_of epoch tables streams)
+  pub written : Appends old new (archive_of Two epoch tables streams)
 
 abbrev pub SendsAt : (halted tells : Bool) → Image → PlainCatalogue → (epoch : ℕ) → (had : List (List ℕ)) → (old new : Option (List ℕ)) → Type 0
 SendsAt true tells image c epoch had old new = ⊥

@@ -5,7 +5,7 @@ ghost use Rattle.arrow_schema.specs.Limits.{IsWithinLimits};
 ghost use Rattle.arrow_schema.specs.View.{schema_of};
 ghost use Rattle.cells.specs.Cell.{PlainTable};
 ghost use Rattle.table_archive.specs.Manifest.{PlainListed, plain_listed, empty_stream};
-ghost use Rattle.table_archive.specs.Archive.{IsStreamOf, AreStreamsOf};
+ghost use Rattle.table_archive.specs.Archive.{IsStreamOf, AreStreamsOf, Collision};
 ghost use Rattle.table_archive.specs.declared.manifest.ListedSegment as manifests;
 ghost use Rattle.tables.specs.Commands.{PlainCommand, import_stream, all_of, commands_of};
 ghost use Rattle.tables.specs.Tables.{Tables, table_at};
@@ -14,7 +14,7 @@ ghost use Rattle.store.specs.ReceivedRows.{HasRowsBehind};
 ghost use Rattle.tables.specs.View.{command_of};
 ghost use Rattle.store_runs.specs.Calls.{is_failure, is_device_reply};
 ghost use Rattle.store.specs.Receiving.{same_schema, has_digest, begin_with, is_listed, drops, drops_if, ended_receiving};
-ghost use Rattle.store.specs.Receiving.{received_by, Append, ArePart, Collision};
+ghost use Rattle.store.specs.Receiving.{received_by, Append, ArePart};
 
 use crate::Store;
 use crate::applying_all::ListRefusal;

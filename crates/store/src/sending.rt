@@ -4,8 +4,9 @@ ghost use Rattle.std.specs.Io.KnownBytes.{Appends};
 ghost use Rattle.arrow_schema.specs.Limits.{IsWithinLimits};
 ghost use Rattle.arrow_schema.specs.View.{schema_of};
 ghost use Rattle.sha2.specs.Sha256.{sha256};
-ghost use Rattle.table_archive.specs.Archive.{lacked_by, archive_of, segment_member, archive_end};
-ghost use Rattle.table_archive.specs.Manifest.{plain_listed, AreWithin};
+ghost use Rattle.table_archive.specs.Archive.{lacked_by, archive_of, manifest_member, segment_member, archive_end};
+ghost use Rattle.table_archive.specs.Manifest.{plain_listed, manifest, AreWithin};
+ghost use Rattle.table_archive.specs.declared.manifest.ArchiveVersion.TheVariants.{Two};
 ghost use Rattle.store.specs.Sending.{Located, located_in, digests_of};
 ghost use Rattle.store.specs.inner.Sending.{plain_item, FailsMaking, FailsSending};
 
@@ -18,8 +19,8 @@ use sector_dev::SectorDevice;
 use std::alloc::Global;
 use std::io::Write;
 use table_archive::{
-    ArchiveError, ListedSegment, ListedTable, WantedDigests, archive_end, archive_front,
-    push_padding, segment_header, typed_fields,
+    ArchiveError, ArchiveFrame, ArchiveVersion, ListedSegment, ListedTable, WantedDigests,
+    archive_frame, push_padding, segment_header, typed_fields,
 };
 use tables::{Limit, Refusal};
 
@@ -100,6 +101,19 @@ fn refusal_of(error: ArchiveError) -> Refusal
     }
 }
 
+// Returns what stands before and behind the members of segments in an archive of these tables.
+fn frame_of(alloc: Global, epoch: u64, tables: &[ListedTable]) -> Result<ArchiveFrame, Refusal>
+    requires { AreWithin tables.now }
+    ensures front { IfOk result (λ frame. frame.front.items ≡ manifest_member Two epoch (map plain_listed tables.now)) }
+    ensures end { IfOk result (λ frame. frame.end.items ≡ archive_end Two (manifest Two epoch (map plain_listed tables.now))) }
+    ensures fails { IfErr result FailsMaking }
+{
+    match archive_frame(alloc, ArchiveVersion::Two, epoch, tables) {
+        Ok(frame) => Ok(frame),
+        Err(error) => Err(refusal_of(error)),
+    }
+}
+
 fn write_bytes<W: Write>(writer: &mut W, bytes: &[u8]) -> Result<(), Refusal>
     ensures written { OnOk result (Appends (W.contents writer.old) (W.contents writer.new) bytes.now) }
     ensures fails { IfErr result (λ e. e ≡ Refusal.Write) }
@@ -129,12 +143,11 @@ pub(crate) fn write_member<W: Write>(
 }
 
 // Writes what ends an archive, and flushes.
-fn write_last<W: Write>(alloc: Global, writer: &mut W) -> Result<(), Refusal>
-    ensures written { OnOk result (Appends (W.contents writer.old) (W.contents writer.new) archive_end) }
+fn write_last<W: Write>(writer: &mut W, end: &[u8]) -> Result<(), Refusal>
+    ensures written { OnOk result (Appends (W.contents writer.old) (W.contents writer.new) end.now) }
     ensures fails { IfErr result FailsSending }
 {
-    let last = archive_end(alloc)?;
-    write_bytes(writer, &last)?;
+    write_bytes(writer, end)?;
     writer.flush().map_err(|_| Refusal::Write)
 }
 
@@ -270,17 +283,15 @@ impl<D: SectorDevice> Store<D> {
         requires within { AreWithin tables.now }
         ensures sent { OnOk result ((streams : List (List ℕ)) × AreSent D.tells (shown_image (now (D.story (device_of self.old)))) (listed_in self.old)
             (lacked_by (λ (x : Located). x.digest) had.now (flat_map located_in (map plain_listed tables.now))) streams
-            × Appends (W.contents writer.old) (W.contents writer.new) (archive_of (commit_of self.old).epoch (map plain_listed tables.now) streams)) }
+            × Appends (W.contents writer.old) (W.contents writer.new) (archive_of Two (commit_of self.old).epoch (map plain_listed tables.now) streams)) }
         ensures awake { IfErr result (λ e. e ≢ Refusal.Halted) }
         ensures reads { OnlyReadsStore D.size D.story D.failed D.tells (ended result) self.old self.new }
     {
         let items = lacked_items(alloc, had, &items_of(alloc, tables)?)?;
-        match archive_front(alloc, self.opened.commit.epoch, tables) {
-            Ok(front) => write_bytes(writer, &front)?,
-            Err(error) => return Err(refusal_of(error)),
-        }
+        let frame = frame_of(alloc, self.opened.commit.epoch, tables)?;
+        write_bytes(writer, &frame.front)?;
         self.send_items(alloc, &items, writer)?;
-        write_last(alloc, writer)
+        write_last(writer, &frame.end)
     }
 
     /// Returns the digest of each segment of all tables, in the order of the tables and of their rows, each once: the SHA-256 of its stream (FIPS 180-4).
@@ -300,8 +311,8 @@ impl<D: SectorDevice> Store<D> {
         digests_of(alloc, &tables)
     }
 
-    /// Writes an archive of all tables of the ruling commit, without the segments with the digests that its receiver has, and flushes: a POSIX tape archive
-    /// (docs/definitions/archive.md). Only reads the store. At most four segments and 4 MB of them, or one longer segment, are read
+    /// Writes an archive, of version 2, of all tables of the ruling commit, without the segments with the digests that its receiver has, and flushes: a POSIX
+    /// tape archive (docs/definitions/archive.md). Only reads the store. At most four segments and 4 MB of them, or one longer segment, are read
     /// ahead. A store without digests is read twice.
     ///
     /// # Errors

@@ -8,3 +8,4 @@ pub mod LackedLemmas
 pub mod WalkLemmas
 pub mod NamedLemmas
 pub mod FoundLemmas
+pub mod EndLemmas

@@ -7,3 +7,4 @@ pub mod inner
 pub mod Wanted
 pub mod Found
 pub mod Reading
+pub mod laws

@@ -8,6 +8,8 @@ use Rattle.arrow_schema.specs.Column.{PlainSchema}
 use Rattle.arrow_schema.specs.Limits.{IsWithinLimits}
 use Rattle.arrow_schema.specs.View.{schema_of}
 use Rattle.ipc_write.specs.Written.{schema_message, end_of_stream}
+use Rattle.table_archive.specs.declared.manifest.ArchiveVersion.{ArchiveVersion}
+use Rattle.table_archive.specs.declared.manifest.ArchiveVersion.TheVariants.{One, Two}
 use Rattle.table_archive.specs.declared.manifest.ListedSegment.{ListedSegment}
 use Rattle.table_archive.specs.declared.manifest.ListedTable.{ListedTable}
 
@@ -38,10 +40,15 @@ empty_stream schema = schema_message schema ++ end_of_stream
 abbrev pub number_member : (name : List ℕ) → ℕ → List Token
 number_member name n = key name ∷ number (decimal n) ∷ []
 
+abbrev pub number_of : ArchiveVersion → ℕ
+number_of One = 1
+number_of Two = 2
+
 -- the version of the form of an archive, the epoch of the commit that it was made of, and the number of tables
-abbrev pub first_tokens : (epoch tables : ℕ) → List Token
-first_tokens epoch tables =
-    begin_object ∷ [] ++ (number_member (codes "archive") 1 ++ (number_member (codes "epoch") epoch ++ (number_member (codes "tables") tables ++ end_object ∷ [])))
+abbrev pub first_tokens : ArchiveVersion → (epoch tables : ℕ) → List Token
+first_tokens version epoch tables =
+    begin_object ∷ []
+    ++ (number_member (codes "archive") (number_of version) ++ (number_member (codes "epoch") epoch ++ (number_member (codes "tables") tables ++ end_object ∷ [])))
 
 abbrev pub segment_tokens : ListedSegment → List Token
 segment_tokens s =
@@ -68,8 +75,8 @@ line tokens = print tokens ++ 10 ∷ []
 abbrev pub table_lines : List PlainListed → List ℕ
 table_lines tables = flat_map (λ t. line (table_tokens t)) tables
 
-unfoldable pub manifest : (epoch : ℕ) → List PlainListed → List ℕ
-manifest epoch tables = line (first_tokens epoch (length tables)) ++ table_lines tables
+unfoldable pub manifest : ArchiveVersion → (epoch : ℕ) → List PlainListed → List ℕ
+manifest version epoch tables = line (first_tokens version epoch (length tables)) ++ table_lines tables
 
 -- the schema of each table is within its limits
 abbrev pub AreWithin : List ListedTable → Type 0

@@ -1,13 +1,15 @@
-//! Archives of tables, as POSIX tape archives (`ustar`) that `tar` reads: `manifest.jsonl`, a member for each segment that is sent, and `end`.
+//! Archives of tables, as POSIX tape archives (`ustar`) that `tar` reads: `manifest.jsonl`, a member for each segment that is sent, and `end`, which has
+//! the digest of the manifest.
 //!
-//! The definition is `archive_of` (`specs/Archive.antt`, docs/definitions/archive.md). An archive is made in pieces: [`archive_front`] is the member of the
-//! manifest, [`segment_header`] and [`push_padding`] stand around the stream of each segment, and [`archive_end`] ends it. [`WantedDigests`] says which
+//! The definition is `archive_of` (`specs/Archive.antt`, docs/definitions/archive.md). An archive is made in pieces: [`archive_frame`] makes the member of
+//! the manifest and the end, and [`segment_header`] and [`push_padding`] stand around the stream of each segment between them. [`WantedDigests`] says which
 //! segments are sent, [`parse_digests`] reads which of them a receiver has, and [`typed_fields`] gives the texts of a table's fields. [`read_archive`] reads
 //! a whole archive in memory.
 //!
 //! ```
-//! output.write_all(&archive_front(alloc, epoch, &tables)?)?;
-//! output.write_all(&archive_end(alloc)?)?; // an archive without segments
+//! let frame = archive_frame(alloc, ArchiveVersion::Two, epoch, &tables)?;
+//! output.write_all(&frame.front)?;
+//! output.write_all(&frame.end)?; // an archive without segments
 //! ```
 #![tactic(auto)]
 
@@ -24,9 +26,9 @@ mod texts;
 mod wanted;
 mod whole;
 
-pub use archive::{ArchiveError, archive_end, archive_front, segment_header};
+pub use archive::{ArchiveError, ArchiveFrame, archive_frame, end_tells_manifest, segment_header};
 pub use digests::{DigestsError, parse_digests};
-pub use manifest::{ListedSegment, ListedTable};
+pub use manifest::{ArchiveVersion, ListedSegment, ListedTable};
 pub use reading::{Archive, ArchiveFault};
 pub use tar::push_padding;
 pub use texts::typed_fields;

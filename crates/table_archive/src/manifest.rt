@@ -4,7 +4,7 @@ ghost use Rattle.json.specs.Token.{begin_object, key, string};
 ghost use Rattle.hex.specs.Hex.{encode_lower};
 ghost use Rattle.arrow_schema.specs.Limits.{IsWithinLimits};
 ghost use Rattle.arrow_schema.specs.View.{schema_of};
-ghost use Rattle.table_archive.specs.Manifest.{plain_listed, empty_stream, number_member, first_tokens, segment_tokens, fields_member, segments_member, table_tokens, line, table_lines, manifest, AreWithin};
+ghost use Rattle.table_archive.specs.Manifest.{plain_listed, empty_stream, number_of, number_member, first_tokens, segment_tokens, fields_member, segments_member, table_tokens, line, table_lines, manifest, AreWithin};
 ghost use Rattle.table_archive.specs.inner.Written.{WritesAll};
 
 use crate::tar::push_bytes;
@@ -12,6 +12,26 @@ use arrow_schema::Schema;
 use ipc_write::{encode_schema, write_end};
 use json::Writer;
 use std::alloc::{AllocError, Global};
+
+/// The version of the form of an archive.
+#[derive(Clone, Copy, Debug, PartialEq, Eq)]
+pub enum ArchiveVersion {
+    /// Its last member has no bytes, so an alteration of the manifest may not be noticed.
+    One,
+    /// Its last member has the SHA-256 of the manifest.
+    Two,
+}
+
+impl ArchiveVersion {
+    fn number(self) -> u64
+        ensures { result ≡ number_of self }
+    {
+        match self {
+            ArchiveVersion::One => 1,
+            ArchiveVersion::Two => 2,
+        }
+    }
+}
 
 /// A segment as it is listed: the SHA-256 of its stream (FIPS 180-4), and the numbers of its bytes and its rows.
 #[derive(Clone, Copy)]
@@ -37,11 +57,16 @@ fn write_number(writer: &mut Writer, name: &str, number: u64) -> Result<(), Allo
     writer.u64(number)
 }
 
-fn write_first(writer: &mut Writer, epoch: u64, tables: u64) -> Result<(), AllocError>
-    ensures { WritesAll result writer.old writer.new (first_tokens epoch tables) }
+fn write_first(
+    writer: &mut Writer,
+    version: ArchiveVersion,
+    epoch: u64,
+    tables: u64,
+) -> Result<(), AllocError>
+    ensures { WritesAll result writer.old writer.new (first_tokens version epoch tables) }
 {
     writer.begin_object()?;
-    write_number(writer, "archive", 1)?;
+    write_number(writer, "archive", version.number())?;
     write_number(writer, "epoch", epoch)?;
     write_number(writer, "tables", tables)?;
     writer.end_object()
@@ -182,15 +207,16 @@ fn push_tables(alloc: Global, out: &mut Vec<u8>, tables: &[ListedTable]) -> Resu
 #[tactic(auto, unfolding(crate::specs::Manifest::manifest))]
 pub(crate) fn manifest_of(
     alloc: Global,
+    version: ArchiveVersion,
     epoch: u64,
     tables: &[ListedTable],
 ) -> Result<Vec<u8>, AllocError>
     requires { AreWithin tables.now }
-    ensures { IfOk result (λ text. text.items ≡ manifest epoch (map plain_listed tables.now)) }
+    ensures { IfOk result (λ text. text.items ≡ manifest version epoch (map plain_listed tables.now)) }
 {
     let mut text = Vec::new(alloc);
     let mut writer = Writer::new(Vec::new(alloc));
-    write_first(&mut writer, epoch, tables.len() as u64)?;
+    write_first(&mut writer, version, epoch, tables.len() as u64)?;
     push_line(&mut text, writer)?;
     push_tables(alloc, &mut text, tables)?;
     Ok(text)

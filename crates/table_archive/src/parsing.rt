@@ -4,7 +4,7 @@ ghost use Rattle.arrow_schema.specs.Limits.{IsWithinLimits};
 ghost use Rattle.arrow_schema.specs.View.{schema_of};
 ghost use Rattle.table_archive.specs.Manifest.{AreWithin};
 
-use crate::manifest::{ListedSegment, ListedTable};
+use crate::manifest::{ArchiveVersion, ListedSegment, ListedTable};
 use crate::members::HEADER_BYTES;
 use crate::reading::ArchiveFault;
 use crate::texts::typed_fields;
@@ -37,6 +37,15 @@ fn number_in(value: &Value, name: &str) -> Result<u64, ArchiveFault> {
     match value.get(name).and_then(Value::as_u64) {
         Some(number) => Ok(number),
         None => Err(ArchiveFault::NotAnArchive),
+    }
+}
+
+// Returns the version that the first line states. An archive of a later one is not read.
+fn version_in(first: &Value) -> Result<ArchiveVersion, ArchiveFault> {
+    match number_in(first, "archive")? {
+        1 => Ok(ArchiveVersion::One),
+        2 => Ok(ArchiveVersion::Two),
+        _ => Err(ArchiveFault::NotAnArchive),
     }
 }
 
@@ -121,19 +130,20 @@ fn tables_in(alloc: Global, count: u64, lines: &[u8]) -> Result<Vec<ListedTable>
     Ok(tables)
 }
 
-/// Reads the epoch and the tables of the manifest at the head of an archive, whatever its header is.
+/// Reads the version, the epoch and the tables of the manifest at the head of an archive, whatever its header is.
 pub(crate) fn manifest_in(
     alloc: Global,
     bytes: &[u8],
-) -> Result<(u64, Vec<ListedTable>), ArchiveFault>
-    ensures { IfOk result (λ manifest. AreWithin manifest.1.items) }
+) -> Result<(ArchiveVersion, u64, Vec<ListedTable>), ArchiveFault>
+    ensures { IfOk result (λ manifest. AreWithin manifest.2.items) }
 {
     let Some(text) = bytes.get(HEADER_BYTES..) else {
         return Err(ArchiveFault::NotAnArchive);
     };
     let (first, lines) = split_line(text)?;
     let value = value_of(alloc, first)?;
+    let version = version_in(&value)?;
     let epoch = number_in(&value, "epoch")?;
     let tables = tables_in(alloc, number_in(&value, "tables")?, lines)?;
-    Ok((epoch, tables))
+    Ok((version, epoch, tables))
 }

@@ -24,9 +24,9 @@ const SEGMENT: &str = "781f262941d3ee71fcb4ea29fe5cc11704133ebe336a5d717ffadb3be
 const OTHER: &str = "44c34489281c48be8b5c256fe77131aa0de1fa0a6eb9074740284ea57665390d";
 
 // With the segment, and without it.
-const WHOLE: &str = "fde745d64903bbbaecdee1778941307ee797726dc845e136154b6bc56ecf7024";
+const WHOLE: &str = "066ff1e616c2d970c949dd78edd706073caeb9a99570b496aa93e7555e7bd6fa";
 
-const LESS: &str = "48cb9f536d71a8651df5ec286307ecfffd4b69908782bdfac664c94d03f9cac5";
+const LESS: &str = "6fb3a6bef3e1a41151ce90ea999b8f4e4a8cef2e555999bf18f613aca2307921";
 
 // The same rows in both tables: two segments of one digest.
 const TWINS: Steps = &[

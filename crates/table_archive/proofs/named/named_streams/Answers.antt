@@ -1,6 +1,6 @@
-use Rattle.std.proofs.Common.{◌∙◌, ap, arith, take_all}
-use Rattle.table_archive.specs.Found.{Entry, stream_in, streams_in}
-use Rattle.table_archive.specs.inner.Named.{digest_with, digests_with, contents}
+use Rattle.std.proofs.Common.{ap}
+use Rattle.table_archive.specs.Found.{Entry, stream_in}
+use Rattle.table_archive.specs.inner.Named.{digest_with, contents}
 use Rattle.table_archive.proofs.NamedLemmas.{one_more}
 use Rattle.table_archive.proofs.named.named_streams.Goals as goal
 

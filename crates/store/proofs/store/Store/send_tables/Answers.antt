@@ -3,7 +3,7 @@ use Rattle.std.specs.Prelude.{flat_map}
 use Rattle.std.specs.Io.KnownBytes.{Appends}
 use Rattle.std.proofs.lemmas.Result.{on_ok_weaker}
 use Rattle.sector_dev.specs.Disk.{now, shown_image}
-use Rattle.table_archive.specs.Archive.{lacked_by, segment_member, archive_end}
+use Rattle.table_archive.specs.Archive.{lacked_by, segment_member}
 use Rattle.store.specs.declared.sending.Item.{Item}
 use Rattle.store.specs.Fits.{listed_in}
 use Rattle.store.specs.Sending.{Located, AreSent}
@@ -19,7 +19,7 @@ returns-clause-sent g c =
     let had = c.args.had.now in
     let sent = c.in_ok-send_items.ensures.sent in
     let items =
-    ap (map plain_item) c.deref-2.ensures.value ∙ c.in_ok-items.ensures.lacked
+    ap (map plain_item) c.deref-3.ensures.value ∙ c.in_ok-items.ensures.lacked
     ∙ ap (λ (xs : List Item). lacked_by (λ (x : Located). x.digest) had (map plain_item xs)) c.deref.ensures.value
     ∙ ap (lacked_by (λ (x : Located). x.digest) had) c.in_ok-items_of.ensures.items in
     on_ok_weaker c.write_last.result (λ last. (
@@ -27,7 +27,8 @@ returns-clause-sent g c =
       subst (λ (xs : List Located). AreSent D.tells (shown_image (now (D.story first.device))) (listed_in first) xs sent.0) items sent.1,
       whole_written (W.contents c.args.writer.now) (W.contents c.write_bytes.new.writer) (W.contents c.send_items.new.writer)
           (W.contents c.write_last.new.writer) _
-          (flat_map segment_member sent.0) archive_end
-          (subst (Appends (W.contents c.args.writer.now) (W.contents c.write_bytes.new.writer)) (c.deref-in-Ok.ensures.value ∙ c.in-Ok.ensures.front)
-          c.in_ok-write_bytes-in-Ok.ensures.written) sent.2 last,
+          (flat_map segment_member sent.0) _
+          (subst (Appends (W.contents c.args.writer.now) (W.contents c.write_bytes.new.writer)) (c.deref-2.ensures.value ∙ c.in_ok-frame.ensures.front)
+          c.in_ok-write_bytes.ensures.written) sent.2
+          (subst (Appends (W.contents c.send_items.new.writer) (W.contents c.write_last.new.writer)) (c.deref-4.ensures.value ∙ c.in_ok-frame.ensures.end) last),
     )) c.write_last.ensures.written
