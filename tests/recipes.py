@@ -102,10 +102,21 @@ def words_of_page(begin):
     return found
 
 
+def open_mark(line, mark):
+    """The quotation mark of the shell that is open behind a line, if any, where this one was open before it."""
+    escaped = False
+    for letter in line:
+        if escaped or (letter == "\\" and mark != "'"):
+            escaped = not escaped
+        elif letter in "'\"" and mark in ("", letter):
+            mark = "" if mark else letter
+    return mark
+
+
 def with_steps(text):
     """The script with a step behind each line that ends a command, and not within a text, a document or a pipe. A command that fails ends it, as it ends the
     scripts that say so themselves: a step does not hide its status."""
-    lines, made, within, document = text.splitlines(), ["set -e"], False, None
+    lines, made, mark, document = text.splitlines(), ["set -e"], "", None
     for number, line in enumerate(lines):
         made.append(line)
         if document:
@@ -115,8 +126,8 @@ def with_steps(text):
         elif "<<" in line:
             document = re.search(r"<<'?(\w+)'?", line).group(1)
             continue
-        within ^= line.replace('\\"', "").count('"') % 2 == 1
-        if within or line.startswith("#") or re.search(r"(\\|\||&&)$", line):
+        mark = "" if line.startswith("#") else open_mark(line, mark)
+        if mark or line.startswith("#") or re.search(r"(\\|\||&&)$", line):
             continue
         tried = "\n".join([*made, "step", *lines[number + 1 :], ""])
         if subprocess.run(["sh", "-n"], input=tried, text=True, capture_output=True).returncode == 0:
