@@ -49,9 +49,9 @@ STOP = "kill -9 0\n"
 # Stands in the place of a tool: one of the calls of tools fails, as that of one that is killed for want of memory.
 TOOL = """#!/bin/sh
 calls=${{0%/*}}/../steps/calls
-read -r count < "$calls"
-count=$((count + 1))
-echo $count > "$calls"
+count=1
+set -C
+until {{ true > "$calls/$count"; }} 2> /dev/null; do count=$((count + 1)); done
 [ $count != "$FAIL_AT" ] || exit 9
 exec {tool} "$@"
 """
@@ -196,7 +196,8 @@ class Room:
 
     def begin(self, recipe, at=0, act="", failing=0):
         self.write("steps/count", "0")
-        self.write("steps/calls", "0")
+        shutil.rmtree(self.path("steps/calls"), ignore_errors=True)
+        os.mkdir(self.path("steps/calls"))
         self.write("steps/act", act)
         words = ["sh", f"steps/{recipe.name}", *recipe.words(self)]
         environment = {**self.environment, "STEP_AT": str(at), "FAIL_AT": str(failing)}
@@ -1136,7 +1137,7 @@ class Played:
         """One of the calls of tools fails, and so does the script, unless what it is for is done. Nothing is lost then, and the next run does it."""
         room.watch_tools()
         status, said = room.play(self.recipe, failing=call)
-        calls = int(room.read("steps/calls"))
+        calls = len(os.listdir(room.path("steps/calls")))
         wrong = self.recipe.held(room, False) if status else self.recipe.done(room, False)
         if status and not wrong:
             self.recipe.before_again(room)
