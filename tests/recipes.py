@@ -50,9 +50,9 @@ STOP = "kill -9 0\n"
 # Stands in the place of a tool: one of the calls of tools fails, as that of one that is killed for want of memory.
 TOOL = """#!/bin/sh
 calls=${{0%/*}}/../steps/calls
-read -r count < "$calls"
-count=$((count + 1))
-echo $count > "$calls"
+count=1
+set -C
+until {{ true > "$calls/$count"; }} 2> /dev/null; do count=$((count + 1)); done
 [ $count != "$FAIL_AT" ] || exit 9
 exec {tool} "$@"
 """
@@ -103,10 +103,21 @@ def words_of_page(begin):
     return found
 
 
+def open_mark(line, mark):
+    """The quotation mark of the shell that is open behind a line, if any, where this one was open before it."""
+    escaped = False
+    for letter in line:
+        if escaped or (letter == "\\" and mark != "'"):
+            escaped = not escaped
+        elif letter in "'\"" and mark in ("", letter):
+            mark = "" if mark else letter
+    return mark
+
+
 def with_steps(text):
     """The script with a step behind each line that ends a command, and not within a text, a document or a pipe. A command that fails ends it, as it ends the
     scripts that say so themselves: a step does not hide its status."""
-    lines, made, within, document = text.splitlines(), ["set -e"], False, None
+    lines, made, mark, document = text.splitlines(), ["set -e"], "", None
     for number, line in enumerate(lines):
         made.append(line)
         if document:
@@ -116,8 +127,8 @@ def with_steps(text):
         elif "<<" in line:
             document = re.search(r"<<'?(\w+)'?", line).group(1)
             continue
-        within ^= line.replace('\\"', "").count('"') % 2 == 1
-        if within or line.startswith("#") or re.search(r"(\\|\||&&)$", line):
+        mark = "" if line.startswith("#") else open_mark(line, mark)
+        if mark or line.startswith("#") or re.search(r"(\\|\||&&)$", line):
             continue
         tried = "\n".join([*made, "step", *lines[number + 1 :], ""])
         if subprocess.run(["sh", "-n"], input=tried, text=True, capture_output=True).returncode == 0:
@@ -186,7 +197,8 @@ class Room:
 
     def begin(self, recipe, at=0, act="", failing=0):
         self.write("steps/count", "0")
-        self.write("steps/calls", "0")
+        shutil.rmtree(self.path("steps/calls"), ignore_errors=True)
+        os.mkdir(self.path("steps/calls"))
         self.write("steps/act", act)
         words = ["sh", f"steps/{recipe.name}", *recipe.words(self)]
         environment = {**self.environment, "STEP_AT": str(at), "FAIL_AT": str(failing)}
@@ -1126,7 +1138,7 @@ class Played:
         """One of the calls of tools fails, and so does the script, unless what it is for is done. Nothing is lost then, and the next run does it."""
         room.watch_tools()
         status, said = room.play(self.recipe, failing=call)
-        calls = int(room.read("steps/calls"))
+        calls = len(os.listdir(room.path("steps/calls")))
         wrong = self.recipe.held(room, False) if status else self.recipe.done(room, False)
         if status and not wrong:
             self.recipe.before_again(room)
