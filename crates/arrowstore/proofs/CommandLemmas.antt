@@ -11,9 +11,9 @@ use Rattle.clap.specs.declared.parser.matches.ArgMatches.TheViews.{out-ArgMatche
 use Rattle.clap.specs.declared.parser.matches.SubCommand.{SubCommand}
 use Rattle.clap.proofs.OnLiterals.{clap_on_literals}
 use Rattle.arrowstore.specs.Arguments.{program_command, have_extra_words, AreRecode, AskForHelp}
-use Rattle.cli_texts.specs.declared.status.Status.{Status}
-use Rattle.cli_texts.specs.declared.status.Status.TheVariants.{Done}
-use Rattle.cli_texts.specs.Reported.{IsRequest, IsWrong, status_code}
+use Rattle.cli_reports.specs.declared.status.Status.{Status}
+use Rattle.cli_reports.specs.declared.status.Status.TheVariants.{Done}
+use Rattle.cli_reports.specs.Reported.{IsRequest, IsWrong, status_code}
 use Rattle.arrowstore.proofs.ArgumentLemmas.{judged, is_help, is_version}
 
 recode_taken : (name : Text) → takes program_command (name ∷ codes "recode" ∷ []) ≡ true

@@ -5,9 +5,9 @@ use Rattle.std.proofs.lemmas.Result.{IfErr-at_err}
 use Rattle.sector_dev.specs.declared.device.SectorDevice.{Ghosts}
 use Rattle.sector_dev.specs.declared.file.FileError.TheVariants as files
 use Rattle.store.specs.declared.store.Store.{Store}
-use Rattle.cli_refusals.specs.declared.refusal.Refusal.{Refusal}
-use Rattle.cli_refusals.specs.declared.refusal.Refusal.TheVariants.{Io}
-use Rattle.cli_refusals.specs.declared.refusal.Side.TheVariants.{File}
+use Rattle.cli_reports.specs.declared.refusal.Refusal.{Refusal}
+use Rattle.cli_reports.specs.declared.refusal.Refusal.TheVariants.{Io}
+use Rattle.cli_reports.specs.declared.refusal.Side.TheVariants.{File}
 use Rattle.arrowstore.specs.OnFiles.{FailsToCopy}
 use Rattle.arrowstore.proofs.FileLemmas.{of_places}
 

@@ -3,21 +3,21 @@ use Rattle.std.proofs.Common.{◌≡◌, ℕ, List, Option, refl, sym, subst, in
 use Rattle.std.specs.Prelude.{◌≢◌, Some, None, Result, Ok, Err, IsOk, IsTrue, IfErr, OnOk}
 use Rattle.std.specs.Io.KnownBytes.{Appends}
 use Rattle.std.proofs.lemmas.Result.{IfErr-weaker}
-use Rattle.cli_refusals.specs.declared.hint.Hint.{Hint}
-use Rattle.cli_refusals.specs.declared.refusal.Refusal.{Refusal}
-use Rattle.cli_refusals.specs.declared.refusal.Refusal.TheVariants.{Io, OutOfMemory}
-use Rattle.cli_refusals.specs.declared.refusal.Side.TheVariants.{Output}
-use Rattle.cli_refusals.specs.declared.known.Known.{Known}
-use Rattle.cli_refusals.specs.Known.{unchanging}
-use Rattle.cli_texts.specs.declared.status.Ended.{Ended}
-use Rattle.cli_texts.specs.declared.status.Status.{Status}
-use Rattle.cli_texts.specs.declared.status.Status.TheVariants.{Done, PartlyDone, Refused, WrongArguments}
+use Rattle.cli_reports.specs.declared.hint.Hint.{Hint}
+use Rattle.cli_reports.specs.declared.refusal.Refusal.{Refusal}
+use Rattle.cli_reports.specs.declared.refusal.Refusal.TheVariants.{Io, OutOfMemory}
+use Rattle.cli_reports.specs.declared.refusal.Side.TheVariants.{Output}
+use Rattle.cli_reports.specs.declared.known.Known.{Known}
+use Rattle.cli_reports.specs.Known.{unchanging}
+use Rattle.cli_reports.specs.declared.status.Ended.{Ended}
+use Rattle.cli_reports.specs.declared.status.Status.{Status}
+use Rattle.cli_reports.specs.declared.status.Status.TheVariants.{Done, PartlyDone, Refused, WrongArguments}
 use Rattle.clap.specs.Words.{Text}
-use Rattle.cli_texts.specs.Ending.{IsOutput, IsOfOutput, GivesText, TellsRefusal, HasReported, HasReportedHint, HintsText}
-use Rattle.cli_texts.specs.Reported.{IfRefused}
-use Rattle.cli_texts.specs.Told.{told}
-use Rattle.cli_texts.specs.declared.warnings.Notes.{Notes}
-use Rattle.cli_texts.specs.declared.telling.Audience.{Audience}
+use Rattle.cli_reports.specs.Ending.{IsOutput, IsOfOutput, GivesText, TellsRefusal, HasReported, HasReportedHint, HintsText}
+use Rattle.cli_reports.specs.Reported.{IfRefused}
+use Rattle.cli_reports.specs.Told.{told}
+use Rattle.cli_reports.specs.declared.warnings.Notes.{Notes}
+use Rattle.cli_reports.specs.declared.telling.Audience.{Audience}
 use Rattle.cli_commands.specs.Recode.{IsTrueFault}
 use Rattle.arrowstore.specs.OnFiles.{WritesPart}
 use Rattle.arrowstore.specs.Running.{Recodes, MayHint}

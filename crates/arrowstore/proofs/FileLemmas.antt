@@ -17,21 +17,21 @@ use Rattle.sector_dev.specs.declared.file.TheConstants.{LEAST_SECTORS, MOST_SECT
 use Rattle.sector_dev.specs.declared.file.FileError.TheVariants as files
 use Rattle.commit.specs.Standing.{is_size}
 use Rattle.commit.specs.declared.sector.FormatVersion.{FormatVersion}
-use Rattle.cli_refusals.specs.declared.refusal.Refusal.{Refusal}
-use Rattle.cli_refusals.specs.declared.refusal.Refusal.TheVariants.{Io, Opening, Store}
+use Rattle.cli_reports.specs.declared.refusal.Refusal.{Refusal}
+use Rattle.cli_reports.specs.declared.refusal.Refusal.TheVariants.{Io, Opening, Store}
 use Rattle.tables.specs.declared.refusal.Refusal as tables
-use Rattle.cli_refusals.specs.declared.refusal.Side.TheVariants.{Output}
-use Rattle.cli_refusals.specs.Refusals.{file_refusal}
-use Rattle.cli_texts.specs.declared.status.Status.TheVariants.{Done, PartlyDone}
-use Rattle.cli_texts.specs.declared.status.Ended.{Ended}
-use Rattle.cli_texts.specs.Ending.{HasReported, TellsRefusal}
-use Rattle.cli_texts.specs.LeftOut.{left_out_text}
-use Rattle.cli_texts.specs.Warnings.{TellsNotes}
-use Rattle.cli_texts.specs.declared.warnings.Notes.{Notes}
-use Rattle.cli_texts.specs.Reported.{IfRefused}
-use Rattle.cli_texts.specs.Told.{told}
-use Rattle.cli_texts.specs.declared.telling.Audience.{Audience}
-use Rattle.cli_refusals.specs.declared.known.Known.{Known}
+use Rattle.cli_reports.specs.declared.refusal.Side.TheVariants.{Output}
+use Rattle.cli_reports.specs.Refusals.{file_refusal}
+use Rattle.cli_reports.specs.declared.status.Status.TheVariants.{Done, PartlyDone}
+use Rattle.cli_reports.specs.declared.status.Ended.{Ended}
+use Rattle.cli_reports.specs.Ending.{HasReported, TellsRefusal}
+use Rattle.cli_reports.specs.LeftOut.{left_out_text}
+use Rattle.cli_reports.specs.Warnings.{TellsNotes}
+use Rattle.cli_reports.specs.declared.warnings.Notes.{Notes}
+use Rattle.cli_reports.specs.Reported.{IfRefused}
+use Rattle.cli_reports.specs.Told.{told}
+use Rattle.cli_reports.specs.declared.telling.Audience.{Audience}
+use Rattle.cli_reports.specs.declared.known.Known.{Known}
 use Rattle.cli_commands.specs.Archives.{IsOfSending}
 use Rattle.cli_commands.specs.Reading.{OfStore}
 use Rattle.cli_commands.specs.Salvaging.{IsBrokenOff}

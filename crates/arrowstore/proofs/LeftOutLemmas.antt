@@ -4,7 +4,7 @@ use Rattle.std.specs.Prelude.{Option}
 use Rattle.std.specs.Io.KnownBytes.{Appends}
 use Rattle.std.proofs.KnownBytes.{Appends-nil, Appends-trans}
 use Rattle.std.proofs.lemmas.List.{drop_all, drop_more}
-use Rattle.cli_texts.specs.LeftOut.{left_out_line, left_out_lines}
+use Rattle.cli_reports.specs.LeftOut.{left_out_line, left_out_lines}
 use Rattle.store.specs.Salvaging.{plain_left}
 use Rattle.store.specs.declared.salvaging.LeftOut.{LeftOut}
 

@@ -5,7 +5,7 @@ use Rattle.std.specs.Global.{Global}
 use Rattle.std.specs.Str.{bytes_eq}
 use Rattle.catalogue.specs.Entries.{PlainCatalogue, PlainEntry, row_count}
 use Rattle.catalogue.specs.Edits.{tables_of}
-use Rattle.cli_texts.specs.declared.notes.Note.{Note}
+use Rattle.cli_reports.specs.declared.notes.Note.{Note}
 use Rattle.arrowstore.specs.declared.notes.Counted.{Counted}
 use Rattle.arrowstore.specs.declared.open_command.OpenCommand.{OpenCommand}
 use Rattle.arrowstore.specs.Notes.{rows_of, IfCounted, IsCounted, IsNote, IsNoteOf}

@@ -11,7 +11,7 @@ use Rattle.tables.specs.Commands.{import_stream, append_stream}
 use Rattle.store.specs.declared.store.Store.{Store}
 use Rattle.store_runs.specs.Deciding.{has_entry}
 use Rattle.store.specs.Fits.{is_halted, listed_in}
-use Rattle.cli_refusals.specs.declared.refusal.Refusal.{Refusal}
+use Rattle.cli_reports.specs.declared.refusal.Refusal.{Refusal}
 use Rattle.cli_commands.specs.TextRows.{RefusesText}
 use Rattle.arrowstore.specs.declared.open_command.OpenCommand.{OpenCommand}
 use Rattle.arrowstore.specs.declared.open_command.OpenCommand.TheVariants as opened

@@ -4,7 +4,7 @@ use Rattle.std.specs.Str.{bytes_eq}
 use Rattle.std.proofs.lemmas.Slice.Eq.{bytes_eq-Decides}
 use Rattle.clap.specs.Words.{Text}
 use Rattle.arrowstore.specs.Arguments.{asks_topic, have_extra_words, AreRecode, AskForHelp, command}
-use Rattle.cli_texts.specs.OwnTexts.{is_own, asks_version, asks_refusals, asks_commands, is_version_word, is_refusals_topic, is_help_alone}
+use Rattle.cli_reports.specs.OwnTexts.{is_own, asks_version, asks_refusals, asks_commands, is_version_word, is_refusals_topic, is_help_alone}
 use Rattle.cli_requests.specs.StoreWords.{is_of_store, is_store_word, changes_word, makes_word, reads_word, changes_by_input_word, reads_table_word, reads_tables_word, is_help_word, ask_help_of_command}
 
 recode_of_none : (name : Text) (rest : List Text) → is_of_store (name ∷ codes "recode" ∷ rest) ≡ false

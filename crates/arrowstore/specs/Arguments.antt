@@ -2,7 +2,7 @@
 use Rattle.std.specs.Prelude.{◌≡◌, ◌⊎◌, ◌≤◌, ◌||◌, Bool, true, false, List, [], ◌∷◌, length, codes, Some, slice_get}
 use Rattle.std.specs.Str.{bytes_eq, chars}
 use Rattle.clap.specs.Words.{App, Text, new_app, with_subcommand}
-use Rattle.cli_texts.specs.OwnTexts.{is_own, is_version_word}
+use Rattle.cli_reports.specs.OwnTexts.{is_own, is_version_word}
 
 abbrev pub recode_command : App
 recode_command = new_app (codes "recode")

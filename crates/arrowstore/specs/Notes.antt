@@ -3,8 +3,8 @@ use Rattle.std.specs.Prelude.{◌≡◌, ◌+◌, ℕ, List, string_bytes, optio
 use Rattle.catalogue.specs.Entries.{PlainCatalogue, row_count}
 use Rattle.catalogue.specs.Edits.{entry_of}
 use Rattle.tables.specs.declared.command.Command.TheVariants as commands
-use Rattle.cli_texts.specs.declared.notes.Note.{Note}
-use Rattle.cli_texts.specs.declared.notes.Note.TheVariants as notes
+use Rattle.cli_reports.specs.declared.notes.Note.{Note}
+use Rattle.cli_reports.specs.declared.notes.Note.TheVariants as notes
 use Rattle.arrowstore.specs.declared.notes.RowChange.{RowChange}
 use Rattle.arrowstore.specs.declared.notes.RowChange.TheVariants.{Appends, Imports, Saves, Drops}
 use Rattle.arrowstore.specs.declared.notes.Counted.{Counted}

@@ -9,8 +9,8 @@ use Rattle.store.specs.Answering.{LeavesUnopened}
 use Rattle.store_runs.specs.Calls.{open_call, shut_by, counted}
 use Rattle.store.specs.Fits.{device_of, is_halted, listed_in, DeviceFits, FindsStore, Opens, Shuts}
 use Rattle.store_runs.specs.Machine.{Machine}
-use Rattle.cli_refusals.specs.declared.refusal.Refusal.{Refusal}
-use Rattle.cli_refusals.specs.declared.refusal.Refusal.TheVariants as refusals
+use Rattle.cli_reports.specs.declared.refusal.Refusal.{Refusal}
+use Rattle.cli_reports.specs.declared.refusal.Refusal.TheVariants as refusals
 use Rattle.arrowstore.specs.declared.open_command.OpenCommand.{OpenCommand}
 use Rattle.arrowstore.specs.Notes.{IsNoteOf}
 use Rattle.arrowstore.specs.Serving.{Channels, Serves, unnoted}

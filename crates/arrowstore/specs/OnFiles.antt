@@ -33,9 +33,9 @@ use Rattle.store.specs.Reading.{OnlyReadsStore}
 use Rattle.store.specs.Salvaging.{SalvagesAt, RefusesSalvage}
 use Rattle.store.specs.Sending.{SaysHalted, SendsAt}
 use Rattle.store.specs.Answering.{LeavesUnformatted}
-use Rattle.cli_refusals.specs.declared.refusal.Refusal.{Refusal}
-use Rattle.cli_refusals.specs.declared.refusal.Refusal.TheVariants as refusals
-use Rattle.cli_refusals.specs.declared.refusal.Side.TheVariants as sides
+use Rattle.cli_reports.specs.declared.refusal.Refusal.{Refusal}
+use Rattle.cli_reports.specs.declared.refusal.Refusal.TheVariants as refusals
+use Rattle.cli_reports.specs.declared.refusal.Side.TheVariants as sides
 use Rattle.tables.specs.declared.refusal.Refusal as tables
 use Rattle.table_archive.specs.Digests.{ListsDigests}
 use Rattle.table_archive.specs.Manifest.{PlainListed, plain_listed}
@@ -49,20 +49,20 @@ use Rattle.cli_commands.specs.Copying.{Copies}
 use Rattle.cli_commands.specs.Given.{IsWholeInput, RefusesInput}
 use Rattle.cli_commands.specs.Reading.{OfStore, refusal_ended, store_ended}
 use Rattle.cli_commands.specs.Salvaging.{IsBrokenOff}
-use Rattle.cli_refusals.specs.declared.hint.Hint.{Hint}
-use Rattle.cli_refusals.specs.declared.hint.Hint.TheVariants as hints
-use Rattle.cli_refusals.specs.declared.hint.Hinted.{Hinted}
-use Rattle.cli_refusals.specs.declared.known.Known.{Known}
-use Rattle.cli_refusals.specs.declared.hint.Hinted.TheVariants.{Part, Table}
-use Rattle.cli_texts.specs.Reported.{IsWrong}
-use Rattle.cli_texts.specs.Ending.{GivesSome, HasReported, HasReportedHint, HintsText, IsOutput}
-use Rattle.cli_texts.specs.Warnings.{both_notes}
-use Rattle.cli_texts.specs.declared.warnings.Notes.{Notes}
-use Rattle.cli_texts.specs.declared.warnings.Warning.{Warning}
-use Rattle.cli_texts.specs.declared.telling.Audience.{Audience}
-use Rattle.cli_texts.specs.declared.status.Ended.{Ended}
-use Rattle.cli_texts.specs.declared.status.Status.{Status}
-use Rattle.cli_texts.specs.declared.status.Status.TheVariants.{Done, PartlyDone, Refused}
+use Rattle.cli_reports.specs.declared.hint.Hint.{Hint}
+use Rattle.cli_reports.specs.declared.hint.Hint.TheVariants as hints
+use Rattle.cli_reports.specs.declared.hint.Hinted.{Hinted}
+use Rattle.cli_reports.specs.declared.known.Known.{Known}
+use Rattle.cli_reports.specs.declared.hint.Hinted.TheVariants.{Part, Table}
+use Rattle.cli_reports.specs.Reported.{IsWrong}
+use Rattle.cli_reports.specs.Ending.{GivesSome, HasReported, HasReportedHint, HintsText, IsOutput}
+use Rattle.cli_reports.specs.Warnings.{both_notes}
+use Rattle.cli_reports.specs.declared.warnings.Notes.{Notes}
+use Rattle.cli_reports.specs.declared.warnings.Warning.{Warning}
+use Rattle.cli_reports.specs.declared.telling.Audience.{Audience}
+use Rattle.cli_reports.specs.declared.status.Ended.{Ended}
+use Rattle.cli_reports.specs.declared.status.Status.{Status}
+use Rattle.cli_reports.specs.declared.status.Status.TheVariants.{Done, PartlyDone, Refused}
 use Rattle.cli_requests.specs.Asked.{request_word, changes, is_for_device}
 use Rattle.cli_requests.specs.Operands.{Names}
 use Rattle.cli_requests.specs.Right.{AreRightWords, IsReadFrom}

@@ -7,8 +7,8 @@ use Rattle.query.specs.View.{query_in}
 use Rattle.tables.specs.Commands as plain
 use Rattle.tables.specs.Commands.{PlainCommand}
 use Rattle.tables.specs.View.{command_of}
-use Rattle.cli_refusals.specs.declared.refusal.Refusal.{Refusal}
-use Rattle.cli_refusals.specs.declared.refusal.Refusal.TheVariants as refusals
+use Rattle.cli_reports.specs.declared.refusal.Refusal.{Refusal}
+use Rattle.cli_reports.specs.declared.refusal.Refusal.TheVariants as refusals
 use Rattle.cli_commands.specs.Changing.{StateSchema, RefusesFields}
 use Rattle.cli_commands.specs.Selecting.{stated_query, RefusesWords}
 use Rattle.cli_commands.specs.Unread.{RefusesImport, RefusesAppending, PassesImport, PassesAppending}

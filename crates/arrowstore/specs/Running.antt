@@ -5,16 +5,16 @@ use Rattle.ipc_message.specs.Header.{supported_codes}
 use Rattle.ipc_message.specs.declared.fault.Fault.{Fault}
 use Rattle.ipc_message.specs.declared.fault.Fault.TheVariants as faults
 use Rattle.ipc_stream.specs.Meaning.{meaning}
-use Rattle.cli_refusals.specs.declared.hint.Hint.{Hint}
-use Rattle.cli_refusals.specs.declared.hint.Hint.TheVariants as hints
-use Rattle.cli_refusals.specs.declared.refusal.Refusal.{Refusal}
-use Rattle.cli_refusals.specs.declared.refusal.Refusal.TheVariants as refusals
-use Rattle.cli_refusals.specs.declared.refusal.Side.TheVariants as sides
-use Rattle.cli_refusals.specs.declared.refusal.Refusal.TheVariants.{TooManyBytes}
-use Rattle.cli_texts.specs.declared.status.Status.{Status}
-use Rattle.cli_texts.specs.declared.status.Status.TheVariants.{Done, PartlyDone, Refused, WrongArguments}
-use Rattle.cli_texts.specs.Ending.{HintsText, IsOutput}
-use Rattle.cli_texts.specs.Reported.{IfRefused, IsRefused}
+use Rattle.cli_reports.specs.declared.hint.Hint.{Hint}
+use Rattle.cli_reports.specs.declared.hint.Hint.TheVariants as hints
+use Rattle.cli_reports.specs.declared.refusal.Refusal.{Refusal}
+use Rattle.cli_reports.specs.declared.refusal.Refusal.TheVariants as refusals
+use Rattle.cli_reports.specs.declared.refusal.Side.TheVariants as sides
+use Rattle.cli_reports.specs.declared.refusal.Refusal.TheVariants.{TooManyBytes}
+use Rattle.cli_reports.specs.declared.status.Status.{Status}
+use Rattle.cli_reports.specs.declared.status.Status.TheVariants.{Done, PartlyDone, Refused, WrongArguments}
+use Rattle.cli_reports.specs.Ending.{HintsText, IsOutput}
+use Rattle.cli_reports.specs.Reported.{IfRefused, IsRefused}
 use Rattle.cli_commands.specs.declared.input.TheConstants.{LARGEST_INPUT}
 use Rattle.cli_commands.specs.Recode.{AppendsCanonical, IsTrueFault}
 use Rattle.arrowstore.specs.Arguments.{AreRecode}

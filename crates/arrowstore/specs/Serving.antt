@@ -29,10 +29,10 @@ use Rattle.store.specs.Sending.{HasDigestsAt, SaysHalted}
 use Rattle.store.specs.Summary.{IsSummary}
 use Rattle.store.specs.Upgrading.{upgrade_ended}
 use Rattle.store.specs.declared.summary.Summary.{Summary}
-use Rattle.cli_refusals.specs.declared.hint.Hinted.{Hinted}
-use Rattle.cli_refusals.specs.declared.refusal.Refusal.{Refusal}
-use Rattle.cli_refusals.specs.declared.refusal.Refusal.TheVariants.{Io}
-use Rattle.cli_refusals.specs.declared.refusal.Side.TheVariants.{Output}
+use Rattle.cli_reports.specs.declared.hint.Hinted.{Hinted}
+use Rattle.cli_reports.specs.declared.refusal.Refusal.{Refusal}
+use Rattle.cli_reports.specs.declared.refusal.Refusal.TheVariants.{Io}
+use Rattle.cli_reports.specs.declared.refusal.Side.TheVariants.{Output}
 use Rattle.cli_commands.specs.Archives.{digests_text}
 use Rattle.cli_commands.specs.Changing.{Answered, AnswersCommand, AnswersInput, HandsSchema, RefusesHanding, RefusesTaken, StateSchema, is_listed}
 use Rattle.cli_commands.specs.Compacting.{Compacts}
@@ -45,7 +45,7 @@ use Rattle.query.specs.Printed.{rows_text}
 use Rattle.cli_commands.specs.TextRows.{HandsRows, RefusesText, IfOfText, IfHinted}
 use Rattle.cli_commands.specs.Typing.{HaveLines, RefusesTyping, lines_of, typed_texts}
 use Rattle.cli_commands.specs.Unread.{RefusesUnread, is_taken}
-use Rattle.cli_texts.specs.declared.notes.Note.{Note}
+use Rattle.cli_reports.specs.declared.notes.Note.{Note}
 use Rattle.arrowstore.specs.declared.notes.Remarks.{Remarks}
 use Rattle.arrowstore.specs.declared.open_command.OpenCommand.{OpenCommand}
 use Rattle.arrowstore.specs.declared.open_command.OpenCommand.TheVariants as opened

@@ -1,7 +1,7 @@
 // What is wrong with a refused word of the command line or with a line of a script, in sentences for a terminal.
 use crate::nearest_type::nearest_type;
 use arrow_schema::Field;
-use cli_refusals::{MOST_SHOWN, Refusal, Role, Word, has_unshown};
+use cli_reports::{MOST_SHOWN, Refusal, Role, Word, has_unshown};
 use cli_scripts::{ScriptLine, line_of, script_words};
 use field_texts::{ParseError, field_text, parse_fields};
 use query::{Condition, Test};

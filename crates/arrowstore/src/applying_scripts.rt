@@ -5,8 +5,8 @@ ghost use Rattle.arrowstore.specs.OnFiles.{AppliesScript, FailsToOpen, IsOpenedF
 use crate::named_input::read_named;
 use crate::serving::reserve_standard_descriptors;
 use cli_commands::apply_listed;
-use cli_refusals::{Refusal, Side};
 use cli_replay::script_commands;
+use cli_reports::{Refusal, Side};
 use cli_scripts::script_words;
 use sector_dev::{FileDevice, FileError, LockFile, SectorDevice, SystemFile};
 use std::fs::OpenFile;

@@ -1,6 +1,6 @@
 // Why no store can be made on a block device.
 use crate::in_place_of_store::is_size_of_store;
-use cli_refusals::{FailedFile, FileReason};
+use cli_reports::{FailedFile, FileReason};
 use cli_requests::StoreRequest;
 use sector_dev::SECTOR_BYTES;
 use std::fs::{self, OpenFile};

@@ -3,15 +3,14 @@ ghost use Rattle.std.specs.Prelude.{◌≡◌, ◌≢◌, true, false, map, code
 ghost use Rattle.clap.specs.Words.{app_of, kind_of, subcommand_name_of};
 ghost use Rattle.clap.specs.declared.error.kind.ErrorKind.TheVariants.{OutOfMemory, UnknownArgument};
 ghost use Rattle.arrowstore.specs.Arguments.{asks_topic, program_command, have_extra_words, AreRecode, AskForHelp};
-ghost use Rattle.cli_texts.specs.Ending.{GivesSome, IsOfOutput};
-ghost use Rattle.cli_texts.specs.Reported.{IsRequest};
+ghost use Rattle.cli_reports.specs.Ending.{GivesSome, IsOfOutput};
+ghost use Rattle.cli_reports.specs.Reported.{IsRequest};
 
 use crate::other_topic::{help_command, unknown_topic};
 use clap::error::ErrorKind;
 use clap::{ArgMatches, Command, Error};
-use cli_refusals::{Refusal, Side, has_entry};
+use cli_reports::{Refusal, Side, abouts, has_entry, help_page, is_version_word, write_entry};
 use cli_requests::{ask_help_of_command, cli_commands, help_of_command};
-use cli_texts::{abouts, help_page, is_version_word, write_entry};
 use std::alloc::{AllocError, Global};
 use std::convert::AsStr;
 use std::io::Write;

@@ -6,7 +6,7 @@ ghost use Rattle.arrowstore.specs.OnFiles.{IsOpenedFile, OpensStore, FailsToOpen
 use crate::made_file::MadeFile;
 use crate::serving::{device_to_read, format_new, remove_on_error, reserve_standard_descriptors};
 use cli_commands::copy_tables;
-use cli_refusals::{Refusal, Side, write_whole};
+use cli_reports::{Refusal, Side, write_whole};
 use sector_dev::{FileDevice, LockFile, SectorDevice, SystemFile};
 use std::alloc::Global;
 use std::fs::{OpenFile, OpenOptions};

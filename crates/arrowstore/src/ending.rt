@@ -1,15 +1,16 @@
 // Reports how a request of a store ended.
 ghost use Rattle.std.specs.Prelude.{◌≡◌, ◌≢◌, IsTrue, OnOk};
 ghost use Rattle.std.specs.Io.KnownBytes.{Appends};
-ghost use Rattle.cli_texts.specs.Ending.{TellsRefusal};
-ghost use Rattle.cli_texts.specs.LeftOut.{left_out_lines, left_out_text};
-ghost use Rattle.cli_texts.specs.Told.{told};
-ghost use Rattle.cli_texts.specs.Warnings.{TellsNotes};
+ghost use Rattle.cli_reports.specs.Ending.{TellsRefusal};
+ghost use Rattle.cli_reports.specs.LeftOut.{left_out_lines, left_out_text};
+ghost use Rattle.cli_reports.specs.Told.{told};
+ghost use Rattle.cli_reports.specs.Warnings.{TellsNotes};
 ghost use Rattle.store.specs.Salvaging.{plain_left};
 ghost use Rattle.arrowstore.specs.OnFiles.{status_of};
 
-use cli_refusals::{Known, Refusal};
-use cli_texts::{Audience, Ended, Notes, Status, end, tell_lacking, tell_left_out, tell_notes};
+use cli_reports::{
+    Audience, Ended, Known, Notes, Refusal, Status, end, tell_lacking, tell_left_out, tell_notes,
+};
 use std::alloc::Global;
 use std::io::{self, Write};
 use store::LeftOut;

@@ -8,7 +8,7 @@ ghost use Rattle.cli_requests.specs.Asked.{is_for_device};
 ghost use Rattle.arrowstore.specs.OnFiles.{IsBlockDevice, IsOpenedFile, FormatsDevice, RefusesFormat};
 
 use crate::serving::{format_file, format_on, reserve_standard_descriptors};
-use cli_refusals::{Refusal, Side, write_whole};
+use cli_reports::{Refusal, Side, write_whole};
 use cli_requests::StoreRequest;
 use commit::FormatVersion;
 use sector_dev::{

@@ -1,7 +1,7 @@
 // What is found at the path of a store if it is neither a regular file nor a block device, or has a length that is not that of its store.
 use crate::other_length::reason_of_other_length;
 use crate::serving::has_sectors;
-use cli_refusals::{FailedFile, FileReason};
+use cli_reports::{FailedFile, FileReason};
 use cli_requests::StoreRequest;
 use sector_dev::{LEAST_SECTORS, MOST_SECTORS, SECTOR_BYTES};
 use std::fs::{self, OpenFile};

@@ -4,7 +4,7 @@ ghost use Rattle.arrowstore.specs.OnFiles.{hinted_of};
 
 use crate::copying_files::open_to_read;
 use arrow_schema::{Field, Schema, same_shape};
-use cli_refusals::Hint;
+use cli_reports::Hint;
 use cli_requests::{StoreCommand, StoreRequest};
 use field_texts::field_text;
 use ipc_message::{

@@ -2,7 +2,7 @@
 ghost use Rattle.std.specs.Prelude.{◌≡◌};
 
 use crate::open_quotation::QuotationWatch;
-use cli_texts::{Audience, failure_of};
+use cli_reports::{Audience, failure_of};
 use std::alloc::Global;
 use std::io::{self, Read};
 

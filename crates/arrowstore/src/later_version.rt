@@ -1,7 +1,7 @@
 // Finds whether a file has a store of a version that this program does not know, which it takes for none.
 use crate::in_place_of_store::store_of;
 use crate::other_length::first_sectors;
-use cli_refusals::{FailedFile, FileReason};
+use cli_reports::{FailedFile, FileReason};
 use cli_requests::StoreRequest;
 use commit::FormatVersion;
 use sector_dev::SECTOR_BYTES;

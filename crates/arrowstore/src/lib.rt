@@ -1,8 +1,8 @@
 //! The program `arrowstore` over any reader and writers: its contracts say which bytes are read and written.
 //!
 //! [`run_with_files`] executes a command line; the crate `program` passes it the process's arguments, streams and files. [`run`] does the same
-//! without files. `cli_commands` has the commands, `cli_requests` parses the command lines of stores, `cli_texts` reports how a run ended, and
-//! `cli_refusals` explains why a command was refused.
+//! without files. `cli_commands` has the commands, `cli_requests` parses the command lines of stores, and `cli_reports` reports
+//! how a run ended and why a command was refused.
 //!
 //! ```
 //! let arguments = ["arrowstore", "recode"];
@@ -53,7 +53,7 @@ mod warnings;
 mod with_files;
 mod writing_streams;
 
-pub use cli_texts::{
+pub use cli_reports::{
     Audience, Ended, Output, ShownOutput, WatchedOutput, report_stream_to_terminal,
     report_unreadable_arguments,
 };

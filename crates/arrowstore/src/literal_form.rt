@@ -1,5 +1,5 @@
 // What of the literal of a condition may not have been meant.
-use cli_texts::LiteralForm;
+use cli_reports::LiteralForm;
 
 // SQL and JSON have texts in such marks.
 fn is_marked(literal: &str) -> bool {

@@ -3,8 +3,8 @@ ghost use Rattle.std.specs.Prelude.{◌≡◌, false, IfOk, IfErr};
 ghost use Rattle.arrowstore.specs.OnFiles.{IsNamedInput, RefusesReading, is_input};
 
 use cli_commands::read_input;
-use cli_refusals::Refusal;
 use cli_replay::read_whole_file;
+use cli_reports::Refusal;
 use std::alloc::Global;
 use std::fs::OpenFile;
 use std::io::Read;

@@ -5,8 +5,7 @@ ghost use Rattle.store.specs.Fits.{listed_in};
 ghost use Rattle.arrowstore.specs.Notes.{rows_of, IfCounted, IsCounted, IsNote};
 
 use crate::OpenCommand;
-use cli_refusals::Hinted;
-use cli_texts::Note;
+use cli_reports::{Hinted, Note};
 use sector_dev::SectorDevice;
 use std::alloc::Global;
 use store::Store;

@@ -9,7 +9,7 @@ ghost use Rattle.cli_requests.specs.StoreWords.{takes_input_word};
 ghost use Rattle.arrowstore.specs.OpenCommands.{query_stated, StatesTable, StatesSaving, States, RefusesStating, reads_input};
 
 use cli_commands::{DeviceKind, drop_table, new_table, query_of, rename_table};
-use cli_refusals::Refusal;
+use cli_reports::Refusal;
 use cli_requests::{QueryWords, StoreCommand};
 use query::{Query, RowForm};
 use std::alloc::Global;

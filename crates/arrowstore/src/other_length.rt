@@ -1,6 +1,6 @@
 // Finds which length the file of a store should have, if it has another one: the commit sectors say so, and are at the start of a file of any length.
 use crate::in_place_of_store::is_size_of_store;
-use cli_refusals::{FileReason, OtherLength};
+use cli_reports::{FileReason, OtherLength};
 use commit::read_ruling;
 use sector_dev::{ModelDevice, SECTOR_BYTES, SectorDevice};
 use std::alloc::Global;

@@ -5,7 +5,7 @@ ghost use Rattle.clap.specs.declared.error.kind.ErrorKind.TheVariants.{InvalidSu
 
 use clap::error::ErrorKind;
 use clap::{Arg, Command, Error};
-use cli_refusals::codes_with_entries;
+use cli_reports::codes_with_entries;
 use std::alloc::{AllocError, Global};
 
 /// Makes the command `help`, as messages show it.

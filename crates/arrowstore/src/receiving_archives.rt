@@ -6,7 +6,7 @@ ghost use Rattle.arrowstore.specs.OnFiles.{IsOpenedFile, ReceivesArchive};
 use crate::applying_scripts::open_to_change;
 use crate::serving::reserve_standard_descriptors;
 use cli_commands::{archive_in, read_input, receive_archive};
-use cli_refusals::{Refusal, Side};
+use cli_reports::{Refusal, Side};
 use sector_dev::{FileDevice, LockFile, SectorDevice, SystemFile};
 use std::alloc::Global;
 use std::fs::OpenFile;

@@ -1,6 +1,6 @@
 // The line on which a refused record of a CSV text begins, in a sentence for a terminal.
 use crate::csv_place::{Place, UTF_8_MARK, next_place};
-use cli_refusals::Refusal;
+use cli_reports::Refusal;
 use cli_requests::{StoreCommand, StoreRequest};
 use std::alloc::Global;
 use text_import::TextForm;

@@ -2,8 +2,8 @@
 ghost use Rattle.std.specs.Prelude.{◌≡◌, ◌≢◌, IfErr};
 ghost use Rattle.arrowstore.specs.OnFiles.{Replays};
 
-use cli_refusals::{Refusal, Side};
 use cli_replay::{Faults, replay};
+use cli_reports::{Refusal, Side};
 use cli_requests::ReplayWords;
 use sector_dev::{ModelDevice, SectorDevice};
 use std::fs::OpenFile;

@@ -7,7 +7,7 @@ ghost use Rattle.arrowstore.specs.OnFiles.{IsOpenedFile, SalvagesFile};
 use crate::copying_files::open_to_read;
 use crate::serving::reserve_standard_descriptors;
 use cli_commands::salvage_table;
-use cli_refusals::Refusal;
+use cli_reports::Refusal;
 use sector_dev::{FileDevice, LockFile, SectorDevice, SystemFile};
 use std::fs::OpenFile;
 use std::io::{Read, Seek, Write};

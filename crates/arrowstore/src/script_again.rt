@@ -4,7 +4,7 @@ use crate::asking_again::{AskedAgain, Served};
 use crate::kept_start::MOST_KEPT;
 use crate::streams_again::FoundOfStreams;
 use cli_commands::lacks_end;
-use cli_refusals::{FailedFile, FileReason};
+use cli_reports::{FailedFile, FileReason};
 use cli_requests::StoreRequest;
 use cli_scripts::{ScriptLine, line_of, script_words};
 use std::alloc::Global;

@@ -7,7 +7,7 @@ use crate::copying_files::open_to_read;
 use crate::named_input::read_named;
 use crate::serving::reserve_standard_descriptors;
 use cli_commands::{read_digests, send_archive};
-use cli_refusals::Refusal;
+use cli_reports::Refusal;
 use sector_dev::{FileDevice, LockFile, SectorDevice, SystemFile};
 use std::alloc::Global;
 use std::fs::OpenFile;

@@ -22,7 +22,7 @@ use crate::serving_device::serve_device;
 use crate::waiting_input::serve_waiting;
 use crate::{Input, Remarks};
 use cli_commands::DeviceKind;
-use cli_refusals::{Refusal, Side, write_whole};
+use cli_reports::{Refusal, Side, write_whole};
 use cli_requests::{StoreCommand, StoreRequest};
 use commit::FormatVersion;
 use sector_dev::{FileDevice, FileError, LockFile, ModelDevice, SectorDevice, SystemFile};

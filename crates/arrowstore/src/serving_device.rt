@@ -7,7 +7,7 @@ ghost use Rattle.arrowstore.specs.Serving.{remarked};
 use crate::notes::{count_before, note_after};
 use crate::serving_open::serve_open;
 use crate::{OpenCommand, Remarks};
-use cli_refusals::{Refusal, Side};
+use cli_reports::{Refusal, Side};
 use sector_dev::SectorDevice;
 use std::alloc::Global;
 use std::io::{Read, Write};

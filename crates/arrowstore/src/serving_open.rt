@@ -9,7 +9,7 @@ use cli_commands::{
     create_like, export_table, import_complete, import_input, import_new, list_digests,
     print_fields, print_schema, print_selection, print_summary, print_tables, upgrade_store,
 };
-use cli_refusals::{Hinted, Refusal, Side};
+use cli_reports::{Hinted, Refusal, Side};
 use sector_dev::SectorDevice;
 use std::alloc::Global;
 use std::io::{Read, Write};

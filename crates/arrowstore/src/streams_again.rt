@@ -2,16 +2,18 @@
 ghost use Rattle.std.specs.Prelude.{◌≡◌, Option, None, Some, IfSome, IfErr, IsOk, IsTrue};
 ghost use Rattle.arrowstore.specs.OnFiles.{hinted_of};
 ghost use Rattle.arrowstore.specs.Running.{HintsRecode, IsFoundFor};
-ghost use Rattle.cli_refusals.specs.Known.{unchanging};
-ghost use Rattle.cli_refusals.specs.declared.hint.Hint.{Hint};
-ghost use Rattle.cli_refusals.specs.declared.refusal.Refusal.{Refusal};
-ghost use Rattle.cli_texts.specs.Ending.{TellsRefusal};
-ghost use Rattle.cli_texts.specs.Told.{audience_after_output, told};
+ghost use Rattle.cli_reports.specs.Known.{unchanging};
+ghost use Rattle.cli_reports.specs.declared.hint.Hint.{Hint};
+ghost use Rattle.cli_reports.specs.declared.refusal.Refusal.{Refusal};
+ghost use Rattle.cli_reports.specs.Ending.{TellsRefusal};
+ghost use Rattle.cli_reports.specs.Told.{audience_after_output, told};
 
 use crate::Input;
 use crate::input_again::field_with_fault;
-use cli_refusals::{Hint, Refusal, Side};
-use cli_texts::{Audience, Ended, Output, Status, audience_after_output, end_output, system_text};
+use cli_reports::{
+    Audience, Ended, Hint, Output, Refusal, Side, Status, audience_after_output, end_output,
+    system_text,
+};
 use ipc_message::Fault;
 use std::alloc::Global;
 use std::io::Write;

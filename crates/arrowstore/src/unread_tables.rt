@@ -1,8 +1,7 @@
 // Finds the names of tables that can't be read, for a terminal: a refusal of the store does not carry them.
 use crate::copying_files::open_to_read;
-use cli_refusals::{Hinted, Refusal, report_table};
+use cli_reports::{Audience, Hinted, Refusal, report_table};
 use cli_requests::{StoreCommand, StoreRequest};
-use cli_texts::Audience;
 use sector_dev::{LockFile, SectorDevice};
 use std::alloc::Global;
 use std::fs::OpenFile;

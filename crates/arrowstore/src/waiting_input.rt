@@ -10,7 +10,7 @@ use crate::receiving_archives::whole_input;
 use crate::serving_device::serve_device;
 use crate::{OpenCommand, Remarks};
 use cli_commands::{test_append, test_import};
-use cli_refusals::{Refusal, Side};
+use cli_reports::{Refusal, Side};
 use sector_dev::{FileDevice, LockFile, SectorDevice, SystemFile};
 use std::alloc::Global;
 use std::fs::OpenFile;

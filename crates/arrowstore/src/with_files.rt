@@ -6,21 +6,21 @@ ghost use Rattle.clap.specs.declared.error.kind.ErrorKind.TheVariants as kinds;
 ghost use Rattle.arrowstore.specs.Arguments.{AreRecode, AreRight};
 ghost use Rattle.arrowstore.specs.OnFiles.{AskForDevice, GivesHelpOrWrong, HasTold, IsAskedBy, IsOpenedFile, Replays, RunsOnStore, ServesTold, ends_of, hinted_of, status_of};
 ghost use Rattle.arrowstore.specs.Running.{MayHint, Recodes};
-ghost use Rattle.cli_texts.specs.Ending.{GivesSome, GivesText, HasReportedHint, HintsText, TellsRefusal};
-ghost use Rattle.cli_texts.specs.LeftOut.{left_out_text};
-ghost use Rattle.cli_texts.specs.OwnTexts.{is_own, own_text};
-ghost use Rattle.cli_texts.specs.Told.{audience_after_output, told};
+ghost use Rattle.cli_reports.specs.Ending.{GivesSome, GivesText, HasReportedHint, HintsText, TellsRefusal};
+ghost use Rattle.cli_reports.specs.LeftOut.{left_out_text};
+ghost use Rattle.cli_reports.specs.OwnTexts.{is_own, own_text};
+ghost use Rattle.cli_reports.specs.Told.{audience_after_output, told};
 ghost use Rattle.cli_requests.specs.Apps.{IsOfMemory};
 ghost use Rattle.cli_requests.specs.Asked.{changes, request_word};
 ghost use Rattle.cli_requests.specs.Right.{AreRightWords};
 ghost use Rattle.cli_requests.specs.StoreWords.{first_word, is_of_store, takes_input, takes_input_word};
-ghost use Rattle.cli_texts.specs.Reported.{IfRefused, IsWrong};
-ghost use Rattle.cli_texts.specs.Warnings.{no_notes};
-ghost use Rattle.cli_texts.specs.declared.warnings.Notes.{Notes};
-ghost use Rattle.cli_texts.specs.declared.status.Status.TheVariants.{Done, PartlyDone, Refused};
-ghost use Rattle.cli_refusals.specs.declared.refusal.Refusal.TheVariants as refusals;
-ghost use Rattle.cli_refusals.specs.declared.known.Known.{Known};
-ghost use Rattle.cli_refusals.specs.Known.{unchanging};
+ghost use Rattle.cli_reports.specs.Reported.{IfRefused, IsWrong};
+ghost use Rattle.cli_reports.specs.Warnings.{no_notes};
+ghost use Rattle.cli_reports.specs.declared.warnings.Notes.{Notes};
+ghost use Rattle.cli_reports.specs.declared.status.Status.TheVariants.{Done, PartlyDone, Refused};
+ghost use Rattle.cli_reports.specs.declared.refusal.Refusal.TheVariants as refusals;
+ghost use Rattle.cli_reports.specs.declared.known.Known.{Known};
+ghost use Rattle.cli_reports.specs.Known.{unchanging};
 ghost use Rattle.store.specs.Salvaging.{plain_left};
 
 use crate::about_words::{about_file, about_word};
@@ -35,13 +35,12 @@ use crate::serving::serve;
 use crate::unread_tables::report_of_others;
 use crate::warnings::warning_of;
 use crate::{Failures, Remarks, run};
-use cli_refusals::{Hint, Hinted, Known, Refusal, Word};
+use cli_reports::{
+    Audience, Ended, Hint, Hinted, Known, Notes, Output, Refusal, Word, audience_after_output,
+    report_arguments, report_signed_number, report_wrong_arguments,
+};
 use cli_requests::{
     Mistake, StoreRequest, ask_for_help, is_of_store, no_block_device, refused_word, request_of,
-};
-use cli_texts::{
-    Audience, Ended, Notes, Output, audience_after_output, report_arguments, report_signed_number,
-    report_wrong_arguments,
 };
 use sector_dev::{FileDevice, LockFile, ModelDevice, SectorDevice, SystemFile};
 use std::alloc::Global;

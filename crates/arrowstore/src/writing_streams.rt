@@ -4,8 +4,8 @@ ghost use Rattle.arrowstore.specs.Arguments.{AreRecode};
 ghost use Rattle.cli_requests.specs.StoreWords.{is_of_store};
 
 use crate::command_line::{Action, action_of};
+use cli_reports::is_own;
 use cli_requests::{StoreCommand, StoreRequest, is_of_store, request_of};
-use cli_texts::is_own;
 use std::alloc::Global;
 use std::convert::AsStr;
 

@@ -39,7 +39,7 @@ use Rattle.store_runs.specs.Steps.{Step}
 use Rattle.store_runs.specs.laws.Going.{runs_joined, no_run, run_of_one}
 use Rattle.store_changes.specs.laws.Shrinking.{few_in_turn}
 use Rattle.store_changes.specs.laws.Synced.{own_image}
-use Rattle.cli_refusals.specs.declared.refusal.Refusal.{Refusal}
+use Rattle.cli_reports.specs.declared.refusal.Refusal.{Refusal}
 use Rattle.cli_commands.specs.Compacting.{steps_text, Steps, StepsTo, StopsBy, step_calls, RunsOn, StaysWith, is_called, CompactedSo, Compacted}
 
 -- ---- one step and the machine

@@ -36,10 +36,10 @@ use Rattle.text_import.specs.declared.refusal.TextError.{TextError}
 use Rattle.text_import.specs.declared.refusal.TextError.TheVariants as texts
 use Rattle.text_import.specs.Form.{rows_of_text}
 use Rattle.text_import.specs.Refusals.{refused_by}
-use Rattle.cli_refusals.specs.Refusals.{text_refusal}
-use Rattle.cli_refusals.specs.declared.refusal.Refusal.{Refusal}
-use Rattle.cli_refusals.specs.declared.refusal.Refusal.TheVariants.{Io, Store, Text, OutOfMemory}
-use Rattle.cli_refusals.specs.declared.refusal.Side.TheVariants.{Output}
+use Rattle.cli_reports.specs.Refusals.{text_refusal}
+use Rattle.cli_reports.specs.declared.refusal.Refusal.{Refusal}
+use Rattle.cli_reports.specs.declared.refusal.Refusal.TheVariants.{Io, Store, Text, OutOfMemory}
+use Rattle.cli_reports.specs.declared.refusal.Side.TheVariants.{Output}
 use Rattle.cli_commands.specs.declared.applying.ListedCommand.{ListedCommand}
 use Rattle.cli_commands.specs.Applying.{FollowsList, IsOfLine, IsListedAt, AreListed, GivesLines, TextHasRows, TextIsRefused, RefusesTextAt, RefusesLines, AnswersLines, HandsLines, AnswersList}
 use Rattle.cli_commands.specs.inner.Applying.{at_line, HasOnlyRead, AddsLine, RefusesLine, EndsLine}

@@ -5,11 +5,11 @@ use Rattle.arrow_schema.specs.Column.{PlainSchema}
 use Rattle.catalogue.specs.Entries.{PlainEntry}
 use Rattle.query.specs.declared.errors.QueryError.{QueryError}
 use Rattle.query.specs.declared.errors.QueryError.TheVariants as queries
-use Rattle.cli_refusals.specs.Output.{AppendsFront, IfOutput}
-use Rattle.cli_refusals.specs.Refusals.{query_refusal}
-use Rattle.cli_refusals.specs.declared.refusal.Refusal.{Refusal}
-use Rattle.cli_refusals.specs.declared.refusal.Refusal.TheVariants.{Io}
-use Rattle.cli_refusals.specs.declared.refusal.Side.TheVariants.{Output}
+use Rattle.cli_reports.specs.Output.{AppendsFront, IfOutput}
+use Rattle.cli_reports.specs.Refusals.{query_refusal}
+use Rattle.cli_reports.specs.declared.refusal.Refusal.{Refusal}
+use Rattle.cli_reports.specs.declared.refusal.Refusal.TheVariants.{Io}
+use Rattle.cli_reports.specs.declared.refusal.Side.TheVariants.{Output}
 use Rattle.cli_commands.specs.Printed.{schema_text}
 
 if_io : (P : Type 0) (e : Refusal) → P → IfOutput P e

@@ -20,11 +20,11 @@ use Rattle.store.specs.Fits.{device_of, is_halted, listed_in}
 use Rattle.store_runs.specs.Calls.{PlainReply, done, refused, is_device_reply, counted}
 use Rattle.store_runs.specs.Reading.{ReadsTable, RefusesRead}
 use Rattle.store.specs.Reading.{OnlyReadsStore}
-use Rattle.cli_refusals.specs.declared.hint.Hinted.{Hinted}
-use Rattle.cli_refusals.specs.declared.hint.Hinted.TheVariants.{Part, Table}
-use Rattle.cli_refusals.specs.declared.refusal.Refusal.{Refusal}
-use Rattle.cli_refusals.specs.declared.refusal.Refusal.TheVariants.{Io, Store as StoreRefused}
-use Rattle.cli_refusals.specs.declared.refusal.Side.TheVariants.{Output}
+use Rattle.cli_reports.specs.declared.hint.Hinted.{Hinted}
+use Rattle.cli_reports.specs.declared.hint.Hinted.TheVariants.{Part, Table}
+use Rattle.cli_reports.specs.declared.refusal.Refusal.{Refusal}
+use Rattle.cli_reports.specs.declared.refusal.Refusal.TheVariants.{Io, Store as StoreRefused}
+use Rattle.cli_reports.specs.declared.refusal.Side.TheVariants.{Output}
 use Rattle.cli_commands.specs.Reading.{OfStore, refusal_ended, store_ended, IsReadable, FirstUnread, IsHintOf, HintsUnread, IfChecked}
 
 -- ---- lists

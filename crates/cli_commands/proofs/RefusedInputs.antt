@@ -6,9 +6,9 @@ use Rattle.tables.specs.declared.refusal.Refusal as tables
 use Rattle.tables.specs.declared.refusal.Refusal.TheVariants as refusals
 use Rattle.store_runs.specs.Deciding.{has_entry}
 use Rattle.text_import.specs.declared.form.TextForm.{TextForm}
-use Rattle.cli_refusals.specs.declared.refusal.Refusal.{Refusal}
-use Rattle.cli_refusals.specs.declared.refusal.Refusal.TheVariants.{TooManyBytes, Io, OutOfMemory, Store}
-use Rattle.cli_refusals.specs.declared.refusal.Side.TheVariants.{Input}
+use Rattle.cli_reports.specs.declared.refusal.Refusal.{Refusal}
+use Rattle.cli_reports.specs.declared.refusal.Refusal.TheVariants.{TooManyBytes, Io, OutOfMemory, Store}
+use Rattle.cli_reports.specs.declared.refusal.Side.TheVariants.{Input}
 use Rattle.cli_commands.specs.declared.input.TheConstants.{LARGEST_INPUT}
 use Rattle.store.specs.Input.{HasGiven, HasGivenAtMost}
 use Rattle.cli_commands.specs.Changing.{RefusesTaken}

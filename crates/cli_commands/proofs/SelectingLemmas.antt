@@ -15,7 +15,7 @@ use Rattle.store.specs.declared.store.Store.{Store}
 use Rattle.store_runs.specs.Calls.{done}
 use Rattle.store_runs.specs.Reading.{ReadsTable}
 use Rattle.store.specs.Reading.{OnlyReadsStore}
-use Rattle.cli_refusals.specs.Refusals.{query_refusal}
+use Rattle.cli_reports.specs.Refusals.{query_refusal}
 use Rattle.cli_commands.specs.Reading.{refusal_ended}
 use Rattle.cli_commands.specs.Selecting.{RefusesQuery}
 

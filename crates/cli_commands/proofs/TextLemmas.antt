@@ -15,9 +15,9 @@ use Rattle.query.specs.declared.row_form.RowForm.{RowForm}
 use Rattle.text_import.specs.declared.refusal.Refused.{Refused}
 use Rattle.tables.specs.declared.refusal.Refusal as tables
 use Rattle.store_runs.specs.Reading.{ReadsTable}
-use Rattle.cli_refusals.specs.declared.refusal.Refusal.{Refusal}
-use Rattle.cli_refusals.specs.declared.refusal.Refusal.TheVariants.{Io}
-use Rattle.cli_refusals.specs.declared.refusal.Side.TheVariants.{Output}
+use Rattle.cli_reports.specs.declared.refusal.Refusal.{Refusal}
+use Rattle.cli_reports.specs.declared.refusal.Refusal.TheVariants.{Io}
+use Rattle.cli_reports.specs.declared.refusal.Side.TheVariants.{Output}
 use Rattle.text_import.specs.declared.form.TextForm.{TextForm}
 use Rattle.store.specs.Applying.{AreTooHeavy}
 use Rattle.store.specs.Input.{HasGivenAtMost}
@@ -26,16 +26,16 @@ use Rattle.cli_commands.specs.declared.input.TheConstants.{LARGEST_INPUT}
 use Rattle.text_import.specs.Form.{rows_of_text}
 use Rattle.text_import.specs.Part.{PlainPart, part_of, refused_part}
 use Rattle.text_import.specs.Place.{IsAtItsPlace}
-use Rattle.cli_refusals.specs.AboutPart.{about_part}
-use Rattle.cli_refusals.specs.declared.hint.HintedPart.{HintedPart}
+use Rattle.cli_reports.specs.AboutPart.{about_part}
+use Rattle.cli_reports.specs.declared.hint.HintedPart.{HintedPart}
 use Rattle.text_import.specs.Refusals.{refused_by}
 use Rattle.text_import.specs.declared.part.RefusedPart.{RefusedPart}
-use Rattle.cli_refusals.specs.declared.hint.Hinted.{Hinted}
-use Rattle.cli_refusals.specs.declared.hint.Hinted.TheVariants.{Part, Table}
+use Rattle.cli_reports.specs.declared.hint.Hinted.{Hinted}
+use Rattle.cli_reports.specs.declared.hint.Hinted.TheVariants.{Part, Table}
 use Rattle.text_import.specs.declared.refusal.TextError.{TextError}
 use Rattle.text_import.specs.declared.refusal.TextError.TheVariants as texts
 use Rattle.facts.specs.Outcomes.{Reports}
-use Rattle.cli_refusals.specs.Refusals.{text_refusal}
+use Rattle.cli_reports.specs.Refusals.{text_refusal}
 use Rattle.cli_commands.specs.Printed.{schema_text, RefusesPrinting}
 use Rattle.cli_commands.specs.Changing.{Answered, Follows}
 use Rattle.cli_commands.specs.TextRows.{InputGives, IfOfText, HintsAt, IfHinted, RefusesText}

@@ -13,12 +13,12 @@ use Rattle.arrow_schema.specs.View.{column_of, pair_of}
 use Rattle.arrow_schema.specs.declared.types.Field.{Field}
 use Rattle.field_texts.specs.FieldText.{plain, field_text}
 use Rattle.field_texts.specs.Reported.{AreTextsOf, IsTakenFor, IsTypedAs, schema_with}
-use Rattle.cli_refusals.specs.Shown.{is_unshown}
+use Rattle.cli_reports.specs.Shown.{is_unshown}
 use Rattle.cli_commands.specs.Changing.{StateSchema}
 use Rattle.cli_commands.specs.Typing.{IsFirstWithout, IsLineOf, IsLineIfAny, RefusesFields, RefusesTyped, RefusesTyping, typed_texts, lines_of, HaveLines}
-use Rattle.cli_refusals.specs.declared.refusal.Refusal.{Refusal}
-use Rattle.cli_refusals.specs.declared.refusal.Refusal.TheVariants.{Fields, Io, NoText, OutOfMemory}
-use Rattle.cli_refusals.specs.declared.refusal.Side.TheVariants.{Output}
+use Rattle.cli_reports.specs.declared.refusal.Refusal.{Refusal}
+use Rattle.cli_reports.specs.declared.refusal.Refusal.TheVariants.{Fields, Io, NoText, OutOfMemory}
+use Rattle.cli_reports.specs.declared.refusal.Side.TheVariants.{Output}
 use Rattle.field_texts.specs.declared.parse.ParseError.TheVariants.{Limit}
 use Rattle.catalogue.specs.Entries.{PlainEntry}
 use Rattle.std.specs.Io.KnownBytes.{Appends}

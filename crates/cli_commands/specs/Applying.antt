@@ -20,9 +20,9 @@ use Rattle.store_changes.specs.Verdicts.{LeadsThrough}
 use Rattle.store.specs.Answering.{Applies}
 use Rattle.store.specs.Fits.{device_of, listed_in}
 use Rattle.store.specs.Lists.{as_one, ended_list, NamesLine}
-use Rattle.cli_refusals.specs.declared.refusal.Refusal.{Refusal}
-use Rattle.cli_refusals.specs.declared.refusal.Refusal.TheVariants.{Io, Line, TextLine, Store, OutOfMemory}
-use Rattle.cli_refusals.specs.declared.refusal.Side.TheVariants.{Output}
+use Rattle.cli_reports.specs.declared.refusal.Refusal.{Refusal}
+use Rattle.cli_reports.specs.declared.refusal.Refusal.TheVariants.{Io, Line, TextLine, Store, OutOfMemory}
+use Rattle.cli_reports.specs.declared.refusal.Side.TheVariants.{Output}
 use Rattle.cli_commands.specs.declared.applying.ListedCommand.{ListedCommand}
 use Rattle.cli_commands.specs.declared.applying.ListedCommand.TheVariants.{Known, Text}
 

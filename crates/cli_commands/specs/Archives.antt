@@ -3,9 +3,9 @@ use Rattle.std.specs.Prelude.{◌≡◌, ◌⊎◌, ℕ, Bool, List, [], ◌∷�
 use Rattle.sector_dev.specs.declared.device.SectorDevice.{Ghosts}
 use Rattle.hex.specs.Hex.{encode_lower}
 use Rattle.table_archive.specs.Digests.{IsBadLine}
-use Rattle.cli_refusals.specs.declared.refusal.Refusal.{Refusal}
-use Rattle.cli_refusals.specs.declared.refusal.Refusal.TheVariants.{BadDigest, NotAnArchive, BadMember, LacksSegment, Io, Store, OutOfMemory}
-use Rattle.cli_refusals.specs.declared.refusal.ArchiveMember.TheVariants as members
+use Rattle.cli_reports.specs.declared.refusal.Refusal.{Refusal}
+use Rattle.cli_reports.specs.declared.refusal.Refusal.TheVariants.{BadDigest, NotAnArchive, BadMember, LacksSegment, Io, Store, OutOfMemory}
+use Rattle.cli_reports.specs.declared.refusal.ArchiveMember.TheVariants as members
 use Rattle.table_archive.specs.Manifest.{PlainListed}
 use Rattle.table_archive.specs.declared.reading.ArchiveFault.{ArchiveFault}
 use Rattle.table_archive.specs.declared.reading.ArchiveFault.TheVariants as faults
@@ -14,7 +14,7 @@ use Rattle.store.specs.declared.receiving.ReceiveRefusal.TheVariants as receives
 use Rattle.store.specs.declared.store.Store as stores
 use Rattle.store.specs.Reading.{OnlyReadsStore}
 use Rattle.store.specs.Receiving.{Receives, ended_receiving}
-use Rattle.cli_refusals.specs.declared.refusal.Side.TheVariants.{Output}
+use Rattle.cli_reports.specs.declared.refusal.Side.TheVariants.{Output}
 
 -- a line for each digest, of hexadecimal digits in lower case
 abbrev pub digests_text : List (List ℕ) → List ℕ

@@ -18,9 +18,9 @@ use Rattle.store.specs.Answering.{TakesInput}
 use Rattle.store.specs.Fits.{device_of, is_halted, book_of, IsOnDisk}
 use Rattle.store.specs.Input.{ReadsFrom}
 use Rattle.store.specs.Listing.{RefusesSchema}
-use Rattle.cli_refusals.specs.declared.refusal.Refusal.{Refusal}
-use Rattle.cli_refusals.specs.declared.refusal.Refusal.TheVariants.{Io, Fields, Store, OutOfMemory}
-use Rattle.cli_refusals.specs.declared.refusal.Side.TheVariants.{Output}
+use Rattle.cli_reports.specs.declared.refusal.Refusal.{Refusal}
+use Rattle.cli_reports.specs.declared.refusal.Refusal.TheVariants.{Io, Fields, Store, OutOfMemory}
+use Rattle.cli_reports.specs.declared.refusal.Side.TheVariants.{Output}
 use Rattle.cli_commands.specs.Given.{RefusesInput}
 
 -- the program's answer follows the store's: what is done is reported as done, unless the output fails, and a refusal is the store's

@@ -22,7 +22,7 @@ use Rattle.store_runs.specs.Held.{held_by, each_listed}
 use Rattle.store_runs.specs.Machine.{Machine, holds}
 use Rattle.store.specs.Reading.{OnlyReadsStore}
 use Rattle.store_runs.specs.Runs.{Run}
-use Rattle.cli_refusals.specs.declared.refusal.Refusal.{Refusal}
+use Rattle.cli_reports.specs.declared.refusal.Refusal.{Refusal}
 use Rattle.cli_commands.specs.Changing.{Follows}
 
 -- the word `steps` and their number

@@ -2,8 +2,8 @@
 use Rattle.std.specs.Prelude.{◌≡◌, ◌⊎◌, ℕ, Bool, true, false, List, [], Option, Result, IsErrAnd}
 use Rattle.ipc_message.specs.Framing.{Envelope, Frames}
 use Rattle.tables.specs.declared.refusal.Refusal as tables
-use Rattle.cli_refusals.specs.declared.refusal.Refusal.{Refusal}
-use Rattle.cli_refusals.specs.declared.refusal.Refusal.TheVariants.{NoEnd, Store}
+use Rattle.cli_reports.specs.declared.refusal.Refusal.{Refusal}
+use Rattle.cli_reports.specs.declared.refusal.Refusal.TheVariants.{NoEnd, Store}
 use Rattle.cli_commands.specs.Changing.{Answered}
 use Rattle.cli_commands.specs.Given.{IsWholeInput, RefusesInput}
 use Rattle.cli_commands.specs.Unread.{RefusesUnread}

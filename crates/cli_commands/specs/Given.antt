@@ -2,9 +2,9 @@
 use Rattle.std.specs.Prelude.{ℕ, List, ◌≡◌, ◌+◌, ◌≤◌, length, Option, IfSome, Result, Ok, Err}
 use Rattle.store.specs.Input.{HasGiven, HasGivenAtMost}
 use Rattle.cli_commands.specs.declared.input.TheConstants.{LARGEST_INPUT}
-use Rattle.cli_refusals.specs.declared.refusal.Refusal.{Refusal}
-use Rattle.cli_refusals.specs.declared.refusal.Refusal.TheVariants.{Fault, NoEnd, TooManyBytes, Io, BadSize, BadScript, Fields, NoText, BadDigest, NotAnArchive, BadMember, LacksSegment, Text, Query, Opening, Store, Line, TextLine, OutOfMemory}
-use Rattle.cli_refusals.specs.declared.refusal.Side.TheVariants.{Input}
+use Rattle.cli_reports.specs.declared.refusal.Refusal.{Refusal}
+use Rattle.cli_reports.specs.declared.refusal.Refusal.TheVariants.{Fault, NoEnd, TooManyBytes, Io, BadSize, BadScript, Fields, NoText, BadDigest, NotAnArchive, BadMember, LacksSegment, Text, Query, Opening, Store, Line, TextLine, OutOfMemory}
+use Rattle.cli_reports.specs.declared.refusal.Side.TheVariants.{Input}
 
 -- P holds, unless the answer is the refusal of too many bytes
 abbrev pub UnlessTooManyBytes : {A : Type 0} → Result A Refusal → Type 0 → Type 0

@@ -7,9 +7,9 @@ use Rattle.store.specs.Agreeing.{RefusesAgreement}
 use Rattle.store.specs.Listing.{RefusesTables}
 use Rattle.store.specs.declared.summary.Summary.{Summary}
 use Rattle.tables.specs.declared.refusal.Refusal as tables
-use Rattle.cli_refusals.specs.declared.refusal.Refusal.{Refusal}
-use Rattle.cli_refusals.specs.declared.refusal.Refusal.TheVariants.{Io, Store, OutOfMemory}
-use Rattle.cli_refusals.specs.declared.refusal.Side.TheVariants.{Output}
+use Rattle.cli_reports.specs.declared.refusal.Refusal.{Refusal}
+use Rattle.cli_reports.specs.declared.refusal.Refusal.TheVariants.{Io, Store, OutOfMemory}
+use Rattle.cli_reports.specs.declared.refusal.Side.TheVariants.{Output}
 use Rattle.cli_commands.specs.declared.summing.DeviceKind.{DeviceKind}
 use Rattle.cli_commands.specs.declared.summing.DeviceKind.TheVariants as kinds
 

@@ -9,11 +9,11 @@ use Rattle.tables.specs.declared.refusal.Refusal as tables
 use Rattle.store_runs.specs.Calls.{PlainReply, done, refused}
 use Rattle.store.specs.Listing.{RefusesTables}
 use Rattle.store_runs.specs.Reading.{ReadsTable, RefusesRead}
-use Rattle.cli_refusals.specs.declared.hint.Hinted.{Hinted}
-use Rattle.cli_refusals.specs.declared.hint.Hinted.TheVariants.{Table}
-use Rattle.cli_refusals.specs.declared.refusal.Refusal.{Refusal}
-use Rattle.cli_refusals.specs.declared.refusal.Refusal.TheVariants.{Io, Store}
-use Rattle.cli_refusals.specs.declared.refusal.Side.TheVariants.{Output}
+use Rattle.cli_reports.specs.declared.hint.Hinted.{Hinted}
+use Rattle.cli_reports.specs.declared.hint.Hinted.TheVariants.{Table}
+use Rattle.cli_reports.specs.declared.refusal.Refusal.{Refusal}
+use Rattle.cli_reports.specs.declared.refusal.Refusal.TheVariants.{Io, Store}
+use Rattle.cli_reports.specs.declared.refusal.Side.TheVariants.{Output}
 
 -- the store refuses, and P holds of its refusal; or the output failed, and `there` holds of what was to be written
 abbrev pub OfStore : (tables.Refusal → Type 0) → (there : Type 0) → Refusal → Type 0

@@ -1,8 +1,8 @@
 -- What the program answers to a salvage.
 use Rattle.store.specs.Salvaging.{BreaksOff}
-use Rattle.cli_refusals.specs.declared.refusal.Refusal.{Refusal}
-use Rattle.cli_refusals.specs.declared.refusal.Refusal.TheVariants.{Io, Store}
-use Rattle.cli_refusals.specs.declared.refusal.Side.TheVariants.{Output}
+use Rattle.cli_reports.specs.declared.refusal.Refusal.{Refusal}
+use Rattle.cli_reports.specs.declared.refusal.Refusal.TheVariants.{Io, Store}
+use Rattle.cli_reports.specs.declared.refusal.Side.TheVariants.{Output}
 
 -- a salvage was broken off: a write or the device failed, or memory was refused; part of its stream may be written
 abbrev pub IsBrokenOff : Refusal → Type 0

@@ -14,9 +14,9 @@ use Rattle.query.specs.declared.row_form.RowForm.{RowForm}
 use Rattle.tables.specs.declared.refusal.QueryRefusal.{QueryRefusal}
 use Rattle.tables.specs.declared.refusal.QueryRefusal.TheVariants.{UnknownColumn, BadCondition, NotComparable}
 use Rattle.store_runs.specs.Reading.{ReadsTable, RefusesRead}
-use Rattle.cli_refusals.specs.declared.refusal.Refusal.{Refusal}
-use Rattle.cli_refusals.specs.declared.refusal.Refusal.TheVariants.{Io, Query, Store, OutOfMemory}
-use Rattle.cli_refusals.specs.declared.refusal.Side.TheVariants.{Output}
+use Rattle.cli_reports.specs.declared.refusal.Refusal.{Refusal}
+use Rattle.cli_reports.specs.declared.refusal.Refusal.TheVariants.{Io, Query, Store, OutOfMemory}
+use Rattle.cli_reports.specs.declared.refusal.Side.TheVariants.{Output}
 
 -- the names between the commas of a word: an empty word is one empty name; without the word all columns are asked for
 abbrev pub named_columns : Option (List ℕ) → List (List ℕ)

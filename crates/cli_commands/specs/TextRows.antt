@@ -9,11 +9,11 @@ use Rattle.text_import.specs.Part.{PlainPart, part_of, refused_part}
 use Rattle.text_import.specs.Place.{IsAtItsPlace}
 use Rattle.arrow_schema.specs.Column.{PlainSchema}
 use Rattle.tables.specs.declared.refusal.Refusal as tables
-use Rattle.cli_refusals.specs.AboutPart.{about_part}
-use Rattle.cli_refusals.specs.declared.hint.Hinted.{Hinted}
-use Rattle.cli_refusals.specs.declared.hint.Hinted.TheVariants.{Part}
-use Rattle.cli_refusals.specs.declared.refusal.Refusal.{Refusal}
-use Rattle.cli_refusals.specs.declared.refusal.Refusal.TheVariants.{Text}
+use Rattle.cli_reports.specs.AboutPart.{about_part}
+use Rattle.cli_reports.specs.declared.hint.Hinted.{Hinted}
+use Rattle.cli_reports.specs.declared.hint.Hinted.TheVariants.{Part}
+use Rattle.cli_reports.specs.declared.refusal.Refusal.{Refusal}
+use Rattle.cli_reports.specs.declared.refusal.Refusal.TheVariants.{Text}
 use Rattle.text_import.specs.declared.form.TextForm.{TextForm}
 use Rattle.cli_commands.specs.Given.{IsWholeInput}
 use Rattle.cli_commands.specs.Changing.{Answered, RefusesAppend}

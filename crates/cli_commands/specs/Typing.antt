@@ -9,10 +9,10 @@ use Rattle.catalogue.specs.Entries.{PlainEntry}
 use Rattle.field_texts.specs.FieldText.{plain, field_text}
 use Rattle.field_texts.specs.Reported.{IsTakenFor, schema_with}
 use Rattle.field_texts.specs.declared.parse.ParseError.TheVariants.{Limit}
-use Rattle.cli_refusals.specs.Shown.{is_unshown}
-use Rattle.cli_refusals.specs.declared.refusal.Refusal.{Refusal}
-use Rattle.cli_refusals.specs.declared.refusal.Refusal.TheVariants.{Io, Fields, NoText, Store, OutOfMemory}
-use Rattle.cli_refusals.specs.declared.refusal.Side.TheVariants.{Output}
+use Rattle.cli_reports.specs.Shown.{is_unshown}
+use Rattle.cli_reports.specs.declared.refusal.Refusal.{Refusal}
+use Rattle.cli_reports.specs.declared.refusal.Refusal.TheVariants.{Io, Fields, NoText, Store, OutOfMemory}
+use Rattle.cli_reports.specs.declared.refusal.Side.TheVariants.{Output}
 use Rattle.store.specs.Listing.{RefusesSchema}
 
 -- the text is taken for this column, and a terminal may be shown it, so it is one line

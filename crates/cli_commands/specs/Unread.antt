@@ -4,8 +4,8 @@ use Rattle.catalogue.specs.Entries.{PlainCatalogue, is_name}
 use Rattle.tables.specs.declared.refusal.Refusal as tables
 use Rattle.tables.specs.declared.refusal.Refusal.TheVariants as refusals
 use Rattle.store_runs.specs.Deciding.{has_entry}
-use Rattle.cli_refusals.specs.declared.refusal.Refusal.{Refusal}
-use Rattle.cli_refusals.specs.declared.refusal.Refusal.TheVariants.{Store}
+use Rattle.cli_reports.specs.declared.refusal.Refusal.{Refusal}
+use Rattle.cli_reports.specs.declared.refusal.Refusal.TheVariants.{Store}
 use Rattle.cli_commands.specs.Changing.{RefusesTaken, is_listed}
 
 -- a table has the name, and must not

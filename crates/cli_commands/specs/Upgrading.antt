@@ -14,7 +14,7 @@ use Rattle.store_runs.specs.Held.{each_listed}
 use Rattle.store.specs.Applying.{IsKept, KeepsEachTable}
 use Rattle.store.specs.Fits.{commit_of, device_of, listed_in, is_halted, book_of, IsOnDisk}
 use Rattle.store.specs.Upgrading.{upgrade_ended, HasUpgraded, RefusesUpgrade, IsUpgradingAtEachMoment, HasUpgradedOnDisk}
-use Rattle.cli_refusals.specs.declared.refusal.Refusal.{Refusal}
+use Rattle.cli_reports.specs.declared.refusal.Refusal.{Refusal}
 use Rattle.cli_commands.specs.Changing.{Follows}
 
 -- the answer without what the upgrade did

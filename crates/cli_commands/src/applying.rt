@@ -24,7 +24,7 @@ ghost use Rattle.cli_commands.specs.inner.TextRows.{AppendsRows};
 
 use crate::text_rows::read_command;
 use arrow_schema::Schema;
-use cli_refusals::{Refusal, Side, write_whole};
+use cli_reports::{Refusal, Side, write_whole};
 use sector_dev::SectorDevice;
 use std::alloc::Global;
 use std::io::Write;

@@ -8,12 +8,12 @@ ghost use Rattle.table_archive.specs.Reading.{IsRead};
 ghost use Rattle.store.specs.Fits.{commit_of, device_of, is_halted, listed_in};
 ghost use Rattle.store.specs.Reading.{OnlyReadsStore};
 ghost use Rattle.store.specs.Sending.{HasDigestsAt, SaysHalted, SendsAt};
-ghost use Rattle.cli_refusals.specs.Output.{AppendsFront, IfOutput};
+ghost use Rattle.cli_reports.specs.Output.{AppendsFront, IfOutput};
 ghost use Rattle.cli_commands.specs.Archives.{IsNoArchive, ReceivesTables, RefusesList, archive_refusal, digests_text, receive_refusal};
 ghost use Rattle.cli_commands.specs.Printed.{RefusesPrinting};
 ghost use Rattle.cli_commands.specs.Reading.{OfStore, store_ended};
 
-use cli_refusals::{ArchiveMember, Refusal, Side, write_whole};
+use cli_reports::{ArchiveMember, Refusal, Side, write_whole};
 use sector_dev::SectorDevice;
 use std::alloc::{AllocError, Global};
 use std::io::Write;

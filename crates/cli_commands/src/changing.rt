@@ -15,7 +15,7 @@ ghost use Rattle.store_runs.specs.Machine.{Machine};
 ghost use Rattle.store_runs.specs.Reading.{ended};
 ghost use Rattle.cli_commands.specs.Changing.{Answered, AnswersCommand, AnswersInput, HandsSchema, RefusesHanding, RefusesTaken, is_listed};
 
-use cli_refusals::{Refusal, Side, write_whole};
+use cli_reports::{Refusal, Side, write_whole};
 use sector_dev::SectorDevice;
 use std::alloc::Global;
 use std::io::{Read, Write};

@@ -4,7 +4,7 @@ ghost use Rattle.std.specs.Io.KnownBytes.{Appends};
 ghost use Rattle.store_runs.specs.declared.compacting.Compaction as steps;
 ghost use Rattle.cli_commands.specs.Compacting.{Compacted, Compacts, steps_text};
 
-use cli_refusals::{Refusal, Side};
+use cli_reports::{Refusal, Side};
 use sector_dev::SectorDevice;
 use std::alloc::Global;
 use std::io::Write;

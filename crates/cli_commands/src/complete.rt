@@ -22,7 +22,7 @@ ghost use Rattle.cli_commands.specs.Unread.{RefusesUnread, is_taken};
 use crate::apply_command;
 use crate::input::{LARGEST_INPUT, read_input};
 use crate::unread::{test_append, test_import};
-use cli_refusals::{Refusal, Side};
+use cli_reports::{Refusal, Side};
 use ipc_message::{NextMessage, next_message_is_framed, read_message};
 use sector_dev::SectorDevice;
 use std::alloc::Global;

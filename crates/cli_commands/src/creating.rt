@@ -6,7 +6,7 @@ ghost use Rattle.tables.specs.View.{command_of};
 ghost use Rattle.cli_commands.specs.Changing.{StateSchema, RefusesFields};
 
 use arrow_schema::Schema;
-use cli_refusals::Refusal;
+use cli_reports::Refusal;
 use field_texts::parse_fields;
 use std::alloc::{AllocError, Global};
 use tables::{Command, NewTable};

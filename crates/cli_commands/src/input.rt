@@ -4,7 +4,7 @@ ghost use Rattle.std.specs.Io.KnownBytes.{IsAtEnd};
 ghost use Rattle.store.specs.Input.{HasGiven, HasGivenAtMost};
 ghost use Rattle.cli_commands.specs.Given.{UnlessTooManyBytes, IsOfInput};
 
-use cli_refusals::{Refusal, Side};
+use cli_reports::{Refusal, Side};
 use std::alloc::Global;
 use std::io::Read;
 use store::read_at_most;

@@ -4,13 +4,13 @@ ghost use Rattle.std.specs.Io.KnownBytes.{Appends};
 ghost use Rattle.arrow_schema.specs.Column.{Column};
 ghost use Rattle.arrow_schema.specs.View.{column_of, schema_of};
 ghost use Rattle.catalogue.specs.Edits.{entry_of, tables_of};
-ghost use Rattle.cli_refusals.specs.Output.{AppendsFront, IfOutput};
+ghost use Rattle.cli_reports.specs.Output.{AppendsFront, IfOutput};
 ghost use Rattle.store.specs.Fits.{listed_in, is_halted};
 ghost use Rattle.store.specs.Listing.{RefusesTables, RefusesSchema};
 ghost use Rattle.cli_commands.specs.Printed.{numbered, tables_text, schema_text, RefusesPrinting};
 
 use arrow_schema::Field;
-use cli_refusals::{Refusal, Side, write_whole};
+use cli_reports::{Refusal, Side, write_whole};
 use field_texts::field_text;
 use sector_dev::SectorDevice;
 use std::alloc::{AllocError, Global};

@@ -11,7 +11,7 @@ ghost use Rattle.store_runs.specs.Reading.{ReadsTable, RefusesRead, ended};
 ghost use Rattle.store.specs.Reading.{OnlyReadsStore};
 ghost use Rattle.cli_commands.specs.Reading.{OfStore, store_ended, IsReadable, FirstUnread, RefusesCheck, IsHintOf, HintsUnread, IfChecked};
 
-use cli_refusals::{Hinted, Refusal, Side, write_whole};
+use cli_reports::{Hinted, Refusal, Side, write_whole};
 use sector_dev::SectorDevice;
 use std::alloc::Global;
 use std::io::Write;

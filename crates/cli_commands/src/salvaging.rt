@@ -8,7 +8,7 @@ ghost use Rattle.store.specs.Salvaging.{SalvagesAt, RefusesSalvage, plain_left};
 ghost use Rattle.cli_commands.specs.Reading.{OfStore, store_ended};
 ghost use Rattle.cli_commands.specs.Salvaging.{IsBrokenOff};
 
-use cli_refusals::{Refusal, Side};
+use cli_reports::{Refusal, Side};
 use sector_dev::SectorDevice;
 use std::alloc::Global;
 use std::io::Write;

@@ -7,13 +7,13 @@ ghost use Rattle.catalogue.specs.Edits.{entry_of};
 ghost use Rattle.cells.specs.Cell.{PlainTable};
 ghost use Rattle.query.specs.Printed.{rows_text};
 ghost use Rattle.query.specs.View.{query_in, condition_in};
-ghost use Rattle.cli_refusals.specs.Output.{AppendsFront, IfOutput};
+ghost use Rattle.cli_reports.specs.Output.{AppendsFront, IfOutput};
 ghost use Rattle.store.specs.Fits.{device_of, is_halted, listed_in};
 ghost use Rattle.store.specs.Reading.{OnlyReadsStore};
 ghost use Rattle.cli_commands.specs.Reading.{store_ended};
 ghost use Rattle.cli_commands.specs.Selecting.{named_columns, conditions_of, stated_query, RefusesWords, QueryAnswers, RefusesQuery};
 
-use cli_refusals::{Refusal, Side, write_whole};
+use cli_reports::{Refusal, Side, write_whole};
 use query::{Condition, DateForm, Query, RowForm};
 use sector_dev::SectorDevice;
 use std::alloc::{AllocError, Global};

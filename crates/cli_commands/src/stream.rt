@@ -10,7 +10,7 @@ ghost use Rattle.cli_commands.specs.Recode.{IsVerdict, AppendsCanonical, IsTrueF
 
 use crate::LARGEST_INPUT;
 use crate::input::read_input;
-use cli_refusals::{Refusal, Side};
+use cli_reports::{Refusal, Side};
 use ipc_encode::{WriteError, encode_to};
 use ipc_stream::decode;
 use std::alloc::Global;

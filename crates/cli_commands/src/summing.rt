@@ -2,7 +2,7 @@
 ghost use Rattle.std.specs.Prelude.{◌≡◌, ◌≢◌, map, string_bytes, false, IfOk, IfErr, OnOk};
 ghost use Rattle.std.specs.Io.KnownBytes.{Appends};
 ghost use Rattle.sector_dev.specs.Disk.{now, shown_image};
-ghost use Rattle.cli_refusals.specs.Output.{AppendsFront, IfOutput};
+ghost use Rattle.cli_reports.specs.Output.{AppendsFront, IfOutput};
 ghost use Rattle.store.specs.Fits.{device_of, is_halted};
 ghost use Rattle.store.specs.Agreeing.{SaysAgreement};
 ghost use Rattle.store.specs.Reading.{OnlyReadsStore};
@@ -10,7 +10,7 @@ ghost use Rattle.store.specs.Summary.{IsSummary};
 ghost use Rattle.cli_commands.specs.Printed.{summary_numbers, summary_lines, summary_object, summary_text, RefusesPrinting, RefusesSummary};
 ghost use Rattle.cli_commands.specs.Reading.{store_ended};
 
-use cli_refusals::{Refusal, Side, write_whole};
+use cli_reports::{Refusal, Side, write_whole};
 use sector_dev::SectorDevice;
 use std::alloc::{AllocError, Global};
 use std::fmt::{self, Write as _};

@@ -24,7 +24,7 @@ ghost use Rattle.cli_commands.specs.inner.TextRows.{AppendsRows};
 use crate::apply_command;
 use crate::input::read_input;
 use arrow_schema::Schema;
-use cli_refusals::{Hinted, HintedPart, Refusal, Side, about_part};
+use cli_reports::{Hinted, HintedPart, Refusal, Side, about_part};
 use sector_dev::SectorDevice;
 use std::alloc::{AllocError, Global};
 use std::io::{Read, Write};

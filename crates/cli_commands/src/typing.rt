@@ -9,7 +9,7 @@ ghost use Rattle.cli_commands.specs.Changing.{StateSchema};
 ghost use Rattle.cli_commands.specs.Typing.{IsLineIfAny, typed_texts, lines_of, HaveLines, RefusesFields, RefusesTyped, RefusesTyping};
 
 use arrow_schema::{Field, Schema};
-use cli_refusals::{Refusal, Side, has_unshown, write_whole};
+use cli_reports::{Refusal, Side, has_unshown, write_whole};
 use field_texts::{ParseError, typed_text};
 use sector_dev::SectorDevice;
 use std::alloc::{AllocError, Global};

@@ -5,7 +5,7 @@ ghost use Rattle.store.specs.Fits.{is_halted, listed_in};
 ghost use Rattle.cli_commands.specs.Unread.{PassesAppending, PassesImport, RefusesAppending, RefusesImport, RefusesLooking};
 
 use catalogue::is_name;
-use cli_refusals::Refusal;
+use cli_reports::Refusal;
 use sector_dev::SectorDevice;
 use std::alloc::Global;
 use store::Store;

@@ -9,7 +9,7 @@ ghost use Rattle.store_runs.specs.Machine.{Machine};
 ghost use Rattle.store.specs.Upgrading.{upgrade_ended};
 ghost use Rattle.cli_commands.specs.Upgrading.{AnsweredUpgrade, AnswersUpgrade};
 
-use cli_refusals::{Refusal, Side, write_whole};
+use cli_reports::{Refusal, Side, write_whole};
 use sector_dev::SectorDevice;
 use std::alloc::Global;
 use std::io::Write;

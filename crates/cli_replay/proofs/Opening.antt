@@ -2,9 +2,9 @@
 use Rattle.std.proofs.Common.{◌≡◌, Bool, true, false, inl, inr, refl, subst, sym}
 use Rattle.commit.specs.declared.opening_refusal.OpeningRefusal.{OpeningRefusal}
 use Rattle.commit.specs.declared.opening_refusal.OpeningRefusal.TheVariants as openings
-use Rattle.cli_refusals.specs.declared.refusal.Refusal.{Refusal}
-use Rattle.cli_refusals.specs.declared.refusal.Refusal.TheVariants.{NoEnd, TooManyBytes, Io, Opening, OutOfMemory}
-use Rattle.cli_refusals.specs.declared.refusal.Side.TheVariants.{File}
+use Rattle.cli_reports.specs.declared.refusal.Refusal.{Refusal}
+use Rattle.cli_reports.specs.declared.refusal.Refusal.TheVariants.{NoEnd, TooManyBytes, Io, Opening, OutOfMemory}
+use Rattle.cli_reports.specs.declared.refusal.Side.TheVariants.{File}
 use Rattle.sector_dev.specs.declared.device.SectorDevice.{Ghosts}
 use Rattle.tables.specs.Tables.{no_tables}
 use Rattle.store.specs.declared.call.Call.TheVariants as calls_in

@@ -2,8 +2,8 @@
 use Rattle.std.proofs.Common.{◌≡◌, ℕ, true, List, Option, String, map, sym, subst}
 use Rattle.std.specs.Global.{Global, Vec}
 use Rattle.commit.specs.Standing.{is_size}
-use Rattle.cli_refusals.specs.declared.refusal.Refusal.{Refusal}
-use Rattle.cli_refusals.specs.declared.refusal.Refusal.TheVariants.{BadScript, OutOfMemory}
+use Rattle.cli_reports.specs.declared.refusal.Refusal.{Refusal}
+use Rattle.cli_reports.specs.declared.refusal.Refusal.TheVariants.{BadScript, OutOfMemory}
 use Rattle.cli_scripts.specs.Plain.{plain_words}
 use Rattle.cli_scripts.specs.Words.{HaveWords, lines_of}
 use Rattle.cli_replay.specs.Replay.{IsOfFile, RefusesScript, RefusesReplay}

@@ -14,8 +14,8 @@ use Rattle.query.specs.Query.{PlainCondition, PlainQuery}
 use Rattle.query.specs.Selection.{joined}
 use Rattle.tables.specs.declared.refusal.QueryRefusal.{QueryRefusal}
 use Rattle.tables.specs.declared.refusal.QueryRefusal.TheVariants.{BadCondition}
-use Rattle.cli_refusals.specs.declared.refusal.Refusal.{Refusal}
-use Rattle.cli_refusals.specs.declared.refusal.Refusal.TheVariants as refusals
+use Rattle.cli_reports.specs.declared.refusal.Refusal.{Refusal}
+use Rattle.cli_reports.specs.declared.refusal.Refusal.TheVariants as refusals
 use Rattle.cli_commands.specs.Changing.{RefusesFields}
 use Rattle.cli_commands.specs.Selecting.{conditions_of, named_columns, stated_query, RefusesWords}
 use Rattle.cli_scripts.specs.Script.{are_conditions, StateFields}

@@ -4,9 +4,9 @@ use Rattle.std.specs.List.{AllByRecursion}
 use Rattle.tables.specs.View.{command_of}
 use Rattle.cli_commands.specs.declared.applying.ListedCommand.{ListedCommand}
 use Rattle.cli_commands.specs.declared.applying.ListedCommand.TheVariants.{Known, Text}
-use Rattle.cli_refusals.specs.declared.refusal.Refusal.{Refusal}
-use Rattle.cli_refusals.specs.declared.refusal.Refusal.TheVariants.{Io, BadScript, NoEnd, TooManyBytes, OutOfMemory}
-use Rattle.cli_refusals.specs.declared.refusal.Side.TheVariants.{File}
+use Rattle.cli_reports.specs.declared.refusal.Refusal.{Refusal}
+use Rattle.cli_reports.specs.declared.refusal.Refusal.TheVariants.{Io, BadScript, NoEnd, TooManyBytes, OutOfMemory}
+use Rattle.cli_reports.specs.declared.refusal.Side.TheVariants.{File}
 use Rattle.cli_scripts.specs.declared.script.ScriptError.TheVariants.{BadLine}
 use Rattle.cli_scripts.specs.Items.{PlainItem, one, listed, is_alone, is_known_change}
 use Rattle.cli_scripts.specs.Plain.{plain_form}

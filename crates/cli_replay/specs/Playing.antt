@@ -10,9 +10,9 @@ use Rattle.store_runs.specs.Calls.{PlainCall, PlainReply, done, counts, refused,
 use Rattle.store_runs.specs.Machine.{Machine}
 use Rattle.store.specs.Places.{AreCallsOf, device_in, reply_in, PlaceRuns}
 use Rattle.store.specs.Answering.{AnswersCall}
-use Rattle.cli_refusals.specs.declared.refusal.Refusal.{Refusal}
-use Rattle.cli_refusals.specs.declared.refusal.Refusal.TheVariants.{Line, Opening, Store}
-use Rattle.cli_refusals.specs.Refusals.{refusal_text}
+use Rattle.cli_reports.specs.declared.refusal.Refusal.{Refusal}
+use Rattle.cli_reports.specs.declared.refusal.Refusal.TheVariants.{Line, Opening, Store}
+use Rattle.cli_reports.specs.Refusals.{refusal_text}
 use Rattle.cli_commands.specs.Printed.{tables_text}
 
 -- the call of the first line is answered, and P holds of the place after it and of the replies to the other lines

@@ -30,9 +30,9 @@ use Rattle.commit.specs.declared.cause.Cause.TheVariants.{DeviceSize}
 use Rattle.commit.specs.declared.opening_refusal.OpeningRefusal.{OpeningRefusal}
 use Rattle.commit.specs.declared.sector.FormatVersion.{FormatVersion}
 use Rattle.commit.specs.declared.opening_refusal.OpeningRefusal.TheVariants as openings
-use Rattle.cli_refusals.specs.declared.refusal.Refusal.{Refusal}
-use Rattle.cli_refusals.specs.declared.refusal.Refusal.TheVariants.{NoEnd, TooManyBytes, Io, BadScript, Opening, OutOfMemory}
-use Rattle.cli_refusals.specs.declared.refusal.Side.TheVariants.{File, Output}
+use Rattle.cli_reports.specs.declared.refusal.Refusal.{Refusal}
+use Rattle.cli_reports.specs.declared.refusal.Refusal.TheVariants.{NoEnd, TooManyBytes, Io, BadScript, Opening, OutOfMemory}
+use Rattle.cli_reports.specs.declared.refusal.Side.TheVariants.{File, Output}
 use Rattle.cli_commands.specs.declared.input.TheConstants.{LARGEST_INPUT}
 use Rattle.cli_commands.specs.Changing.{StateSchema}
 use Rattle.cli_commands.specs.Complete.{LacksEnd}

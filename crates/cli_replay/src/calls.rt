@@ -7,7 +7,7 @@ ghost use Rattle.cli_replay.specs.Listed.{IsPlayable, IsTested};
 ghost use Rattle.cli_replay.specs.Replay.{IsCallOfItem, IsCallOfLine, AreCallsOfItems, IsOfStreams};
 
 use crate::commands::{command_of, commands_of};
-use cli_refusals::Refusal;
+use cli_reports::Refusal;
 use cli_scripts::{ScriptItem, ScriptLine};
 use std::alloc::{AllocError, Global};
 use std::fs::OpenFile;

@@ -13,7 +13,7 @@ ghost use Rattle.cli_replay.specs.Replay.{AreCommandsOfLines, IsCommandOfLine, I
 use crate::files::named_input;
 use civil_days::DateForm;
 use cli_commands::{drop_table, new_table, query_of, rename_table};
-use cli_refusals::Refusal;
+use cli_reports::Refusal;
 use cli_scripts::{SavedRows, ScriptLine};
 use field_texts::{ParseError, one_column_of_a_text};
 use std::alloc::{AllocError, Global};

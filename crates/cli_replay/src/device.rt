@@ -16,7 +16,7 @@ ghost use Rattle.store.specs.declared.call.Call.TheVariants as calls;
 
 use crate::playing::push_refusal;
 use cli_commands::lines_of_tables;
-use cli_refusals::Refusal;
+use cli_reports::Refusal;
 use commit::FormatVersion;
 use sector_dev::{CrashChoice, ModelDevice, SectorDevice};
 use std::alloc::{AllocError, Global};

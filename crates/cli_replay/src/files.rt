@@ -3,7 +3,7 @@ ghost use Rattle.std.specs.Prelude.{◌≡◌, ◌≢◌, ◌⊎◌, string_byte
 ghost use Rattle.cli_replay.specs.Replay.{IsOfFile, IsFrontOfFile, HasItsEnd, IsStreamOfLine, IsOfReading, IsOfStreams};
 
 use cli_commands::{LARGEST_INPUT, lacks_end};
-use cli_refusals::{Refusal, Side};
+use cli_reports::{Refusal, Side};
 use std::fs::{self, OpenFile};
 use std::io::{self, ErrorKind, Read};
 use std::rt::Files;

@@ -9,7 +9,7 @@ ghost use Rattle.cli_replay.specs.Listed.{AreListedOfLines, HasCommands, IsChang
 use crate::commands::command_of;
 use crate::files::read_whole_file;
 use cli_commands::ListedCommand;
-use cli_refusals::Refusal;
+use cli_reports::Refusal;
 use cli_scripts::{ScriptError, ScriptLine, is_ended, parse_changes};
 use std::alloc::Global;
 use std::fs::OpenFile;

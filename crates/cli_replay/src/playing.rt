@@ -4,7 +4,7 @@ ghost use Rattle.sector_dev.specs.View.{faults_of};
 ghost use Rattle.store.specs.Places.{reply_in, replies_of};
 ghost use Rattle.cli_replay.specs.Playing.{IsPlayedLine, Plays, line_number, refused_text, reply_text, replies_text};
 
-use cli_refusals::Refusal;
+use cli_reports::Refusal;
 use sector_dev::{ModelDevice, SectorDevice};
 use std::alloc::{AllocError, Global};
 use std::fmt::Write as _;

@@ -14,7 +14,7 @@ use crate::calls::{calls_of, numbers_of};
 use crate::device::{empty_store, found_on, left_by_crash, open, with_faults};
 use crate::files::read_whole_file;
 use crate::playing::{lines_of_replies, play};
-use cli_refusals::{Refusal, Side, write_whole};
+use cli_reports::{Refusal, Side, write_whole};
 use cli_scripts::{ScriptError, ScriptItem, parse_script, script_words};
 use commit::FormatVersion;
 use sector_dev::{CrashChoice, ModelDevice, SectorDevice};

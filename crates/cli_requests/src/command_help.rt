@@ -1,5 +1,5 @@
 // What the help says about each command of a store: its name, what it does, and an example.
-use cli_texts::abouts;
+use cli_reports::abouts;
 
 // A command as its help shows it.
 pub(crate) struct CommandHelp {

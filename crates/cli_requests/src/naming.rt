@@ -1,6 +1,6 @@
 // Finds the word of a command line that a refusal is about.
 use crate::{QueryWords, StoreCommand, StoreRequest};
-use cli_refusals::{MOST_SHOWN, Refusal, Role, Word, has_unshown};
+use cli_reports::{MOST_SHOWN, Refusal, Role, Word, has_unshown};
 use field_texts::ParseError;
 use query::{Condition, DateForm, Query, QueryError, bind_query};
 use std::alloc::{AllocError, Global};

@@ -14,8 +14,8 @@ use Rattle.store.specs.declared.transacting.Transaction.{Transaction}
 use Rattle.store.specs.Fits.{StoreFits}
 use Rattle.store.specs.Reading.{OnlyReadsStore}
 use Rattle.store.specs.Transactions.{Drafts, RefusesNext}
-use Rattle.cli_refusals.specs.declared.refusal.Refusal.{Refusal}
-use Rattle.cli_refusals.specs.declared.refusal.Refusal.TheVariants.{Text, TextLine, Line, Store, OutOfMemory}
+use Rattle.cli_reports.specs.declared.refusal.Refusal.{Refusal}
+use Rattle.cli_reports.specs.declared.refusal.Refusal.TheVariants.{Text, TextLine, Line, Store, OutOfMemory}
 use Rattle.cli_commands.specs.declared.applying.ListedCommand.{ListedCommand}
 use Rattle.cli_commands.specs.Applying.{IsOfLine, TextIsRefused}
 

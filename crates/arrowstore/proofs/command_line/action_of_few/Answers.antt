@@ -2,7 +2,7 @@ use Rattle.std.proofs.Common.{◌∙◌, subst, sym, true≢false}
 use Rattle.std.proofs.lemmas.Result.{err_from_is_err_and}
 use Rattle.arrowstore.proofs.CommandLemmas.{memory_alone, recode_named, no_fault_right, fault_asks}
 use Rattle.arrowstore.proofs.WordLemmas.{help_of_command_asks, recode_is_not_help}
-use Rattle.cli_texts.specs.Reported.{IsRequest}
+use Rattle.cli_reports.specs.Reported.{IsRequest}
 use Rattle.arrowstore.proofs.command_line.action_of_few.Goals as goal
 
 -- one that asks for the help of a command of a store asks for no stream

@@ -1,7 +1,7 @@
 use Rattle.std.specs.Prelude.{◌≡◌, ℕ, true, List, codes, Option, Result, refl}
 use Rattle.std.proofs.Common.{◌∙◌, ap, inl, sym, subst}
 use Rattle.sector_dev.specs.declared.device.SectorDevice.{Ghosts}
-use Rattle.cli_refusals.specs.declared.refusal.Refusal.{Refusal}
+use Rattle.cli_reports.specs.declared.refusal.Refusal.{Refusal}
 use Rattle.cli_requests.specs.declared.replaying.ReplayWords.{ReplayWords}
 use Rattle.cli_requests.specs.declared.store_words.StoreRequest.{StoreRequest}
 use Rattle.arrowstore.specs.OnFiles.{ServesRequest}

@@ -1,6 +1,6 @@
 use Rattle.std.proofs.Common.{◌∙◌, [], inl, inr, refl, sym, true≢false}
-use Rattle.cli_refusals.specs.Known.{unchanging}
-use Rattle.cli_texts.specs.Warnings.{both_notes, no_notes}
+use Rattle.cli_reports.specs.Known.{unchanging}
+use Rattle.cli_reports.specs.Warnings.{both_notes, no_notes}
 use Rattle.arrowstore.proofs.EndLemmas.{reported_of_word, told_of_word}
 use Rattle.arrowstore.proofs.WordLemmas.{recode_of_no_store, own_of_no_store}
 use Rattle.arrowstore.proofs.with_files.run_with_files.Goals as goal

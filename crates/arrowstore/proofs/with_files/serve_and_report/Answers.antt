@@ -1,6 +1,6 @@
 use Rattle.std.proofs.Common.{Some, ◌∙◌}
 use Rattle.store.specs.Salvaging.{plain_left}
-use Rattle.cli_texts.specs.Warnings.{both_notes}
+use Rattle.cli_reports.specs.Warnings.{both_notes}
 use Rattle.arrowstore.proofs.FileLemmas.{has_reported}
 use Rattle.arrowstore.proofs.with_files.serve_and_report.Goals as goal
 

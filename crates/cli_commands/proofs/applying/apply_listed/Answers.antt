@@ -6,7 +6,7 @@ use Rattle.sector_dev.specs.Disk.{now, shown_image}
 use Rattle.store.specs.declared.applying_all.ListRefusal.TheVariants.{Whole}
 use Rattle.store_runs.specs.Calls.{counted, refused}
 use Rattle.store.specs.Fits.{listed_in}
-use Rattle.cli_refusals.specs.declared.refusal.Refusal.TheVariants.{Store}
+use Rattle.cli_reports.specs.declared.refusal.Refusal.TheVariants.{Store}
 use Rattle.cli_commands.specs.declared.applying.ListedCommand.{ListedCommand}
 use Rattle.cli_commands.proofs.ListLemmas.{no_lines, lines_more, line_told, line_goes, all_answered, none_answered, gives_whole, follows_done, lines_all, never_halted}
 use Rattle.cli_commands.proofs.applying.apply_listed.Goals as goal

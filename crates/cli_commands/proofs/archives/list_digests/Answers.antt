@@ -1,7 +1,7 @@
 use Rattle.std.proofs.Common.{◌∙◌, ap, refl, subst}
 use Rattle.std.specs.Io.KnownBytes.{Appends}
 use Rattle.std.proofs.lemmas.Result.{err_from_is_err_and, on_ok_weaker}
-use Rattle.cli_refusals.specs.Output.{AppendsFront}
+use Rattle.cli_reports.specs.Output.{AppendsFront}
 use Rattle.cli_commands.specs.Archives.{digests_text}
 use Rattle.cli_commands.proofs.ArchiveLemmas.{digests_of_open}
 use Rattle.cli_commands.proofs.OutputLemmas.{if_failed}

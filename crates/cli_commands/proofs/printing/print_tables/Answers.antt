@@ -1,7 +1,7 @@
 use Rattle.std.proofs.Common.{◌∙◌, ap, map, subst}
 use Rattle.std.specs.Prelude.{string_bytes}
 use Rattle.std.proofs.lemmas.Result.{err_from_is_err_and}
-use Rattle.cli_refusals.specs.Output.{AppendsFront}
+use Rattle.cli_reports.specs.Output.{AppendsFront}
 use Rattle.cli_commands.specs.Printed.{tables_text}
 use Rattle.cli_commands.proofs.OutputLemmas.{if_failed}
 use Rattle.cli_commands.proofs.printing.print_tables.Goals as goal

@@ -2,7 +2,7 @@ use Rattle.std.proofs.Common.{◌∙◌, subst}
 use Rattle.std.proofs.lemmas.Result.{err_from_is_err_and}
 use Rattle.query.specs.View.{query_in}
 use Rattle.store.specs.Selecting.{AnswersQuery}
-use Rattle.cli_refusals.specs.Output.{AppendsFront}
+use Rattle.cli_reports.specs.Output.{AppendsFront}
 use Rattle.cli_commands.proofs.OutputLemmas.{if_failed, not_io}
 use Rattle.cli_commands.proofs.ReadingLemmas.{read_and_written}
 use Rattle.cli_commands.proofs.SelectingLemmas.{query_told, only_read}

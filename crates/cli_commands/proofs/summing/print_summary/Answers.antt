@@ -2,7 +2,7 @@ use Rattle.std.proofs.Common.{◌∙◌, inl, inr, refl, subst}
 use Rattle.std.specs.Io.KnownBytes.{Appends}
 use Rattle.std.proofs.lemmas.Result.{err_from_is_err_and, on_ok_weaker}
 use Rattle.cli_commands.proofs.ReadingLemmas.{read_and_written}
-use Rattle.cli_refusals.specs.Output.{AppendsFront}
+use Rattle.cli_reports.specs.Output.{AppendsFront}
 use Rattle.cli_commands.proofs.OutputLemmas.{if_failed}
 use Rattle.cli_commands.proofs.TextLemmas.{printing_failed}
 use Rattle.cli_commands.proofs.summing.print_summary.Goals as goal

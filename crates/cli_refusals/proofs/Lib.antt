@@ -1,3 +1,0 @@
-pub mod HintLemmas
-pub mod OutputLemmas
-mod DigitLemmas

@@ -1,0 +1,5 @@
+pub mod HintLemmas
+pub mod OutputLemmas
+mod DigitLemmas
+mod TextLemmas
+mod EscapeLemmas

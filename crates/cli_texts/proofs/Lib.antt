@@ -1,2 +1,0 @@
-mod TextLemmas
-mod EscapeLemmas

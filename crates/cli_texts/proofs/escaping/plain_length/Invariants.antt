@@ -1,7 +1,0 @@
--- No control character begins before the place.
-use Rattle.std.proofs.Common.{◌≡◌, ◌<◌, ℕ, drop}
-use Rattle.cli_texts.specs.Escaped.{control_length}
-use Rattle.cli_texts.proofs.escaping.plain_length.Given as goal
-
-abbrev pub invariant-loop-place : goal.invariant-loop-place
-invariant-loop-place l = (k : ℕ) → k < l.place → control_length (drop k l.bytes) ≡ 0
