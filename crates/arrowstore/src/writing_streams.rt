@@ -52,11 +52,3 @@ pub fn writes_stream<S: AsStr>(alloc: Global, arguments: &[S]) -> bool
 {
     is_of_stored_stream(alloc, arguments) || is_recode(alloc, arguments)
 }
-
-/// Returns whether the arguments are those of `salvage` or `send`, which go on reading their store once they have written something.
-pub fn reads_while_writing<S: AsStr>(arguments: &[S]) -> bool {
-    match arguments.get(1) {
-        Some(word) => matches!(word.as_str(), "salvage" | "send"),
-        None => false,
-    }
-}
