@@ -1,5 +1,6 @@
 #!/usr/bin/env python3
-"""locks.py PROGRAM: a command that waits for its input has no lock of its store meanwhile. Prints each difference, and last 'N passed, M failed'."""
+"""locks.py PROGRAM: a command that waits for its input has no lock of its store meanwhile, and one that only reads has none while it writes. Prints each
+difference, and last 'N passed, M failed'."""
 import os
 import subprocess
 import sys
@@ -50,7 +51,7 @@ def given(running, text):
 
 
 def waits_for(running):
-    """Waits until a program reads its input and has no lock."""
+    """Waits until a program is kept waiting by a pipe and has no lock."""
     for _ in range(2000):
         with open(f"/proc/{running.pid}/wchan") as wait, open("/proc/locks") as locks:
             if "pipe" in wait.read() and f" {running.pid} " not in locks.read():
@@ -121,6 +122,44 @@ def waiting_inputs(room):
     compare("an append of a file", (done.returncode, done.stdout, done.stderr), DONE)
 
 
+def slow_readers(room):
+    """A command that only reads has no lock while nobody reads what it writes, and writes what its store had before it gave the lock back."""
+    store = os.path.join(room, "read")
+    compare("a store", run(["format", store, "4096"]), DONE)
+    compare("a table", run(["create", store, "t", "a:int32"]), DONE)
+    compare("its rows", run(["append", store, "t", "--as", "csv"], b"a\n" + b"".join(b"%d\n" % number for number in range(40_000))), DONE)
+    fields = [f"a_long_name_of_a_field_{number}:int32" for number in range(200)]
+    compare("a table with many fields", run(["create", store, "wide", *fields]), DONE)
+    names = [f"{number}_of_the_tables_with_long_names_for_a_long_list_of_tables" for number in range(80)]
+    for number, name in enumerate(names):
+        with open(os.path.join(room, name), "w") as file:
+            file.write(f"a\n{number}\n")
+    script = "".join(f"create {name} a:int32\nappend {name} {name} --as csv\n" for name in names)
+    applied = subprocess.run([answers.program, "apply", store, "-"], input=script.encode(), capture_output=True, cwd=room, timeout=60)
+    compare("many tables", (applied.returncode, applied.stdout, applied.stderr), DONE)
+    compare("another table", run(["create", store, "u", "a:int32"]), DONE)
+    for words in (
+        ["query", store, "t"], ["query", store, "t", "--objects"], ["export", store, "t"], ["tables", store], ["schema", store, "wide"],
+        ["schema", store, "wide", "--fields"], ["have", store],
+    ):
+        whole = run(words)
+        compare(f"{words} is long", (whole[0], len(whole[1]) > 4096, whole[2]), (0, True, b""))
+        # The shortest pipe that there is, which is soon full.
+        running = subprocess.Popen([answers.program, *words], stdout=subprocess.PIPE, stderr=subprocess.PIPE, pipesize=4096)
+        compare(f"{words} waits without a lock", waits_for(running), True)
+        compare(f"a change while {words} waits", run(["append", store, "u"], ROWS), DONE)
+        compare(f"a table is dropped while {words} waits", run(["drop", store, "u"]), DONE)
+        compare(f"{words} goes on", given(running, None), whole)
+        compare("the table again", run(["create", store, "u", "a:int32"]), DONE)
+    # A reader that goes away is no matter of the store.
+    running = subprocess.Popen([answers.program, "query", store, "t"], stdout=subprocess.PIPE, stderr=subprocess.PIPE, pipesize=4096, env=ADVISED)
+    compare("it waits", waits_for(running), True)
+    running.stdout.close()
+    compare("its output fails", (running.wait(timeout=60), word_of(running.stderr.read())), (1, b"output-before"))
+    running.stderr.close()
+    compare("the store is whole", run(["check", store]), DONE)
+
+
 with tempfile.TemporaryDirectory() as room:
-    answers.play((waiting_inputs, room))
+    answers.play((waiting_inputs, room), (slow_readers, room))
 sys.exit(answers.tell("locks"))

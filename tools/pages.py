@@ -28,7 +28,7 @@ DESCRIPTION = (
 NOTES = {
     "LOCKS": (
         "A command that changes the store locks its file, and every other command is refused meanwhile ('refused G1 Io'). Commands that only read can run at the "
-        "same time. The lock is held until the output is written. With --wait a command waits for it. To keep it over several commands, let each command take the "
+        "same time, and give the lock back before they write their output, except salvage and send. With --wait a command waits for it. To keep it over several commands, let each command take the "
         "lock of another file first: 'flock store.lock arrowstore append store ..'."
     ),
     "LIMITS": (

@@ -1,5 +1,5 @@
 -- What a command of a store does on a device: it is carried out on the store there, or refused if none can be opened.
-use Rattle.std.specs.Prelude.{◌≡◌, ◌⊎◌, ℕ, true, false, List, Option, Result, IfSome, IsErrAnd}
+use Rattle.std.specs.Prelude.{◌≡◌, ◌⊎◌, ℕ, true, false, List, Option, None, Result, IfSome, IsErrAnd}
 use Rattle.sector_dev.specs.declared.device.SectorDevice.{Ghosts}
 use Rattle.commit.specs.Standing.{is_size}
 use Rattle.commit.specs.declared.opening_refusal.OpeningRefusal.{OpeningRefusal}
@@ -9,11 +9,14 @@ use Rattle.store.specs.Answering.{LeavesUnopened}
 use Rattle.store_runs.specs.Calls.{open_call, shut_by, counted}
 use Rattle.store.specs.Fits.{device_of, is_halted, listed_in, DeviceFits, FindsStore, Opens, Shuts}
 use Rattle.store_runs.specs.Machine.{Machine}
+use Rattle.cli_commands.specs.declared.whole_output.WholeOutput.{WholeOutput}
 use Rattle.cli_refusals.specs.declared.refusal.Refusal.{Refusal}
 use Rattle.cli_refusals.specs.declared.refusal.Refusal.TheVariants as refusals
 use Rattle.arrowstore.specs.declared.open_command.OpenCommand.{OpenCommand}
 use Rattle.arrowstore.specs.Notes.{IsNoteOf}
-use Rattle.arrowstore.specs.Serving.{Channels, Serves, unnoted}
+use Rattle.arrowstore.specs.Serving.{Channels, Makes, Serves, unnoted}
+use Rattle.arrowstore.specs.declared.notes.Remarks.{Remarks}
+use Rattle.arrowstore.specs.declared.open_command.Reading.{Reading}
 
 -- a store that was opened on this device
 pub record IsOpened {D : Type 0} {g : Ghosts D} (device : D) (store : Store D g) : Type 0 where
@@ -56,3 +59,18 @@ abbrev pub ServesDevice : {D : Type 0} → (g : Ghosts D) → {R W : Type 0} →
 ServesDevice g remaining contents command device back before after result =
     IsErrAnd result (λ refusal. RefusesOpening g device back refusal × (after ≡ before))
     ⊎ ServesOpened g remaining contents command device back before after result
+
+-- the output of a command that only reads was made of the store that was opened on a device, and the device was returned as that store left it; nothing is
+-- noted
+pub record MakesOpened {D : Type 0} (g : Ghosts D) (reading : Reading) (device back : D) (before after : Remarks) (made : Result WholeOutput Refusal) : Type 0 where
+  pub old : Store D g
+  pub opened : IsOpened device old
+  pub new : Store D g
+  pub makes : Makes reading old new before.hint after.hint made
+  pub unnoted : after.note ≡ None
+  pub gives_back : back ≡ device_of new
+
+-- it was made so, or it was refused since no store was opened there
+abbrev pub MakesOnDevice : {D : Type 0} → (g : Ghosts D) → Reading → (device back : D) → (before after : Remarks) → Result WholeOutput Refusal → Type 0
+MakesOnDevice g reading device back before after made =
+    IsErrAnd made (λ refusal. RefusesOpening g device back refusal × (after ≡ before)) ⊎ MakesOpened g reading device back before after made

@@ -17,6 +17,7 @@ use Rattle.cli_requests.specs.declared.store_words.StoreCommand.{StoreCommand}
 use Rattle.cli_requests.specs.declared.store_words.StoreCommand.TheVariants as words
 use Rattle.arrowstore.specs.declared.open_command.OpenCommand.{OpenCommand}
 use Rattle.arrowstore.specs.declared.open_command.OpenCommand.TheVariants as opened
+use Rattle.arrowstore.specs.declared.open_command.Reading.TheVariants as readings
 
 -- the query that the words state, if they state one
 abbrev pub query_stated : QueryWords → Option PlainQuery
@@ -45,17 +46,17 @@ States (words.ImportComplete name is_new) (opened.ImportComplete n new) = (n.now
 States (words.Append name) (opened.Append n) = n.now ≡ name.now
 States (words.AppendComplete name) (opened.AppendComplete n) = n.now ≡ name.now
 States (words.AppendText name form) (opened.AppendText n f) = (n.now ≡ name.now) × (f ≡ form)
-States (words.Query name query shape) (opened.Select n q f) =
+States (words.Query name query shape) (opened.Reads (readings.Select n q f)) =
     (n.now ≡ name.now) × (query_stated query ≡ Some (query_in q)) × (f.shape ≡ shape) × (f.dates ≡ query.dates)
-States words.Tables opened.Tables = Unit {0}
-States (words.Schema name) (opened.Schema n) = n.now ≡ name.now
-States (words.SchemaFields name) (opened.SchemaFields n) = n.now ≡ name.now
-States (words.Export name) (opened.Export n) = n.now ≡ name.now
-States words.Check opened.Check = Unit {0}
-States (words.Info as_json) (opened.Info j kind) = j ≡ as_json
+States words.Tables (opened.Reads readings.Tables) = Unit {0}
+States (words.Schema name) (opened.Reads (readings.Schema n)) = n.now ≡ name.now
+States (words.SchemaFields name) (opened.Reads (readings.SchemaFields n)) = n.now ≡ name.now
+States (words.Export name) (opened.Reads (readings.Export n)) = n.now ≡ name.now
+States words.Check (opened.Reads readings.Check) = Unit {0}
+States (words.Info as_json) (opened.Reads (readings.Info j kind)) = j ≡ as_json
 States (words.Compact steps) (opened.Compact n) = n ≡ steps
 States words.Upgrade opened.Upgrade = Unit {0}
-States words.Have opened.Have = Unit {0}
+States words.Have (opened.Reads readings.Have) = Unit {0}
 States _ _ = ⊥
 
 -- why the words state no command: a text of a field or condition is refused, or memory is, if the command owns its names

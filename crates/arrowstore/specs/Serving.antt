@@ -1,5 +1,5 @@
 -- What each command of an open store reads, writes and leaves, in one definition: for each command the words of its own function.
-use Rattle.std.specs.Prelude.{◌≡◌, ◌≢◌, ◌⊎◌, ℕ, Bool, true, false, List, codes, Option, Some, None, IsSome, Result, Ok, IfErr, IsErrAnd, OnOk}
+use Rattle.std.specs.Prelude.{◌≡◌, ◌≢◌, ◌⊎◌, ℕ, Bool, true, false, List, codes, Option, Some, None, IsSome, Result, Ok, IfErr, IfOk, IsErrAnd, OnOk}
 use Rattle.std.specs.Io.KnownBytes.{Appends}
 use Rattle.std.specs.List.{AllByRecursion}
 use Rattle.sector_dev.specs.Disk.{Image, now, shown_image}
@@ -18,7 +18,7 @@ use Rattle.tables.specs.declared.refusal.Refusal.TheVariants.{BadName, NoTable}
 use Rattle.store.specs.declared.store.Store.{Store}
 use Rattle.store.specs.Agreeing.{SaysAgreement}
 use Rattle.store.specs.Applying.{GoesOn}
-use Rattle.store_runs.specs.Calls.{apply_call, upgrade_call}
+use Rattle.store_runs.specs.Calls.{PlainReply, apply_call, upgrade_call}
 use Rattle.store_runs.specs.Deciding.{has_entry}
 use Rattle.store.specs.Fits.{StoreFits, device_of, is_halted, listed_in}
 use Rattle.store.specs.Listing.{RefusesTables, RefusesSchema}
@@ -29,6 +29,7 @@ use Rattle.store.specs.Sending.{HasDigestsAt, SaysHalted}
 use Rattle.store.specs.Summary.{IsSummary}
 use Rattle.store.specs.Upgrading.{upgrade_ended}
 use Rattle.store.specs.declared.summary.Summary.{Summary}
+use Rattle.cli_refusals.specs.Output.{AppendsFront}
 use Rattle.cli_refusals.specs.declared.hint.Hinted.{Hinted}
 use Rattle.cli_refusals.specs.declared.refusal.Refusal.{Refusal}
 use Rattle.cli_refusals.specs.declared.refusal.Refusal.TheVariants.{Io}
@@ -39,16 +40,20 @@ use Rattle.cli_commands.specs.Compacting.{Compacts}
 use Rattle.cli_commands.specs.Complete.{HandsWhole, RefusesWhole}
 use Rattle.cli_commands.specs.Upgrading.{AnsweredUpgrade, AnswersUpgrade}
 use Rattle.cli_commands.specs.Printed.{tables_text, schema_text, summary_text, RefusesPrinting, RefusesSummary}
-use Rattle.cli_commands.specs.Reading.{OfStore, store_ended, IsReadable, RefusesCheck, IfChecked}
+use Rattle.cli_commands.specs.Reading.{OfStoreAlone, store_ended, IsReadable, RefusesCheck, IfChecked}
 use Rattle.cli_commands.specs.Selecting.{QueryAnswers, RefusesQuery}
 use Rattle.query.specs.Printed.{rows_text}
 use Rattle.cli_commands.specs.TextRows.{HandsRows, RefusesText, IfOfText, IfHinted}
 use Rattle.cli_commands.specs.Typing.{HaveLines, RefusesTyping, lines_of, typed_texts}
 use Rattle.cli_commands.specs.Unread.{RefusesUnread, is_taken}
+use Rattle.cli_commands.specs.WholeOutput.{bytes_in, is_stream}
+use Rattle.cli_commands.specs.declared.whole_output.WholeOutput.{WholeOutput}
 use Rattle.cli_texts.specs.declared.notes.Note.{Note}
 use Rattle.arrowstore.specs.declared.notes.Remarks.{Remarks}
 use Rattle.arrowstore.specs.declared.open_command.OpenCommand.{OpenCommand}
 use Rattle.arrowstore.specs.declared.open_command.OpenCommand.TheVariants as opened
+use Rattle.arrowstore.specs.declared.open_command.Reading.{Reading}
+use Rattle.arrowstore.specs.declared.open_command.Reading.TheVariants as readings
 
 -- what a command reads, writes and hints at: an input, an output, and the refused part of the input or the table that can't be read; and what it notes
 pub record Channels (R W : Type 0) : Type 0 where
@@ -147,15 +152,6 @@ pub record CarriesText {D : Type 0} {g : Ghosts D} {R W : Type 0} (contents : W 
   pub hinted : IfHinted after.hint form (entry_of (listed_in old) name) input result
   pub written : OnOk result (Appends (contents before.output) (contents after.output) (codes "ok\n"))
 
--- what is printed of a store, why nothing is, and what becomes of the store (`print_tables`, `print_schema`, `print_selection`, `print_summary`,
--- `list_digests`, `export_table`)
-pub record Prints {R W : Type 0} (printed : Type 0) (refuses : Refusal → Type 0) (left : Type 0) (before after : Channels R W)
-    (result : Result (Unit {0}) Refusal) : Type 0 where
-  pub written : OnOk result printed
-  pub told : IfErr result refuses
-  pub leaves : left
-  pub unhinted : after.hint ≡ before.hint
-
 -- what reads of a store's device show
 abbrev pub image_of : {D : Type 0} {g : Ghosts D} → Store D g → Image
 image_of {g = g} store = shown_image (now (g.story (device_of store)))
@@ -168,18 +164,89 @@ Shows {g = g} store name table = ReadsTable (is_halted store) g.tells (image_of 
 abbrev pub AreReadable : {D : Type 0} {g : Ghosts D} → Store D g → Type 0
 AreReadable {g = g} store = g.tells ≡ true → AllByRecursion (IsReadable (is_halted store) (image_of store) (listed_in store)) (tables_of (listed_in store))
 
--- the store was only read
-abbrev pub OnlyRead : {D : Type 0} {g : Ghosts D} → Result (Unit {0}) Refusal → (old new : Store D g) → Type 0
-OnlyRead {g = g} result old new = OnlyReadsStore g.size g.story g.failed g.tells (store_ended result) old new
+-- ---- the commands that only read
 
--- all tables of a store can be read, or the first one that can't is reported and hinted at (`check_tables`)
-pub record Checks {D : Type 0} {g : Ghosts D} {R W : Type 0} (contents : W → Option (List ℕ)) (old new : Store D g) (before after : Channels R W)
-    (result : Result (Unit {0}) Refusal) : Type 0 where
-  pub written : OnOk result (Appends (contents before.output) (contents after.output) (codes "ok\n"))
-  pub read : OnOk result (AreReadable old)
-  pub told : IfErr result (OfStore (λ refusal. g.tells ≡ true → RefusesCheck (is_halted old) (image_of old) (listed_in old) refusal) (AreReadable old))
-  pub reads : OnlyRead result old new
-  pub hinted : IfChecked after.hint g.tells (is_halted old) (image_of old) (listed_in old) result
+-- what such a command prints of a store (`print_selection`, `print_tables`, `print_schema`, `print_fields`, `export_table`, `check_tables`, `print_summary`,
+-- `list_digests`)
+unfoldable pub IsPrinted : {D : Type 0} {g : Ghosts D} → Reading → (store : Store D g) → (text : List ℕ) → Type 0
+IsPrinted {g = g} (readings.Select name query form) store text =
+    (selected : PlainTable) × QueryAnswers form (is_halted store) g.tells (image_of store) (entry_of (listed_in store) name.now) (query_in query) (Ok selected)
+    × (text ≡ rows_text form selected)
+IsPrinted readings.Tables store text = (is_halted store ≡ false) × (text ≡ tables_text (tables_of (listed_in store)))
+IsPrinted (readings.Schema name) store text =
+    (is_halted store ≡ false) × ((e : PlainEntry) × (entry_of (listed_in store) name.now ≡ Some e) × (text ≡ schema_text e.schema.columns))
+IsPrinted (readings.SchemaFields name) store text =
+    (is_halted store ≡ false) × ((e : PlainEntry) × (entry_of (listed_in store) name.now ≡ Some e) × StateSchema (typed_texts e.schema.columns) e.schema
+    × HaveLines e.schema.columns × (text ≡ lines_of (typed_texts e.schema.columns)))
+IsPrinted (readings.Export name) store text = (t : PlainTable) × Shows store name.now t × (text ≡ canonical t)
+IsPrinted readings.Check store text = AreReadable store × (text ≡ codes "ok\n")
+IsPrinted {g = g} (readings.Info as_json kind) store text =
+    (is_halted store ≡ false) × ((s : Summary) × (agree : Bool) × IsSummary (g.size (device_of store)) store s
+    × SaysAgreement (is_halted store) g.tells (image_of store) agree × (text ≡ summary_text as_json s agree kind))
+IsPrinted {g = g} readings.Have store text =
+    (is_halted store ≡ false) × ((digests : List (List ℕ)) × HasDigestsAt (is_halted store) g.tells (image_of store) (listed_in store) digests
+    × (text ≡ digests_text digests))
+
+-- why it prints nothing
+unfoldable pub RefusesReading : {D : Type 0} {g : Ghosts D} → Reading → (store : Store D g) → Refusal → Type 0
+RefusesReading {g = g} (readings.Select name query form) store refusal =
+    RefusesQuery form (is_halted store) g.tells (image_of store) (entry_of (listed_in store) name.now) (query_in query) refusal
+RefusesReading readings.Tables store refusal = RefusesPrinting (RefusesTables (is_halted store)) (is_halted store ≡ false) refusal
+RefusesReading (readings.Schema name) store refusal =
+    RefusesPrinting (RefusesSchema (is_halted store) (entry_of (listed_in store) name.now)) ((is_halted store ≡ false) × IsSome (entry_of (listed_in store) name.now))
+    refusal
+RefusesReading (readings.SchemaFields name) store refusal = RefusesTyping (is_halted store) (entry_of (listed_in store) name.now) refusal
+RefusesReading {g = g} (readings.Export name) store refusal =
+    OfStoreAlone (RefusesRead (is_halted store) g.tells (image_of store) (entry_of (listed_in store) name.now)) refusal
+RefusesReading {g = g} readings.Check store refusal =
+    OfStoreAlone (λ r. g.tells ≡ true → RefusesCheck (is_halted store) (image_of store) (listed_in store) r) refusal
+RefusesReading (readings.Info as_json kind) store refusal = RefusesPrinting (RefusesSummary (is_halted store)) (is_halted store ≡ false) refusal
+RefusesReading readings.Have store refusal = RefusesPrinting (SaysHalted (is_halted store)) (is_halted store ≡ false) refusal
+
+-- what becomes of the store: its device is only read, and not even that for a list of tables or a schema
+unfoldable pub IsLeft : {D : Type 0} {g : Ghosts D} → Reading → PlainReply → (old new : Store D g) → Type 0
+IsLeft readings.Tables reply old new = new ≡ old
+IsLeft (readings.Schema name) reply old new = new ≡ old
+IsLeft (readings.SchemaFields name) reply old new = new ≡ old
+IsLeft {g = g} _ reply old new = OnlyReadsStore g.size g.story g.failed g.tells reply old new
+
+abbrev pub is_export : Reading → Bool
+is_export (readings.Export name) = true
+is_export _ = false
+
+abbrev pub is_check : Reading → Bool
+is_check readings.Check = true
+is_check _ = false
+
+-- a check hints at the first table that can't be read, and other commands at nothing
+abbrev pub HintsOf : {D : Type 0} {g : Ghosts D} {T : Type 0} → Reading → (store : Store D g) → (hint hint' : Option Hinted) → Result T Refusal → Type 0
+HintsOf {g = g} reading store hint hint' result =
+    (is_check reading ≡ false → hint' ≡ hint)
+    × (is_check reading ≡ true → IfChecked hint' g.tells (is_halted store) (image_of store) (listed_in store) result)
+
+-- the whole output of such a command was made, or why it was not, and what becomes of the store
+pub record Makes {D : Type 0} {g : Ghosts D} (reading : Reading) (old new : Store D g) (hint hint' : Option Hinted) (made : Result WholeOutput Refusal)
+    : Type 0 where
+  pub prints : IfOk made (λ whole. IsPrinted reading old (bytes_in whole))
+  pub streams : IfOk made (λ whole. is_stream whole ≡ is_export reading)
+  pub told : IfErr made (RefusesReading reading old)
+  pub leaves : IsLeft reading (store_ended made) old new
+  pub hints : HintsOf reading old hint hint' made
+
+-- the output failed: there was something to print, and some first bytes of it were written, and nothing else, unless it is a stream
+abbrev pub FailsToPrint : {D : Type 0} {g : Ghosts D} → Reading → (store : Store D g) → (old new : Option (List ℕ)) → Refusal → Type 0
+FailsToPrint reading store old new refusal =
+    (refusal ≡ Io Output) × ((text : List ℕ) × IsPrinted reading store text × ((is_export reading ≡ true) ⊎ AppendsFront old new text))
+
+-- what such a command prints was written, and nothing else, or why not, and what becomes of the store
+pub record Prints {D : Type 0} {g : Ghosts D} {R W : Type 0} (contents : W → Option (List ℕ)) (reading : Reading) (old new : Store D g)
+    (before after : Channels R W) (result : Result (Unit {0}) Refusal) : Type 0 where
+  pub written : OnOk result ((text : List ℕ) × IsPrinted reading old text × Appends (contents before.output) (contents after.output) text)
+  pub told : IfErr result (λ refusal. RefusesReading reading old refusal ⊎ FailsToPrint reading old (contents before.output) (contents after.output) refusal)
+  pub leaves : IsLeft reading (store_ended result) old new
+  pub hints : HintsOf reading old before.hint after.hint result
+
+-- ---- all commands
 
 -- what each command does: how the store and what it reads, writes and hints at change
 unfoldable pub Serves : {D : Type 0} {g : Ghosts D} {R W : Type 0} → (remaining : R → Option (List ℕ)) → (contents : W → Option (List ℕ)) → OpenCommand
@@ -199,37 +266,7 @@ Serves remaining contents (opened.Append name) old new before after result =
 Serves remaining contents (opened.AppendText name form) old new before after result =
     CarriesText contents (remaining before.input) form name.now
     (RefusesText remaining form (is_halted old) (entry_of (listed_in old) name.now) before.input after.input) old new before after result
-Serves {g = g} remaining contents (opened.Select name query form) old new before after result =
-    Prints ((selected : PlainTable) × QueryAnswers form (is_halted old) g.tells (image_of old) (entry_of (listed_in old) name.now) (query_in query)
-    (Ok selected)
-    × Appends (contents before.output) (contents after.output) (rows_text form selected))
-    (RefusesQuery form (is_halted old) g.tells (image_of old) (entry_of (listed_in old) name.now) (query_in query))
-    (OnlyRead result old new) before after result
-Serves remaining contents opened.Tables old new before after result =
-    Prints (Appends (contents before.output) (contents after.output) (tables_text (tables_of (listed_in old))))
-    (RefusesPrinting (RefusesTables (is_halted old)) (is_halted old ≡ false)) (new ≡ old) before after result
-Serves remaining contents (opened.Schema name) old new before after result =
-    Prints ((e : PlainEntry) × (entry_of (listed_in old) name.now ≡ Some e)
-    × Appends (contents before.output) (contents after.output) (schema_text e.schema.columns))
-    (RefusesPrinting (RefusesSchema (is_halted old) (entry_of (listed_in old) name.now)) ((is_halted old ≡ false) × IsSome (entry_of (listed_in old) name.now)))
-    (new ≡ old) before after result
-Serves remaining contents (opened.SchemaFields name) old new before after result =
-    Prints ((e : PlainEntry) × (entry_of (listed_in old) name.now ≡ Some e) × StateSchema (typed_texts e.schema.columns) e.schema × HaveLines e.schema.columns
-    × Appends (contents before.output) (contents after.output) (lines_of (typed_texts e.schema.columns)))
-    (RefusesTyping (is_halted old) (entry_of (listed_in old) name.now)) (new ≡ old) before after result
-Serves {g = g} remaining contents (opened.Export name) old new before after result =
-    Prints ((t : PlainTable) × Shows old name.now t × Appends (contents before.output) (contents after.output) (canonical t))
-    (OfStore (RefusesRead (is_halted old) g.tells (image_of old) (entry_of (listed_in old) name.now)) ((t : PlainTable) × Shows old name.now t))
-    (OnlyRead result old new) before after result
-Serves remaining contents opened.Check old new before after result = Checks contents old new before after result
-Serves {g = g} remaining contents (opened.Info as_json kind) old new before after result =
-    Prints ((s : Summary) × (agree : Bool) × IsSummary (g.size (device_of old)) old s × SaysAgreement (is_halted old) g.tells (image_of old) agree
-    × Appends (contents before.output) (contents after.output) (summary_text as_json s agree kind))
-    (RefusesPrinting (RefusesSummary (is_halted old)) (is_halted old ≡ false)) (OnlyRead result old new) before after result
+Serves remaining contents (opened.Reads reading) old new before after result = Prints contents reading old new before after result
 Serves remaining contents (opened.Compact steps) old new before after result =
     Compacts contents steps old new before.output after.output result × (after.hint ≡ before.hint)
 Serves remaining contents opened.Upgrade old new before after result = Upgrades contents old new before after result
-Serves {g = g} remaining contents opened.Have old new before after result =
-    Prints ((digests : List (List ℕ)) × HasDigestsAt (is_halted old) g.tells (image_of old) (listed_in old) digests
-    × Appends (contents before.output) (contents after.output) (digests_text digests))
-    (RefusesPrinting (SaysHalted (is_halted old)) (is_halted old ≡ false)) (OnlyRead result old new) before after result

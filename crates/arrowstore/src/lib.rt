@@ -27,6 +27,7 @@ mod kept_start;
 mod later_version;
 mod literal_form;
 mod made_file;
+mod making_outputs;
 mod named_input;
 mod nearest_type;
 mod noted;
@@ -58,9 +59,10 @@ pub use cli_texts::{
     report_unreadable_arguments,
 };
 pub use kept_start::{Input, KeptStart, MOST_KEPT};
+pub use making_outputs::{make_on_device, make_output};
 pub use noted::{Failures, NotedFile};
 pub use notes::{Remarks, RowChange};
-pub use open_command::{OpenCommand, stated};
+pub use open_command::{OpenCommand, Reading, stated};
 pub use open_quotation::asks_csv;
 pub use running::run;
 pub use serving_device::serve_device;

@@ -16,42 +16,9 @@ use std::alloc::Global;
 use tables::Command;
 use text_import::TextForm;
 
-/// A command of an open store, with its fields and conditions parsed.
+/// A command of an open store that only reads, with its conditions parsed.
 #[derive(Drop)]
-pub enum OpenCommand<'a> {
-    /// Changes the tables.
-    Change(Command),
-    /// Makes an empty table with the schema of another one.
-    CreateLike {
-        name: &'a str,
-        like: &'a str,
-    },
-    /// Makes the table of the stream that the whole input is, in place of one of this name.
-    Import {
-        name: &'a str,
-    },
-    /// Makes the table of the stream that the whole input is, if no table has this name.
-    ImportNew {
-        name: &'a str,
-    },
-    /// Makes the table of the stream that the whole input is, which must have its end, in place of one of this name, or only if there is none.
-    ImportComplete {
-        name: &'a str,
-        is_new: bool,
-    },
-    /// Appends the rows of the stream that the whole input is, which must have its end, to the table.
-    AppendComplete {
-        name: &'a str,
-    },
-    /// Appends the rows of the stream that the whole input is to the table.
-    Append {
-        name: &'a str,
-    },
-    /// Appends the rows of the text that the whole input is to the table.
-    AppendText {
-        name: &'a str,
-        form: TextForm<'a>,
-    },
+pub enum Reading<'a> {
     /// Prints the rows that a query selects, a line each, in this form.
     Select {
         name: &'a str,
@@ -79,14 +46,35 @@ pub enum OpenCommand<'a> {
         as_json: bool,
         kind: DeviceKind,
     },
-    /// Compacts the store step by step until there is nothing left to do, or as many steps are done.
-    Compact {
-        steps: Option<u64>,
-    },
-    /// Gives each segment a digest.
-    Upgrade,
     /// Prints the digest of each segment.
     Have,
+}
+
+/// A command of an open store, with its fields and conditions parsed.
+#[derive(Drop)]
+pub enum OpenCommand<'a> {
+    /// Changes the tables.
+    Change(Command),
+    /// Makes an empty table with the schema of another one.
+    CreateLike { name: &'a str, like: &'a str },
+    /// Makes the table of the stream that the whole input is, in place of one of this name.
+    Import { name: &'a str },
+    /// Makes the table of the stream that the whole input is, if no table has this name.
+    ImportNew { name: &'a str },
+    /// Makes the table of the stream that the whole input is, which must have its end, in place of one of this name, or only if there is none.
+    ImportComplete { name: &'a str, is_new: bool },
+    /// Appends the rows of the stream that the whole input is, which must have its end, to the table.
+    AppendComplete { name: &'a str },
+    /// Appends the rows of the stream that the whole input is to the table.
+    Append { name: &'a str },
+    /// Appends the rows of the text that the whole input is to the table.
+    AppendText { name: &'a str, form: TextForm<'a> },
+    /// Only reads.
+    Reads(Reading<'a>),
+    /// Compacts the store step by step until there is nothing left to do, or as many steps are done.
+    Compact { steps: Option<u64> },
+    /// Gives each segment a digest.
+    Upgrade,
 }
 
 impl OpenCommand<'_> {
@@ -174,14 +162,14 @@ pub fn stated<'a>(
             name,
             query: words,
             shape,
-        } => Ok(OpenCommand::Select {
+        } => Ok(OpenCommand::Reads(Reading::Select {
             name,
             query: query(alloc, words)?,
             form: RowForm {
                 shape: *shape,
                 dates: words.dates,
             },
-        }),
+        })),
         StoreCommand::SaveAs { from, to, query } => {
             Ok(OpenCommand::Change(save_as(alloc, from, to, query)?))
         }
@@ -189,17 +177,19 @@ pub fn stated<'a>(
             alloc, from, to,
         )?)),
         StoreCommand::Drop { name } => Ok(OpenCommand::Change(drop_table(alloc, name)?)),
-        StoreCommand::Tables => Ok(OpenCommand::Tables),
-        StoreCommand::Schema { name } => Ok(OpenCommand::Schema { name }),
-        StoreCommand::SchemaFields { name } => Ok(OpenCommand::SchemaFields { name }),
-        StoreCommand::Export { name } => Ok(OpenCommand::Export { name }),
-        StoreCommand::Check => Ok(OpenCommand::Check),
-        StoreCommand::Info { as_json } => Ok(OpenCommand::Info {
+        StoreCommand::Tables => Ok(OpenCommand::Reads(Reading::Tables)),
+        StoreCommand::Schema { name } => Ok(OpenCommand::Reads(Reading::Schema { name })),
+        StoreCommand::SchemaFields { name } => Ok(OpenCommand::Reads(Reading::SchemaFields {
+            name,
+        })),
+        StoreCommand::Export { name } => Ok(OpenCommand::Reads(Reading::Export { name })),
+        StoreCommand::Check => Ok(OpenCommand::Reads(Reading::Check)),
+        StoreCommand::Info { as_json } => Ok(OpenCommand::Reads(Reading::Info {
             as_json: *as_json,
             kind,
-        }),
+        })),
         StoreCommand::Compact { steps } => Ok(OpenCommand::Compact { steps: *steps }),
         StoreCommand::Upgrade => Ok(OpenCommand::Upgrade),
-        StoreCommand::Have => Ok(OpenCommand::Have),
+        StoreCommand::Have => Ok(OpenCommand::Reads(Reading::Have)),
     }
 }

@@ -8,11 +8,12 @@ ghost use Rattle.cli_requests.specs.StoreWords.{takes_input_word};
 ghost use Rattle.arrowstore.specs.OnFiles.{IsOpenedFile, FailsToFormat, RefusesFormat, Formats, Replays, ServesCommand, ServesRequest, WritesPart};
 ghost use Rattle.arrowstore.specs.Serving.{remarked};
 
-use crate::applying_scripts::serve_apply;
+use crate::applying_scripts::{device_to_change, serve_apply};
 use crate::block_devices::is_device_at;
 use crate::copying_files::serve_copy;
 use crate::formatting_devices::serve_format_device;
 use crate::made_file::MadeFile;
+use crate::making_outputs::make_on_device;
 use crate::open_command::stated;
 use crate::receiving_archives::serve_receive;
 use crate::replaying::serve_replay;
@@ -20,8 +21,8 @@ use crate::salvaging_files::serve_salvage;
 use crate::sending_archives::serve_send;
 use crate::serving_device::serve_device;
 use crate::waiting_input::serve_waiting;
-use crate::{Input, Remarks};
-use cli_commands::DeviceKind;
+use crate::{Input, OpenCommand, Reading, Remarks};
+use cli_commands::{DeviceKind, write_made};
 use cli_refusals::{Refusal, Side, write_whole};
 use cli_requests::{StoreCommand, StoreRequest};
 use commit::FormatVersion;
@@ -113,39 +114,17 @@ fn device_to_check<
     }
 }
 
-// How a command uses the file of its store.
-#[derive(Clone, Copy)]
-enum Access {
-    Reads,
-    Checks,
-    Changes,
-}
-
-fn access_of(command: &StoreCommand<'_>) -> Access {
-    match command {
-        StoreCommand::Check => Access::Checks,
-        _ => {
-            if command.only_reads() {
-                Access::Reads
-            } else {
-                Access::Changes
-            }
-        }
-    }
-}
-
-// Opens the device in a file. If the command only reads, the file is not opened for writing; a check has the commits written again.
+// Opens the device in a file for a command that only reads: the file is not opened for writing. A check has the commits written again.
 fn device_of<F: Read + Write + Seek + OpenFile + LockFile + Drop, H: Files<File = F> + AllocGlobal>(
     rt: &H,
     path: &str,
-    access: Access,
+    reading: &Reading<'_>,
 ) -> Result<FileDevice<SystemFile<F>>, FileError>
     ensures opened { IfOk result (λ device. IsOpenedFile device) }
 {
-    match access {
-        Access::Reads => device_to_read(rt, path),
-        Access::Checks => device_to_check(rt, path),
-        Access::Changes => FileDevice::open(rt, path),
+    match reading {
+        Reading::Check => device_to_check(rt, path),
+        _ => device_to_read(rt, path),
     }
 }
 
@@ -229,7 +208,7 @@ fn kind_told<H: Files>(rt: &H, path: &str, command: &StoreCommand<'_>) -> Device
 }
 
 // Serves a command on the store in a file. Its texts are parsed before any system call. An input that may keep it waiting is read before the file is locked
-// to be changed.
+// to be changed. If the command only reads, its device is dropped before its output is written, so that nobody who is slow to read that keeps the lock.
 fn serve_command<
     F: Read + Write + Seek + OpenFile + LockFile + Drop,
     H: Files<File = F> + AllocGlobal,
@@ -248,16 +227,25 @@ fn serve_command<
     ensures unread { (takes_input_word (command_word command.now) ≡ true) ⊎ (input.new ≡ input.old) }
     ensures silent { IfErr result (λ refusal. refusal ≢ Refusal.Io Side.Output → output.new ≡ output.old) }
 {
-    let access = access_of(command);
     let kind = kind_told(rt, path, command);
     let command = stated(rt.alloc(), command, kind)?;
     let _places = reserve_standard_descriptors(rt)?;
     if input.may_wait() && command.reads_input() {
         return serve_waiting(rt, path, command, input, output, remarks);
     }
-    let device = device_of(rt, path, access)?;
-    let (done, _device) = serve_device(rt.alloc(), device, command, input, output, remarks);
-    done
+    match command {
+        OpenCommand::Reads(reading) => {
+            let device = device_of(rt, path, &reading)?;
+            let (made, device) = make_on_device(rt.alloc(), device, &reading, remarks);
+            drop(device);
+            write_made(rt.alloc(), made, output)
+        }
+        command => {
+            let device = device_to_change(rt, path)?;
+            let (done, _device) = serve_device(rt.alloc(), device, command, input, output, remarks);
+            done
+        }
+    }
 }
 
 /// Serves a request of a store. If a text is refused, the hint of `remarks` is set to the refused part of it, and if a check is refused, to the first

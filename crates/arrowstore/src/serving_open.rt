@@ -4,10 +4,10 @@ ghost use Rattle.arrowstore.specs.OpenCommands.{reads_input};
 ghost use Rattle.arrowstore.specs.Serving.{channels, Serves};
 
 use crate::OpenCommand;
+use crate::making_outputs::make_output;
 use cli_commands::{
-    append_complete, append_input, append_text, apply_command, check_tables, compact_tables,
-    create_like, export_table, import_complete, import_input, import_new, list_digests,
-    print_fields, print_schema, print_selection, print_summary, print_tables, upgrade_store,
+    append_complete, append_input, append_text, apply_command, compact_tables, create_like,
+    import_complete, import_input, import_new, upgrade_store, write_made,
 };
 use cli_refusals::{Hinted, Refusal, Side};
 use sector_dev::SectorDevice;
@@ -49,17 +49,11 @@ pub fn serve_open<D: SectorDevice, R: Read, W: Write>(
         OpenCommand::AppendText { name, form } => {
             append_text(alloc, store, name, &form, input, output, hint)
         }
-        OpenCommand::Select { name, query, form } => {
-            print_selection(alloc, store, name, &query, form, output)
+        OpenCommand::Reads(reading) => {
+            let made = make_output(alloc, store, &reading, hint);
+            write_made(alloc, made, output)
         }
-        OpenCommand::Tables => print_tables(alloc, store, output),
-        OpenCommand::Schema { name } => print_schema(alloc, store, name, output),
-        OpenCommand::SchemaFields { name } => print_fields(alloc, store, name, output),
-        OpenCommand::Export { name } => export_table(alloc, store, name, output),
-        OpenCommand::Check => check_tables(alloc, store, output, hint),
-        OpenCommand::Info { as_json, kind } => print_summary(alloc, store, as_json, kind, output),
         OpenCommand::Compact { steps } => compact_tables(alloc, store, steps, output),
         OpenCommand::Upgrade => upgrade_store(alloc, store, output),
-        OpenCommand::Have => list_digests(alloc, store, output),
     }
 }

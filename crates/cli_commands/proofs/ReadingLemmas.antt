@@ -1,5 +1,5 @@
 -- Tables of a store that are read one after another.
-use Rattle.std.specs.Prelude.{get_or, slice_get, Option, None, Result, Ok, Err, IfErr, OnOk, ◌||◌}
+use Rattle.std.specs.Prelude.{get_or, slice_get, Option, None, Result, Ok, Err, OnOk, ◌||◌}
 use Rattle.std.specs.List.{AllByRecursion}
 use Rattle.std.proofs.Common.{◌≡◌, ◌<◌, ◌+◌, ◌∙◌, ℕ, Bool, true, false, List, Some, take, map, length, refl, ap, sym, subst}
 use Rattle.std.proofs.Math.Bool.{or-false}
@@ -23,9 +23,8 @@ use Rattle.store.specs.Reading.{OnlyReadsStore}
 use Rattle.cli_refusals.specs.declared.hint.Hinted.{Hinted}
 use Rattle.cli_refusals.specs.declared.hint.Hinted.TheVariants.{Part, Table}
 use Rattle.cli_refusals.specs.declared.refusal.Refusal.{Refusal}
-use Rattle.cli_refusals.specs.declared.refusal.Refusal.TheVariants.{Io, Store as StoreRefused}
-use Rattle.cli_refusals.specs.declared.refusal.Side.TheVariants.{Output}
-use Rattle.cli_commands.specs.Reading.{OfStore, refusal_ended, store_ended, IsReadable, FirstUnread, IsHintOf, HintsUnread, IfChecked}
+use Rattle.cli_refusals.specs.declared.refusal.Refusal.TheVariants.{Store as StoreRefused}
+use Rattle.cli_commands.specs.Reading.{IsReadable, FirstUnread, IsHintOf, HintsUnread, IfChecked}
 
 -- ---- lists
 
@@ -74,12 +73,6 @@ module _ {D : Type 0} {g : Ghosts D} (story : D → Story) where
     book = second.book ∙ first.book;
     halts = second.halts ∙ ap (λ (h : Bool). h || is_device_reply reply) (first.halts ∙ or-false a.halted);
   }
-
-  -- what was read is written, or the output failed
-  pub read_and_written : (size failed : D → ℕ) (tells : Bool) (old new : Store D g) (r : Result (Unit {0}) Refusal) → IfErr r (λ e. e ≡ Io Output) → OnlyReadsStore size story failed tells done old new
-      → OnlyReadsStore size story failed tells (store_ended r) old new
-  read_and_written size failed tells old new (Ok unit) io reads = reads
-  read_and_written size failed tells old new (Err e) io reads = subst (λ (x : Refusal). OnlyReadsStore size story failed tells (refusal_ended x) old new) (sym io) reads
 
   -- a writer that fails is no failure of the store
   pub read_unwritten : (size failed : D → ℕ) (tells : Bool) (old new : Store D g) (r : tables.Refusal) → r ≡ Write → OnlyReadsStore size story failed tells (refused r) old new
@@ -138,20 +131,15 @@ hints_unread (Some (Table n)) tells halted image c listed refusal place (of, row
   first = λ told. ((first told).0, (first told).1 ∙ ap (λ (x : List ℕ). (x, rows)) (sym named ∙ sym hints));
 }
 
-pub nothing_hinted : (hint : Option Hinted) (tells halted : Bool) (image : Image) (c : PlainCatalogue) (r : Result (Unit {0}) Refusal) → hint ≡ None → IfChecked hint tells halted image c r
+pub nothing_hinted : {T : Type 0} (hint : Option Hinted) (tells halted : Bool) (image : Image) (c : PlainCatalogue) (r : Result T Refusal) → hint ≡ None → IfChecked hint tells halted image c r
 nothing_hinted None tells halted image c r is = tt
 nothing_hinted (Some hinted) tells halted image c r is = absurd cc
 
 -- of the tables that are listed
-pub check_hints : (hint : Option Hinted) (tells halted : Bool) (image : Image) (c : PlainCatalogue) (listed : List (List ℕ × ℕ)) (refusal : tables.Refusal) → halted ≡ false → listed ≡ tables_of c
-    → HintsUnread hint tells halted image c listed refusal → IfChecked hint tells halted image c (Err (StoreRefused refusal))
-check_hints None tells halted image c listed refusal on is hints = tt
-check_hints (Some hinted) tells halted image c listed refusal on is hints = (on, subst (λ l. HintsUnread (Some hinted) tells halted image c l refusal) is hints)
-
--- where the output failed there was something to write
-pub output_failed : (P : tables.Refusal → Type 0) (there : Type 0) (r : Result (Unit {0}) Refusal) → IfErr r (λ e. e ≡ Io Output) → there → IfErr r (OfStore P there)
-output_failed P there (Ok unit) io h = tt
-output_failed P there (Err e) io h = subst (OfStore P there) (sym io) h
+pub check_hints : (T : Type 0) (hint : Option Hinted) (tells halted : Bool) (image : Image) (c : PlainCatalogue) (listed : List (List ℕ × ℕ)) (refusal : tables.Refusal) → halted ≡ false → listed ≡ tables_of c
+    → HintsUnread hint tells halted image c listed refusal → IfChecked {T = T} hint tells halted image c (Err (StoreRefused refusal))
+check_hints T None tells halted image c listed refusal on is hints = tt
+check_hints T (Some hinted) tells halted image c listed refusal on is hints = (on, subst (λ l. HintsUnread (Some hinted) tells halted image c l refusal) is hints)
 
 -- what holds whether all was written or not
 pub where_done : {A E : Type 0} (r : Result A E) (P : Type 0) → P → OnOk r P

@@ -1,23 +1,17 @@
 -- What a text and a query give of the table that is found.
 use Rattle.std.proofs.Common.{◌≡◌, ◌∙◌, ◌<◌, ℕ, Bool, List, refl, ap, sym, subst}
-use Rattle.std.specs.Prelude.{Option, Some, None, IsSome, false, option_map, unwrap_or, Result, Ok, Err, OnOk, IfErr, string_bytes}
+use Rattle.std.specs.Prelude.{Option, Some, None, IsSome, false, option_map, unwrap_or, Result, Ok, Err, IfErr, string_bytes}
 use Rattle.std.specs.List.{AllPass}
-use Rattle.std.specs.Io.KnownBytes.{Appends, IsAtEnd}
-use Rattle.sector_dev.specs.Disk.{Image}
+use Rattle.std.specs.Io.KnownBytes.{IsAtEnd}
 use Rattle.arrow_schema.specs.Column.{PlainSchema}
-use Rattle.cells.specs.Cell.{Cell, PlainTable}
+use Rattle.cells.specs.Cell.{Cell}
 use Rattle.cells.specs.Row.{is_row}
 use Rattle.cells.specs.Weight.{table_weight}
 use Rattle.cells.specs.declared.limits.TheConstants.{MAX_TABLE_WEIGHT}
 use Rattle.catalogue.specs.Entries.{PlainEntry}
-use Rattle.query.specs.Query.{PlainQuery}
-use Rattle.query.specs.declared.row_form.RowForm.{RowForm}
 use Rattle.text_import.specs.declared.refusal.Refused.{Refused}
 use Rattle.tables.specs.declared.refusal.Refusal as tables
-use Rattle.store_runs.specs.Reading.{ReadsTable}
 use Rattle.cli_refusals.specs.declared.refusal.Refusal.{Refusal}
-use Rattle.cli_refusals.specs.declared.refusal.Refusal.TheVariants.{Io}
-use Rattle.cli_refusals.specs.declared.refusal.Side.TheVariants.{Output}
 use Rattle.text_import.specs.declared.form.TextForm.{TextForm}
 use Rattle.store.specs.Applying.{AreTooHeavy}
 use Rattle.store.specs.Input.{HasGivenAtMost}
@@ -36,11 +30,9 @@ use Rattle.text_import.specs.declared.refusal.TextError.{TextError}
 use Rattle.text_import.specs.declared.refusal.TextError.TheVariants as texts
 use Rattle.facts.specs.Outcomes.{Reports}
 use Rattle.cli_refusals.specs.Refusals.{text_refusal}
-use Rattle.cli_commands.specs.Printed.{schema_text, RefusesPrinting}
+use Rattle.cli_commands.specs.Printed.{schema_text}
 use Rattle.cli_commands.specs.Changing.{Answered, Follows}
 use Rattle.cli_commands.specs.TextRows.{InputGives, IfOfText, HintsAt, IfHinted, RefusesText}
-use Rattle.query.specs.Printed.{rows_text, printed_selection}
-use Rattle.cli_commands.specs.Selecting.{QueryAnswers, RefusesQuery}
 
 -- the schema is that of the entry that is found
 pub input_gives : (form : TextForm) (found : Option PlainEntry) (input : Option (List ℕ)) (s : PlainSchema) (bytes : List ℕ) (given : Result (List (List Cell)) Refused)
@@ -126,32 +118,10 @@ refuses_text remaining form halted found old new s bytes (texts.Refused refused)
     (on, input_gives form found (remaining old) s bytes (Err refused) is whole gives, end)
 refuses_text remaining form halted found old new s bytes texts.OutOfMemory on is whole gives end few = (on, there_is found s is, few)
 
--- where all is written, the lines of the selection are
-pub lines_written : (form : RowForm) (halted tells : Bool) (image : Image) (found : Option PlainEntry) (q : PlainQuery) (table selected : PlainTable) (text : List ℕ) (old new : Option (List ℕ)) (r : Result (Unit {0}) Refusal)
-    → ReadsTable halted tells image found table → printed_selection form table q ≡ Ok selected → text ≡ rows_text form selected → OnOk r (Appends old new text)
-    → OnOk r ((s : PlainTable) × QueryAnswers form halted tells image found q (Ok s) × Appends old new (rows_text form s))
-lines_written form halted tells image found q table selected text old new (Ok done) reads answers is appends =
-    (selected, record { table = table; reads = reads; answers = answers }, subst (λ b. Appends old new b) is appends)
-lines_written form halted tells image found q table selected text old new (Err e) reads answers is appends = appends
-
--- where the output failed there is a selection
-pub selection_told : (form : RowForm) (halted tells : Bool) (image : Image) (found : Option PlainEntry) (q : PlainQuery) (table selected : PlainTable) (r : Result (Unit {0}) Refusal)
-    → IfErr r (λ e. e ≡ Io Output) → ReadsTable halted tells image found table → printed_selection form table q ≡ Ok selected → IfErr r (RefusesQuery form halted tells image found q)
-selection_told form halted tells image found q table selected (Ok done) io reads answers = tt
-selection_told form halted tells image found q table selected (Err e) io reads answers =
-    subst (RefusesQuery form halted tells image found q) (sym io) (selected, record { table = table; reads = reads; answers = answers })
-
--- where all is written, the lines of the schema of a table are
-pub schema_written : (found : Option PlainEntry) (s : PlainSchema) (text : List ℕ) (old new : Option (List ℕ)) (r : Result (Unit {0}) Refusal)
-    → option_map (λ e. e.schema) found ≡ Some s → text ≡ schema_text s.columns → OnOk r (Appends old new text)
-    → OnOk r ((e : PlainEntry) × (found ≡ Some e) × Appends old new (schema_text e.schema.columns))
-schema_written None s text old new r is lines appends = absurd cc
-schema_written (Some e) s text old new (Ok done) is lines appends =
+-- what is printed of the schema of a table
+pub schema_printed : (found : Option PlainEntry) (s : PlainSchema) (text : List ℕ) → option_map (λ e. e.schema) found ≡ Some s → text ≡ schema_text s.columns
+    → (e : PlainEntry) × (found ≡ Some e) × (text ≡ schema_text e.schema.columns)
+schema_printed None s text is lines = absurd cc
+schema_printed (Some e) s text is lines =
     let schema : e.schema ≡ s = ap (λ o. unwrap_or o s) is in
-    (e, refl, subst (λ b. Appends old new b) (lines ∙ ap (λ (t : PlainSchema). schema_text t.columns) (sym schema)) appends)
-schema_written (Some e) s text old new (Err refusal) is lines appends = tt
-
--- where the output failed there was something to print
-pub printing_failed : (P : tables.Refusal → Type 0) (there : Type 0) (r : Result (Unit {0}) Refusal) → IfErr r (λ e. e ≡ Io Output) → there → IfErr r (RefusesPrinting P there)
-printing_failed P there (Ok done) io h = tt
-printing_failed P there (Err e) io h = subst (RefusesPrinting P there) (sym io) h
+    (e, refl, lines ∙ ap (λ (t : PlainSchema). schema_text t.columns) (sym schema))

@@ -2,7 +2,7 @@
 use Rattle.std.proofs.Common.{◌≡◌, ◌∙◌, ◌+◌, ◌<◌, ◌≤◌, ◌++◌, ℕ, get_or, arith, add-one, eqb-true, inr, zero, suc, Bool, true, false, List, [], ◌∷◌, length, map, take, refl, sym, ap, subst, codes, append_assoc, append-nil, true≢false}
 use Rattle.std.specs.Prelude.{Option, Some, None, slice_get, String, string_bytes}
 use Rattle.std.specs.Global.{Global, Vec}
-use Rattle.std.specs.List.{AllByRecursion, list_any}
+use Rattle.std.specs.List.{list_any}
 use Rattle.std.specs.Str.{chars}
 use Rattle.std.proofs.lemmas.Bool.{eqb-false}
 use Rattle.std.proofs.lemmas.List.{length-map}
@@ -17,12 +17,10 @@ use Rattle.cli_refusals.specs.Shown.{is_unshown}
 use Rattle.cli_commands.specs.Changing.{StateSchema}
 use Rattle.cli_commands.specs.Typing.{IsFirstWithout, IsLineOf, IsLineIfAny, RefusesFields, RefusesTyped, RefusesTyping, typed_texts, lines_of, HaveLines}
 use Rattle.cli_refusals.specs.declared.refusal.Refusal.{Refusal}
-use Rattle.cli_refusals.specs.declared.refusal.Refusal.TheVariants.{Fields, Io, NoText, OutOfMemory}
-use Rattle.cli_refusals.specs.declared.refusal.Side.TheVariants.{Output}
+use Rattle.cli_refusals.specs.declared.refusal.Refusal.TheVariants.{Fields, NoText, OutOfMemory}
 use Rattle.field_texts.specs.declared.parse.ParseError.TheVariants.{Limit}
 use Rattle.catalogue.specs.Entries.{PlainEntry}
-use Rattle.std.specs.Io.KnownBytes.{Appends}
-use Rattle.std.specs.Prelude.{◌==◌, Result, Ok, Err, IfErr, IsSome, OnOk, option_map, vec_len}
+use Rattle.std.specs.Prelude.{◌==◌, option_map, vec_len}
 
 -- the text that is taken for a column is the one by which it is typed in
 text_is : (text : List ℕ) (c : Column) → IsTakenFor text c → text ≡ field_text plain c
@@ -161,21 +159,15 @@ typing_refused halted (Some e) s OutOfMemory on is refused = (on, (e, refl, tt))
 typing_refused halted (Some e) s _ on is refused = absurd refused
 
 -- what is printed of a schema is printed of the table that has it
-abbrev IsPrinted : PlainSchema → (old new : Option (List ℕ)) → Type 0
-IsPrinted s old new = StateSchema (typed_texts s.columns) s × HaveLines s.columns × Appends old new (lines_of (typed_texts s.columns))
+abbrev IsPrinted : PlainSchema → (text : List ℕ) → Type 0
+IsPrinted s text = StateSchema (typed_texts s.columns) s × HaveLines s.columns × (text ≡ lines_of (typed_texts s.columns))
 
-pub typing_written : (found : Option PlainEntry) (s : PlainSchema) (bytes : List ℕ) (old new : Option (List ℕ)) (result : Result (Unit {0}) Refusal) → SchemaOf found ≡ Some s
-    → StateSchema (typed_texts s.columns) s → HaveLines s.columns → bytes ≡ lines_of (typed_texts s.columns) → OnOk result (Appends old new bytes)
-    → OnOk result ((e : PlainEntry) × (found ≡ Some e) × StateSchema (typed_texts e.schema.columns) e.schema × HaveLines e.schema.columns
-    × Appends old new (lines_of (typed_texts e.schema.columns)))
-typing_written None s bytes old new result is states have lines written = absurd cc
-typing_written (Some e) s bytes old new (Err r) is states have lines written = tt
-typing_written (Some e) s bytes old new (Ok u) is states have lines written =
-    let p : IsPrinted s old new = (states, have, subst (Appends old new) lines written) in
-    let q : IsPrinted e.schema old new = subst (λ (x : PlainSchema). IsPrinted x old new) (sym (same_Some e.schema s is)) p in
+pub typing_printed : (found : Option PlainEntry) (s : PlainSchema) (text : List ℕ) → SchemaOf found ≡ Some s
+    → StateSchema (typed_texts s.columns) s → HaveLines s.columns → text ≡ lines_of (typed_texts s.columns)
+    → (e : PlainEntry) × (found ≡ Some e) × StateSchema (typed_texts e.schema.columns) e.schema × HaveLines e.schema.columns
+    × (text ≡ lines_of (typed_texts e.schema.columns))
+typing_printed None s text is states have lines = absurd cc
+typing_printed (Some e) s text is states have lines =
+    let p : IsPrinted s text = (states, have, lines) in
+    let q : IsPrinted e.schema text = subst (λ (x : PlainSchema). IsPrinted x text) (sym (same_Some e.schema s is)) p in
     (e, refl, q.0, q.1, q.2)
-
-pub typing_failed : (halted : Bool) (found : Option PlainEntry) (result : Result (Unit {0}) Refusal) → IfErr result (λ r. r ≡ Io Output) → halted ≡ false → IsSome found
-    → IfErr result (RefusesTyping halted found)
-typing_failed halted found (Ok u) io on there = tt
-typing_failed halted found (Err r) io on there = subst (RefusesTyping halted found) (sym io) (on, there)

@@ -15,3 +15,4 @@ pub mod Salvaging
 pub mod Typing
 pub mod Complete
 pub mod Unread
+pub mod WholeOutput

@@ -8,8 +8,7 @@ use Rattle.store.specs.Listing.{RefusesTables}
 use Rattle.store.specs.declared.summary.Summary.{Summary}
 use Rattle.tables.specs.declared.refusal.Refusal as tables
 use Rattle.cli_refusals.specs.declared.refusal.Refusal.{Refusal}
-use Rattle.cli_refusals.specs.declared.refusal.Refusal.TheVariants.{Io, Store, OutOfMemory}
-use Rattle.cli_refusals.specs.declared.refusal.Side.TheVariants.{Output}
+use Rattle.cli_refusals.specs.declared.refusal.Refusal.TheVariants.{Store, OutOfMemory}
 use Rattle.cli_commands.specs.declared.summing.DeviceKind.{DeviceKind}
 use Rattle.cli_commands.specs.declared.summing.DeviceKind.TheVariants as kinds
 
@@ -62,11 +61,9 @@ summary_object s agree kind =
 abbrev pub summary_text : (as_json : Bool) → Summary → (agree : Bool) → DeviceKind → List ℕ
 summary_text as_json s agree kind = if as_json then summary_object s agree kind else summary_lines s agree kind
 
--- why no text is printed: the store refuses, and P holds of its refusal; or it answers, as `there` says, and memory was refused or the output
--- failed
+-- why no text is printed: the store refuses, and P holds of its refusal; or it answers, as `there` says, and memory was refused
 abbrev pub RefusesPrinting : (tables.Refusal → Type 0) → (there : Type 0) → Refusal → Type 0
 RefusesPrinting P there (Store r) = P r
-RefusesPrinting P there (Io Output) = there
 RefusesPrinting P there OutOfMemory = there
 RefusesPrinting P there _ = ⊥
 

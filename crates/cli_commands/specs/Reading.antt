@@ -21,6 +21,11 @@ OfStore P there (Store r) = P r
 OfStore P there (Io Output) = there
 OfStore P there _ = ⊥
 
+-- the store refuses, and P holds of its refusal
+abbrev pub OfStoreAlone : (tables.Refusal → Type 0) → Refusal → Type 0
+OfStoreAlone P (Store r) = P r
+OfStoreAlone P _ = ⊥
+
 -- how the store's own calls ended if the program answers so
 abbrev pub refusal_ended : Refusal → PlainReply
 refusal_ended (Store r) = refused r
@@ -67,7 +72,7 @@ HintsUnread (Some (Table name)) tells halted image c listed refusal = NamesUnrea
 HintsUnread (Some hinted) tells halted image c listed refusal = ⊥
 
 -- only the first table that can't be read is hinted at by a check, and nothing on a halted store
-abbrev pub IfChecked : Option Hinted → (tells halted : Bool) → Image → PlainCatalogue → Result (Unit {0}) Refusal → Type 0
+abbrev pub IfChecked : {T : Type 0} → Option Hinted → (tells halted : Bool) → Image → PlainCatalogue → Result T Refusal → Type 0
 IfChecked None tells halted image c result = Unit {0}
 IfChecked (Some hinted) tells halted image c (Err (Store refusal)) = (halted ≡ false) × HintsUnread (Some hinted) tells halted image c (tables_of c) refusal
 IfChecked (Some hinted) tells halted image c _ = ⊥

@@ -1,5 +1,5 @@
 -- What a query asks of a store, and what is printed of it.
-use Rattle.std.specs.Prelude.{◌≡◌, ◌==◌, ℕ, Bool, List, [], map, Option, Some, None, option_map, Result, Ok, Err}
+use Rattle.std.specs.Prelude.{◌≡◌, ◌==◌, ℕ, Bool, List, [], map, Option, Some, None, option_map, Result, Err}
 use Rattle.std.specs.List.{slice_split}
 use Rattle.sector_dev.specs.Disk.{Image}
 use Rattle.cells.specs.Cell.{PlainTable}
@@ -15,8 +15,7 @@ use Rattle.tables.specs.declared.refusal.QueryRefusal.{QueryRefusal}
 use Rattle.tables.specs.declared.refusal.QueryRefusal.TheVariants.{UnknownColumn, BadCondition, NotComparable}
 use Rattle.store_runs.specs.Reading.{ReadsTable, RefusesRead}
 use Rattle.cli_refusals.specs.declared.refusal.Refusal.{Refusal}
-use Rattle.cli_refusals.specs.declared.refusal.Refusal.TheVariants.{Io, Query, Store, OutOfMemory}
-use Rattle.cli_refusals.specs.declared.refusal.Side.TheVariants.{Output}
+use Rattle.cli_refusals.specs.declared.refusal.Refusal.TheVariants.{Query, Store, OutOfMemory}
 
 -- the names between the commas of a word: an empty word is one empty name; without the word all columns are asked for
 abbrev pub named_columns : Option (List ℕ) → List (List ℕ)
@@ -48,10 +47,9 @@ plain_reason UnknownColumn = query.unknown_column
 plain_reason BadCondition = query.bad_condition
 plain_reason NotComparable = query.not_comparable
 
--- why a query prints nothing: the table is not read; or it is, and the query or memory is refused; or there is a selection, and the output failed
+-- why a query prints nothing: the table is not read; or it is, and the query or memory is refused
 abbrev pub RefusesQuery : RowForm → (halted tells : Bool) → Image → Option PlainEntry → PlainQuery → Refusal → Type 0
 RefusesQuery form halted tells image found q (Store refusal) = RefusesRead halted tells image found refusal
 RefusesQuery form halted tells image found q (Query refusal) = QueryAnswers form halted tells image found q (Err (plain_reason refusal))
-RefusesQuery form halted tells image found q (Io Output) = (selected : PlainTable) × QueryAnswers form halted tells image found q (Ok selected)
 RefusesQuery form halted tells image found q OutOfMemory = (table : PlainTable) × ReadsTable halted tells image found table
 RefusesQuery form halted tells image found q _ = ⊥

@@ -1,5 +1,5 @@
 -- What is printed of a schema that can be typed in.
-use Rattle.std.specs.Prelude.{◌≡◌, ◌+◌, ◌⊎◌, ℕ, Bool, false, List, [], ◌∷◌, ◌++◌, codes, map, take, slice_get, Option, Some, None, String, string_bytes, IsSome}
+use Rattle.std.specs.Prelude.{◌≡◌, ◌+◌, ◌⊎◌, ℕ, Bool, false, List, [], ◌∷◌, ◌++◌, codes, map, take, slice_get, Option, Some, None, String, string_bytes}
 use Rattle.std.specs.Global.{Global}
 use Rattle.std.specs.List.{AllByRecursion, list_any}
 use Rattle.std.specs.Str.{chars}
@@ -11,8 +11,7 @@ use Rattle.field_texts.specs.Reported.{IsTakenFor, schema_with}
 use Rattle.field_texts.specs.declared.parse.ParseError.TheVariants.{Limit}
 use Rattle.cli_refusals.specs.Shown.{is_unshown}
 use Rattle.cli_refusals.specs.declared.refusal.Refusal.{Refusal}
-use Rattle.cli_refusals.specs.declared.refusal.Refusal.TheVariants.{Io, Fields, NoText, Store, OutOfMemory}
-use Rattle.cli_refusals.specs.declared.refusal.Side.TheVariants.{Output}
+use Rattle.cli_refusals.specs.declared.refusal.Refusal.TheVariants.{Fields, NoText, Store, OutOfMemory}
 use Rattle.store.specs.Listing.{RefusesSchema}
 
 -- the text is taken for this column, and a terminal may be shown it, so it is one line
@@ -58,8 +57,7 @@ RefusesTyped s (Fields Limit) = ¬ IsWithinLimits (schema_with s.columns)
 RefusesTyped s OutOfMemory = Unit {0}
 RefusesTyped s _ = ⊥
 
--- why nothing is printed of a table: the store does not give its schema, or the schema is refused so, or the output failed
+-- why nothing is printed of a table: the store does not give its schema, or the schema is refused so
 abbrev pub RefusesTyping : (halted : Bool) → Option PlainEntry → Refusal → Type 0
 RefusesTyping halted found (Store refusal) = RefusesSchema halted found refusal
-RefusesTyping halted found (Io Output) = (halted ≡ false) × IsSome found
 RefusesTyping halted found refusal = (halted ≡ false) × ((e : PlainEntry) × (found ≡ Some e) × RefusesTyped e.schema refusal)

@@ -8,11 +8,12 @@ ghost use Rattle.table_archive.specs.Reading.{IsRead};
 ghost use Rattle.store.specs.Fits.{commit_of, device_of, is_halted, listed_in};
 ghost use Rattle.store.specs.Reading.{OnlyReadsStore};
 ghost use Rattle.store.specs.Sending.{HasDigestsAt, SaysHalted, SendsAt};
-ghost use Rattle.cli_refusals.specs.Output.{AppendsFront, IfOutput};
 ghost use Rattle.cli_commands.specs.Archives.{IsNoArchive, ReceivesTables, RefusesList, archive_refusal, digests_text, receive_refusal};
 ghost use Rattle.cli_commands.specs.Printed.{RefusesPrinting};
 ghost use Rattle.cli_commands.specs.Reading.{OfStore, store_ended};
+ghost use Rattle.cli_commands.specs.WholeOutput.{bytes_in, is_stream};
 
+use crate::WholeOutput;
 use cli_refusals::{ArchiveMember, Refusal, Side, write_whole};
 use sector_dev::SectorDevice;
 use std::alloc::{AllocError, Global};
@@ -31,32 +32,28 @@ fn lines_of_digests(alloc: Global, digests: &[[u8; 32]]) -> Result<String, Alloc
     Ok(text)
 }
 
-/// Prints a line for the digest of each segment of all tables, in the order of the tables and of their rows, each once: 64 hexadecimal digits in lower
+/// Returns a line for the digest of each segment of all tables, in the order of the tables and of their rows, each once: 64 hexadecimal digits in lower
 /// case. A segment whose digest is not in the list of tables is read.
 ///
 /// # Errors
-/// `Store`, as [`Store::digests`] refuses, and `OutOfMemory`: nothing is written. `Io` if a write fails: some first bytes of the lines may be written.
-pub fn list_digests<D: SectorDevice, W: Write>(
+/// `Store`, as [`Store::digests`] refuses, and `OutOfMemory`.
+pub fn list_digests<D: SectorDevice>(
     alloc: Global,
     store: &mut Store<D>,
-    output: &mut W,
-) -> Result<(), Refusal>
+) -> Result<WholeOutput, Refusal>
     // What is printed is the digests of the segments of all tables, and nothing else.
-    ensures written { OnOk result ((digests : List (List ℕ))
+    ensures printed { IfOk result (λ whole. (digests : List (List ℕ))
         × HasDigestsAt (is_halted store.old) D.tells (shown_image (now (D.story (device_of store.old)))) (listed_in store.old) digests
-        × Appends (W.contents output.old) (W.contents output.new) (digests_text digests)) }
+        × (bytes_in whole ≡ digests_text digests)) }
+    ensures made { IfOk result (λ whole. is_stream whole ≡ false) }
+    ensures on { OnOk result (is_halted store.old ≡ false) }
     ensures told { IfErr result (RefusesPrinting (SaysHalted (is_halted store.old)) (is_halted store.old ≡ false)) }
     // The store is only read.
     ensures reads { OnlyReadsStore D.size D.story D.failed D.tells (store_ended result) store.old store.new }
-    // A refusal prints nothing, unless a write failed; then what is printed is a front of these lines.
-    ensures silent { IfErr result (λ refusal. refusal ≢ Refusal.Io Side.Output → output.new ≡ output.old) }
-    ensures front { IfErr result (IfOutput ((digests : List (List ℕ))
-        × HasDigestsAt (is_halted store.old) D.tells (shown_image (now (D.story (device_of store.old)))) (listed_in store.old) digests
-        × AppendsFront (W.contents output.old) (W.contents output.new) (digests_text digests))) }
 {
     let digests = store.digests(alloc)?;
     let text = lines_of_digests(alloc, &digests)?;
-    write_whole(output, text.as_bytes())
+    Ok(WholeOutput::Text(text))
 }
 
 /// Returns the digests that the lines of a text state: 64 hexadecimal digits each, of either case.

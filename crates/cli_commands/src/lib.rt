@@ -2,7 +2,8 @@
 //!
 //! [`apply_command`], [`apply_listed`], [`create_like`], [`import_input`], [`import_new`], [`append_input`] and [`append_text`] change the tables, and so do
 //! [`import_complete`] and [`append_complete`] with streams that must have their end; [`print_tables`], [`print_schema`], [`print_fields`],
-//! [`print_selection`], [`print_summary`], [`export_table`] and [`check_tables`] read them; [`compact_tables`] joins their segments,
+//! [`print_selection`], [`print_summary`], [`export_table`] and [`check_tables`] read them, and return what is to be written ([`WholeOutput`]), so that
+//! the store can be closed before; [`compact_tables`] joins their segments,
 //! [`upgrade_store`] gives the segments digests, [`copy_tables`] copies all tables into another store, and [`salvage_table`] writes what can be
 //! read of a damaged one. [`list_digests`] prints the digests of the segments, [`read_digests`] reads such a list, and [`send_archive`] writes an archive
 //! of the tables without the segments that its receiver has; [`archive_in`] reads one, and [`receive_archive`] makes its tables those of a store. Their
@@ -33,6 +34,7 @@ mod text_rows;
 mod typing;
 mod unread;
 mod upgrading;
+mod whole_output;
 
 pub use applying::{ListedCommand, apply_listed};
 pub use archives::{archive_in, list_digests, read_digests, receive_archive, send_archive};
@@ -52,3 +54,4 @@ pub use text_rows::append_text;
 pub use typing::print_fields;
 pub use unread::{test_append, test_import};
 pub use upgrading::upgrade_store;
+pub use whole_output::{WholeOutput, write_made};

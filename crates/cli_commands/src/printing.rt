@@ -1,21 +1,20 @@
-// Prints the tables of an open store, and the fields of one, as lines.
-ghost use Rattle.std.specs.Prelude.{◌≡◌, ◌≢◌, ◌++◌, map, option_map, string_bytes, false, Some, IfSome, IsSome, IfOk, IfErr, OnOk};
-ghost use Rattle.std.specs.Io.KnownBytes.{Appends};
+// Prints the tables of an open store, and the fields of one, as lines of a text.
+ghost use Rattle.std.specs.Prelude.{◌≡◌, ◌++◌, map, option_map, string_bytes, false, Some, IfSome, IsSome, IfOk, IfErr, OnOk};
 ghost use Rattle.arrow_schema.specs.Column.{Column};
 ghost use Rattle.arrow_schema.specs.View.{column_of, schema_of};
 ghost use Rattle.catalogue.specs.Edits.{entry_of, tables_of};
-ghost use Rattle.cli_refusals.specs.Output.{AppendsFront, IfOutput};
 ghost use Rattle.store.specs.Fits.{listed_in, is_halted};
 ghost use Rattle.store.specs.Listing.{RefusesTables, RefusesSchema};
 ghost use Rattle.cli_commands.specs.Printed.{numbered, tables_text, schema_text, RefusesPrinting};
+ghost use Rattle.cli_commands.specs.WholeOutput.{bytes_in, is_stream};
 
+use crate::WholeOutput;
 use arrow_schema::Field;
-use cli_refusals::{Refusal, Side, write_whole};
+use cli_refusals::Refusal;
 use field_texts::field_text;
 use sector_dev::SectorDevice;
 use std::alloc::{AllocError, Global};
 use std::fmt::Write as _;
-use std::io::Write;
 use store::Store;
 
 /// Appends a text, then a number.
@@ -52,47 +51,41 @@ fn lines_of_fields(alloc: Global, fields: &[Field]) -> Result<String, AllocError
     Ok(text)
 }
 
-/// Prints a line for each table, in byte order of the names: the name and the number of rows.
+/// Returns a line for each table, in byte order of the names: the name and the number of rows.
 ///
 /// # Errors
-/// `Store` with `Halted` or `OutOfMemory`, and `OutOfMemory`: nothing is written. `Io` if a write fails: some first bytes of the lines may be written.
-pub fn print_tables<D: SectorDevice, W: Write>(
+/// `Store` with `Halted` or `OutOfMemory`, and `OutOfMemory`.
+pub fn print_tables<D: SectorDevice>(
     alloc: Global,
     store: &Store<D>,
-    output: &mut W,
-) -> Result<(), Refusal>
+) -> Result<WholeOutput, Refusal>
     // What is printed is what the store has, and nothing else.
-    ensures written { OnOk result (Appends (W.contents output.old) (W.contents output.new) (tables_text (tables_of (listed_in store.now)))) }
+    ensures printed { IfOk result (λ whole. bytes_in whole ≡ tables_text (tables_of (listed_in store.now))) }
+    ensures made { IfOk result (λ whole. is_stream whole ≡ false) }
+    ensures on { OnOk result (is_halted store.now ≡ false) }
     ensures told { IfErr result (RefusesPrinting (RefusesTables (is_halted store.now)) (is_halted store.now ≡ false)) }
-    // A refusal prints nothing, unless a write failed; then what is printed is a front of these lines.
-    ensures silent { IfErr result (λ refusal. refusal ≢ Refusal.Io Side.Output → output.new ≡ output.old) }
-    ensures front { IfErr result (IfOutput (AppendsFront (W.contents output.old) (W.contents output.new) (tables_text (tables_of (listed_in store.now))))) }
 {
     let tables = store.tables(alloc)?;
     let text = lines_of_tables(alloc, &tables)?;
-    write_whole(output, text.as_bytes())
+    Ok(WholeOutput::Text(text))
 }
 
-/// Prints a line for each field of a table: a field text whose names are JSON strings.
+/// Returns a line for each field of a table: a field text whose names are JSON strings.
 ///
 /// # Errors
-/// `Store` with `Halted`, `NoTable` or `OutOfMemory`, and `OutOfMemory`: nothing is written. `Io` if a write fails: some first bytes of the lines may
-/// be written.
-pub fn print_schema<D: SectorDevice, W: Write>(
+/// `Store` with `Halted`, `NoTable` or `OutOfMemory`, and `OutOfMemory`.
+pub fn print_schema<D: SectorDevice>(
     alloc: Global,
     store: &Store<D>,
     name: &str,
-    output: &mut W,
-) -> Result<(), Refusal>
-    ensures written { OnOk result ((e : _) × (entry_of (listed_in store.now) name.now ≡ Some e)
-        × Appends (W.contents output.old) (W.contents output.new) (schema_text e.schema.columns)) }
+) -> Result<WholeOutput, Refusal>
+    ensures printed { IfOk result (λ whole. (e : _) × (entry_of (listed_in store.now) name.now ≡ Some e) × (bytes_in whole ≡ schema_text e.schema.columns)) }
+    ensures made { IfOk result (λ whole. is_stream whole ≡ false) }
+    ensures on { OnOk result (is_halted store.now ≡ false) }
     ensures told { IfErr result (RefusesPrinting (RefusesSchema (is_halted store.now) (entry_of (listed_in store.now) name.now))
         ((is_halted store.now ≡ false) × IsSome (entry_of (listed_in store.now) name.now))) }
-    ensures silent { IfErr result (λ refusal. refusal ≢ Refusal.Io Side.Output → output.new ≡ output.old) }
-    ensures front { IfErr result (IfOutput ((e : _) × (entry_of (listed_in store.now) name.now ≡ Some e)
-        × AppendsFront (W.contents output.old) (W.contents output.new) (schema_text e.schema.columns))) }
 {
     let schema = store.schema(alloc, name)?;
     let text = lines_of_fields(alloc, &schema.fields)?;
-    write_whole(output, text.as_bytes())
+    Ok(WholeOutput::Text(text))
 }

@@ -1,7 +1,6 @@
 // Commands that read the tables of an open store: `export`, and `check` of all of them.
-ghost use Rattle.std.specs.Prelude.{◌≡◌, ◌≢◌, true, codes, map, string_bytes, IfErr, OnOk};
+ghost use Rattle.std.specs.Prelude.{◌≡◌, true, false, codes, map, string_bytes, IfOk, IfErr, OnOk};
 ghost use Rattle.std.specs.List.{AllByRecursion};
-ghost use Rattle.std.specs.Io.KnownBytes.{Appends};
 ghost use Rattle.sector_dev.specs.Disk.{now, shown_image};
 ghost use Rattle.cells.specs.Cell.{PlainTable};
 ghost use Rattle.catalogue.specs.Edits.{entry_of, tables_of};
@@ -9,38 +8,35 @@ ghost use Rattle.ipc_canonical.specs.Canonical.{canonical};
 ghost use Rattle.store.specs.Fits.{device_of, is_halted, listed_in};
 ghost use Rattle.store_runs.specs.Reading.{ReadsTable, RefusesRead, ended};
 ghost use Rattle.store.specs.Reading.{OnlyReadsStore};
-ghost use Rattle.cli_commands.specs.Reading.{OfStore, store_ended, IsReadable, FirstUnread, RefusesCheck, IsHintOf, HintsUnread, IfChecked};
+ghost use Rattle.cli_commands.specs.Reading.{OfStoreAlone, store_ended, IsReadable, FirstUnread, RefusesCheck, IsHintOf, HintsUnread, IfChecked};
+ghost use Rattle.cli_commands.specs.WholeOutput.{bytes_in, is_stream};
 
-use cli_refusals::{Hinted, Refusal, Side, write_whole};
+use crate::WholeOutput;
+use cli_refusals::{Hinted, Refusal};
 use sector_dev::SectorDevice;
 use std::alloc::Global;
-use std::io::Write;
 use store::Store;
 
-/// Writes the canonical stream of the table of this name. All of its parts are made before the first byte is written.
+/// Reads the table of this name, to write its canonical stream.
 ///
 /// # Errors
-/// `Store`, as [`Store::read`] refuses: nothing is written. `Io` if a write fails: part of the stream may be written.
-pub fn export_table<D: SectorDevice, W: Write>(
+/// `Store`, as [`Store::read`] refuses.
+pub fn export_table<D: SectorDevice>(
     alloc: Global,
     store: &mut Store<D>,
     name: &str,
-    output: &mut W,
-) -> Result<(), Refusal>
-    // What is written is the stream of the table that reads show, and nothing else.
-    ensures written { OnOk result ((t : PlainTable) × ReadsTable (is_halted store.old) D.tells (shown_image (now (D.story (device_of store.old))))
-        (entry_of (listed_in store.old) name.now) t × Appends (W.contents output.old) (W.contents output.new) (canonical t)) }
-    ensures told { IfErr result (OfStore (RefusesRead (is_halted store.old) D.tells (shown_image (now (D.story (device_of store.old))))
-        (entry_of (listed_in store.old) name.now)) ((t : PlainTable) × ReadsTable (is_halted store.old) D.tells
-        (shown_image (now (D.story (device_of store.old)))) (entry_of (listed_in store.old) name.now) t)) }
+) -> Result<WholeOutput, Refusal>
+    // What is to be written is the stream of the table that reads show, and nothing else.
+    ensures printed { IfOk result (λ whole. (t : PlainTable) × ReadsTable (is_halted store.old) D.tells (shown_image (now (D.story (device_of store.old))))
+        (entry_of (listed_in store.old) name.now) t × (bytes_in whole ≡ canonical t)) }
+    ensures stream { IfOk result (λ whole. is_stream whole ≡ true) }
+    ensures told { IfErr result (OfStoreAlone (RefusesRead (is_halted store.old) D.tells (shown_image (now (D.story (device_of store.old))))
+        (entry_of (listed_in store.old) name.now))) }
     // The store is only read.
     ensures reads { OnlyReadsStore D.size D.story D.failed D.tells (store_ended result) store.old store.new }
-    // A refusal writes nothing, unless a write failed.
-    ensures silent { IfErr result (λ refusal. refusal ≢ Refusal.Io Side.Output → output.new ≡ output.old) }
 {
-    match store.export(alloc, name, output) {
-        Ok(()) => Ok(()),
-        Err(tables::Refusal::Write) => Err(Refusal::Io(Side::Output)),
+    match store.read(alloc, name) {
+        Ok(table) => Ok(WholeOutput::Stream(table)),
         Err(refusal) => Err(Refusal::Store(refusal)),
     }
 }
@@ -86,35 +82,32 @@ fn read_each<D: SectorDevice>(
     Ok(())
 }
 
-/// Reads each table, in byte order of the names, and writes `ok` if all can be read.
+/// Reads each table, in byte order of the names, and has `ok` written if all can be read.
 ///
 /// Stops at the first table that can't be read, reports it as [`Store::read`] does, and sets `hint` to its name, or to `None` if memory is refused.
 ///
 /// # Errors
-/// `Store` if the tables can't be listed or one can't be read: nothing is written. `Io` if a write fails: all tables can be read.
+/// `Store` if the tables can't be listed or one can't be read.
 #[tactic(auto, using(crate::proofs::ReadingLemmas::nothing_hinted))]
-pub fn check_tables<D: SectorDevice, W: Write>(
+pub fn check_tables<D: SectorDevice>(
     alloc: Global,
     store: &mut Store<D>,
-    output: &mut W,
     hint: &mut Option<Hinted>,
-) -> Result<(), Refusal>
-    ensures written { OnOk result (Appends (W.contents output.old) (W.contents output.new) (codes "ok\n")) }
+) -> Result<WholeOutput, Refusal>
+    ensures printed { IfOk result (λ whole. bytes_in whole ≡ codes "ok\n") }
+    ensures made { IfOk result (λ whole. is_stream whole ≡ false) }
     ensures read { OnOk result (D.tells ≡ true
         → AllByRecursion (IsReadable (is_halted store.old) (shown_image (now (D.story (device_of store.old)))) (listed_in store.old))
         (tables_of (listed_in store.old))) }
-    ensures told { IfErr result (OfStore (λ refusal. D.tells ≡ true
-        → RefusesCheck (is_halted store.old) (shown_image (now (D.story (device_of store.old)))) (listed_in store.old) refusal)
-        (D.tells ≡ true → AllByRecursion (IsReadable (is_halted store.old) (shown_image (now (D.story (device_of store.old)))) (listed_in store.old))
-        (tables_of (listed_in store.old)))) }
+    ensures told { IfErr result (OfStoreAlone (λ refusal. D.tells ≡ true
+        → RefusesCheck (is_halted store.old) (shown_image (now (D.story (device_of store.old)))) (listed_in store.old) refusal)) }
     // A hint names the first table that can't be read; any other answer has no hint.
     ensures hint { IfChecked hint.new D.tells (is_halted store.old) (shown_image (now (D.story (device_of store.old)))) (listed_in store.old) result }
     // The store is only read.
     ensures reads { OnlyReadsStore D.size D.story D.failed D.tells (store_ended result) store.old store.new }
-    ensures silent { IfErr result (λ refusal. refusal ≢ Refusal.Io Side.Output → output.new ≡ output.old) }
 {
     *hint = None;
     let tables = store.tables(alloc)?;
     read_each(alloc, store, &tables, hint)?;
-    write_whole(output, b"ok\n")
+    Ok(WholeOutput::Done)
 }

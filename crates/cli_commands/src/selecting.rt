@@ -1,23 +1,22 @@
 // Queries the tables of an open store.
-ghost use Rattle.std.specs.Prelude.{◌≡◌, ◌≢◌, map, string_bytes, Some, Ok, IfOk, IfErr, OnOk};
+ghost use Rattle.std.specs.Prelude.{◌≡◌, map, string_bytes, false, Some, Ok, IfOk, IfErr};
 ghost use Rattle.std.specs.Option.{option_copied};
-ghost use Rattle.std.specs.Io.KnownBytes.{Appends};
 ghost use Rattle.sector_dev.specs.Disk.{now, shown_image};
 ghost use Rattle.catalogue.specs.Edits.{entry_of};
 ghost use Rattle.cells.specs.Cell.{PlainTable};
 ghost use Rattle.query.specs.Printed.{rows_text};
 ghost use Rattle.query.specs.View.{query_in, condition_in};
-ghost use Rattle.cli_refusals.specs.Output.{AppendsFront, IfOutput};
 ghost use Rattle.store.specs.Fits.{device_of, is_halted, listed_in};
 ghost use Rattle.store.specs.Reading.{OnlyReadsStore};
 ghost use Rattle.cli_commands.specs.Reading.{store_ended};
 ghost use Rattle.cli_commands.specs.Selecting.{named_columns, conditions_of, stated_query, RefusesWords, QueryAnswers, RefusesQuery};
+ghost use Rattle.cli_commands.specs.WholeOutput.{bytes_in, is_stream};
 
-use cli_refusals::{Refusal, Side, write_whole};
+use crate::WholeOutput;
+use cli_refusals::Refusal;
 use query::{Condition, DateForm, Query, RowForm};
 use sector_dev::SectorDevice;
 use std::alloc::{AllocError, Global};
-use std::io::Write;
 use store::Store;
 
 fn words_between_commas(alloc: Global, word: &str) -> Result<Vec<&str>, AllocError>
@@ -82,37 +81,32 @@ pub fn query_of(
     })
 }
 
-/// Prints each row that a query selects from a table as a line of JSON: an array, or an object with the names of the columns. The whole table is read
-/// first, and all lines are made before the first is written; in memory are these lines, and one segment of the table.
+/// Returns each row that a query selects from a table as a line of JSON: an array, or an object with the names of the columns. In memory are these lines,
+/// and one segment of the table.
 ///
 /// # Errors
 /// Those of [`Store::read`]; `Query` if the query is refused, or with `UnknownColumn` if rows are objects and two of the chosen columns have the
-/// same name; `Io` if a write fails, and some first bytes of the lines may be written.
-pub fn print_selection<D: SectorDevice, W: Write>(
+/// same name.
+pub fn print_selection<D: SectorDevice>(
     alloc: Global,
     store: &mut Store<D>,
     name: &str,
     query: &Query,
     form: RowForm,
-    output: &mut W,
-) -> Result<(), Refusal>
-    // What is written is the lines of the selection from the table that reads show, and nothing else.
-    ensures written { OnOk result ((selected : PlainTable) × QueryAnswers form (is_halted store.old) D.tells (shown_image (now (D.story (device_of store.old))))
-        (entry_of (listed_in store.old) name.now) (query_in query.now) (Ok selected)
-        × Appends (W.contents output.old) (W.contents output.new) (rows_text form selected)) }
+) -> Result<WholeOutput, Refusal>
+    // What is printed is the lines of the selection from the table that reads show, and nothing else.
+    ensures printed { IfOk result (λ whole. (selected : PlainTable) × QueryAnswers form (is_halted store.old) D.tells
+        (shown_image (now (D.story (device_of store.old)))) (entry_of (listed_in store.old) name.now) (query_in query.now) (Ok selected)
+        × (bytes_in whole ≡ rows_text form selected)) }
+    ensures made { IfOk result (λ whole. is_stream whole ≡ false) }
     ensures told { IfErr result (RefusesQuery form (is_halted store.old) D.tells (shown_image (now (D.story (device_of store.old))))
         (entry_of (listed_in store.old) name.now) (query_in query.now)) }
     // The store is only read.
     ensures reads { OnlyReadsStore D.size D.story D.failed D.tells (store_ended result) store.old store.new }
-    // A refusal writes nothing, unless a write failed; then what is written is a front of these lines.
-    ensures silent { IfErr result (λ refusal. refusal ≢ Refusal.Io Side.Output → output.new ≡ output.old) }
-    ensures front { IfErr result (IfOutput ((selected : PlainTable) × QueryAnswers form (is_halted store.old) D.tells
-        (shown_image (now (D.story (device_of store.old)))) (entry_of (listed_in store.old) name.now) (query_in query.now) (Ok selected)
-        × AppendsFront (W.contents output.old) (W.contents output.new) (rows_text form selected))) }
 {
     let answer = store.selected_lines(alloc, name, query, form)?;
     match answer {
-        Ok(text) => write_whole(output, &text),
+        Ok(lines) => Ok(WholeOutput::Lines(lines)),
         Err(error) => Err(Refusal::from(error)),
     }
 }

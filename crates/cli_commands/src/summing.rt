@@ -1,20 +1,19 @@
-// Prints the summary of a store.
-ghost use Rattle.std.specs.Prelude.{◌≡◌, ◌≢◌, map, string_bytes, false, IfOk, IfErr, OnOk};
-ghost use Rattle.std.specs.Io.KnownBytes.{Appends};
+// Prints the summary of a store, as a text.
+ghost use Rattle.std.specs.Prelude.{◌≡◌, map, string_bytes, false, IfOk, IfErr, OnOk};
 ghost use Rattle.sector_dev.specs.Disk.{now, shown_image};
-ghost use Rattle.cli_refusals.specs.Output.{AppendsFront, IfOutput};
 ghost use Rattle.store.specs.Fits.{device_of, is_halted};
 ghost use Rattle.store.specs.Agreeing.{SaysAgreement};
 ghost use Rattle.store.specs.Reading.{OnlyReadsStore};
 ghost use Rattle.store.specs.Summary.{IsSummary};
 ghost use Rattle.cli_commands.specs.Printed.{summary_numbers, summary_lines, summary_object, summary_text, RefusesPrinting, RefusesSummary};
 ghost use Rattle.cli_commands.specs.Reading.{store_ended};
+ghost use Rattle.cli_commands.specs.WholeOutput.{bytes_in, is_stream};
 
-use cli_refusals::{Refusal, Side, write_whole};
+use crate::WholeOutput;
+use cli_refusals::Refusal;
 use sector_dev::SectorDevice;
 use std::alloc::{AllocError, Global};
 use std::fmt::{self, Write as _};
-use std::io::Write;
 use store::{Store, Summary};
 
 /// What the device of a store is.
@@ -101,34 +100,29 @@ fn text_of(
     }
 }
 
-/// Prints the summary of a store ([`Store::summary`]), whether its commit sectors agree ([`Store::commits_agree`]), and what its device is
+/// Returns the summary of a store ([`Store::summary`]), whether its commit sectors agree ([`Store::commits_agree`]), and what its device is
 /// said to be: a line with a name and a value each, or one JSON object on one line.
 ///
 /// # Errors
-/// `Store` with `Halted`, `OutOfMemory` or `Device`, and `OutOfMemory`: nothing is written. `Io` if a write fails: some first
-/// bytes may be written.
-pub fn print_summary<D: SectorDevice, W: Write>(
+/// `Store` with `Halted`, `OutOfMemory` or `Device`, and `OutOfMemory`.
+pub fn print_summary<D: SectorDevice>(
     alloc: Global,
     store: &mut Store<D>,
     as_json: bool,
     kind: DeviceKind,
-    output: &mut W,
-) -> Result<(), Refusal>
+) -> Result<WholeOutput, Refusal>
     // What is printed is the numbers of this store and what reads show of its commit sectors, and nothing else.
-    ensures written { OnOk result ((s : _) × (agree : _) × IsSummary (D.size (device_of store.old)) store.old s
+    ensures printed { IfOk result (λ whole. (s : _) × (agree : _) × IsSummary (D.size (device_of store.old)) store.old s
         × SaysAgreement (is_halted store.old) D.tells (shown_image (now (D.story (device_of store.old)))) agree
-        × Appends (W.contents output.old) (W.contents output.new) (summary_text as_json s agree kind)) }
+        × (bytes_in whole ≡ summary_text as_json s agree kind)) }
+    ensures made { IfOk result (λ whole. is_stream whole ≡ false) }
+    ensures on { OnOk result (is_halted store.old ≡ false) }
     ensures told { IfErr result (RefusesPrinting (RefusesSummary (is_halted store.old)) (is_halted store.old ≡ false)) }
     // The store is only read.
     ensures reads { OnlyReadsStore D.size D.story D.failed D.tells (store_ended result) store.old store.new }
-    // A refusal prints nothing, unless a write failed; then what is printed is a front of such a summary.
-    ensures silent { IfErr result (λ refusal. refusal ≢ Refusal.Io Side.Output → output.new ≡ output.old) }
-    ensures front { IfErr result (IfOutput ((s : _) × (agree : _) × IsSummary (D.size (device_of store.old)) store.old s
-        × SaysAgreement (is_halted store.old) D.tells (shown_image (now (D.story (device_of store.old)))) agree
-        × AppendsFront (W.contents output.old) (W.contents output.new) (summary_text as_json s agree kind))) }
 {
     let summary = store.summary(alloc)?;
     let agree = store.commits_agree()?;
     let text = text_of(alloc, &summary, agree, kind, as_json)?;
-    write_whole(output, text.as_bytes())
+    Ok(WholeOutput::Text(text))
 }

@@ -1,19 +1,19 @@
-// Prints the fields of a table as they are typed in.
-ghost use Rattle.std.specs.Prelude.{◌≡◌, ◌≢◌, map, string_bytes, Some, IfErr, IfOk, OnOk};
-ghost use Rattle.std.specs.Io.KnownBytes.{Appends};
+// Prints the fields of a table, as a text, as they are typed in.
+ghost use Rattle.std.specs.Prelude.{◌≡◌, map, string_bytes, false, Some, IfErr, IfOk, OnOk};
 ghost use Rattle.arrow_schema.specs.Limits.{IsWithinLimits};
 ghost use Rattle.arrow_schema.specs.View.{column_of, schema_of};
 ghost use Rattle.catalogue.specs.Edits.{entry_of};
 ghost use Rattle.store.specs.Fits.{is_halted, listed_in};
 ghost use Rattle.cli_commands.specs.Changing.{StateSchema};
 ghost use Rattle.cli_commands.specs.Typing.{IsLineIfAny, typed_texts, lines_of, HaveLines, RefusesFields, RefusesTyped, RefusesTyping};
+ghost use Rattle.cli_commands.specs.WholeOutput.{bytes_in, is_stream};
 
+use crate::WholeOutput;
 use arrow_schema::{Field, Schema};
-use cli_refusals::{Refusal, Side, has_unshown, write_whole};
+use cli_refusals::{Refusal, has_unshown};
 use field_texts::{ParseError, typed_text};
 use sector_dev::SectorDevice;
 use std::alloc::{AllocError, Global};
-use std::io::Write;
 use store::Store;
 
 // Returns the text by which a field is typed in, if there is one and a terminal may be shown it.
@@ -72,25 +72,24 @@ fn lines_of_schema(alloc: Global, schema: Schema) -> Result<String, Refusal>
     Ok(text)
 }
 
-/// Prints a line for each field of a table: the text by which it is typed in.
+/// Returns a line for each field of a table: the text by which it is typed in.
 ///
 /// # Errors
 /// `Store` with `Halted`, `NoTable` or `OutOfMemory`; `NoText` with the number of the first field, counted from 1, for which no text is taken that a
-/// terminal may be shown, or with 0 if the schema has pairs of its own; `Fields` with `Limit` if its fields exceed a limit; `OutOfMemory`: nothing is
-/// written. `Io` if a write fails: some first bytes of the lines may be written.
-pub fn print_fields<D: SectorDevice, W: Write>(
+/// terminal may be shown, or with 0 if the schema has pairs of its own; `Fields` with `Limit` if its fields exceed a limit; `OutOfMemory`.
+pub fn print_fields<D: SectorDevice>(
     alloc: Global,
     store: &Store<D>,
     name: &str,
-    output: &mut W,
-) -> Result<(), Refusal>
+) -> Result<WholeOutput, Refusal>
     // What is printed are lines with texts that state the schema, and a terminal may be shown each.
-    ensures written { OnOk result ((e : _) × (entry_of (listed_in store.now) name.now ≡ Some e) × StateSchema (typed_texts e.schema.columns) e.schema
-        × HaveLines e.schema.columns × Appends (W.contents output.old) (W.contents output.new) (lines_of (typed_texts e.schema.columns))) }
+    ensures printed { IfOk result (λ whole. (e : _) × (entry_of (listed_in store.now) name.now ≡ Some e)
+        × StateSchema (typed_texts e.schema.columns) e.schema × HaveLines e.schema.columns × (bytes_in whole ≡ lines_of (typed_texts e.schema.columns))) }
+    ensures made { IfOk result (λ whole. is_stream whole ≡ false) }
+    ensures on { OnOk result (is_halted store.now ≡ false) }
     ensures told { IfErr result (RefusesTyping (is_halted store.now) (entry_of (listed_in store.now) name.now)) }
-    ensures silent { IfErr result (λ refusal. refusal ≢ Refusal.Io Side.Output → output.new ≡ output.old) }
 {
     let schema = store.schema(alloc, name)?;
     let text = lines_of_schema(alloc, schema)?;
-    write_whole(output, text.as_bytes())
+    Ok(WholeOutput::Text(text))
 }

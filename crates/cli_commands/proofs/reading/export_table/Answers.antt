@@ -1,5 +1,0 @@
-use Rattle.cli_commands.proofs.ReadingLemmas.{read_unwritten}
-use Rattle.cli_commands.proofs.reading.export_table.Goals as goal
-
-pub returns-in-Err-Write-clause-reads : goal.returns-in-Err-Write-clause-reads
-returns-in-Err-Write-clause-reads g c = let D = g.D.SectorDevice in read_unwritten D.story D.size D.failed D.tells _ _ _ c.in-Err-Write.field-0-is c.in-Err-Write.ensures.reads
