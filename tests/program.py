@@ -867,6 +867,14 @@ def put_damaged(path, made, *damaged):
         file.write(changed)
 
 
+def file_reads(words, changed=lambda settings: settings):
+    """How often a command that is refused reads files, with these settings of its process."""
+    with tempfile.NamedTemporaryFile(mode="r") as counts:
+        settings = changed(disturbed(COUNTS=counts.name))
+        compare(f"the status of {words}", subprocess.run([PROGRAM, *words], capture_output=True, timeout=60, **settings).returncode, 1)
+        return int(counts.read().split()[-1])
+
+
 def which_table():
     """On a terminal the table is named that `copy`, `upgrade` or `compact` can't read, and each that `check` can't read; elsewhere nothing changes."""
     names, written = ("a", "big", "zz"), "cannot be read. Save the readable rows"
@@ -875,11 +883,14 @@ def which_table():
         store, new = os.path.join(room, "store"), os.path.join(room, "new")
         for version, line, others in (("2", "S15 SegmentDamaged 0", ["copy", store, new, "64"]), ("1", "S13 SegmentUnread 0", ["upgrade", store])):
             made = store_of(store, version, given)
-            for damaged in (("a",), ("big",), ("zz",), ("big", "zz"), names):
+            for damaged in (("a",), ("big",), ("zz",), ("big", "zz"), ("a", "zz"), names):
                 put_damaged(store, made, *(stream for name, stream in given if name in damaged))
                 each = "".join(f"The table `{name}` cannot be read. " for name in damaged)
                 told_on_a_terminal(f"check where {damaged} are damaged", ["check", store], line, f"{each}Save the readable rows")
                 told_on_a_terminal(f"{others[0]} where {damaged} are damaged", others, line, f"The table `{damaged[0]}` {written}")
+            # For these names nothing is read once more, except by an upgrade.
+            for words in (["check", store], *[others] * (others[0] == "copy")):
+                compare(f"the reads of a {words[0]} that is asked for advice", file_reads(words, with_advice), file_reads(words))
             put_damaged(store, made)
             compare("a check where none is damaged", on_a_terminal(["check", store]), (0, b"ok\n", ""))
             os.remove(store)

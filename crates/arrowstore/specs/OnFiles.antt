@@ -20,7 +20,7 @@ use Rattle.sector_dev.specs.declared.file.TheConstants.{LEAST_SECTORS, MOST_SECT
 use Rattle.commit.specs.Standing.{is_size}
 use Rattle.store.specs.declared.store.Store.{Store}
 use Rattle.commit.specs.declared.sector.FormatVersion.{FormatVersion}
-use Rattle.catalogue.specs.Edits.{entry_of}
+use Rattle.catalogue.specs.Edits.{entry_of, tables_of}
 use Rattle.catalogue.specs.Entries.{PlainCatalogue}
 use Rattle.tables.specs.Tables.{Tables}
 use Rattle.tables.specs.Commands.{all_of, commands_of}
@@ -45,7 +45,7 @@ use Rattle.cli_commands.specs.Archives.{IsNoArchive, IsOfSending, ReceivesTables
 use Rattle.cli_commands.specs.Applying as applying
 use Rattle.cli_commands.specs.Applying.{AnswersList, HandsLines}
 use Rattle.cli_commands.specs.declared.applying.ListedCommand.{ListedCommand}
-use Rattle.cli_commands.specs.Copying.{Copies}
+use Rattle.cli_commands.specs.Copying.{Copies, HintsStop}
 use Rattle.cli_commands.specs.Given.{IsWholeInput, RefusesInput}
 use Rattle.cli_commands.specs.Reading.{OfStore, refusal_ended, store_ended}
 use Rattle.cli_commands.specs.Salvaging.{IsBrokenOff}
@@ -53,7 +53,7 @@ use Rattle.cli_refusals.specs.declared.hint.Hint.{Hint}
 use Rattle.cli_refusals.specs.declared.hint.Hint.TheVariants as hints
 use Rattle.cli_refusals.specs.declared.hint.Hinted.{Hinted}
 use Rattle.cli_refusals.specs.declared.known.Known.{Known}
-use Rattle.cli_refusals.specs.declared.hint.Hinted.TheVariants.{Part, Table}
+use Rattle.cli_refusals.specs.declared.hint.Hinted.TheVariants as hinted
 use Rattle.cli_texts.specs.Reported.{IsWrong}
 use Rattle.cli_texts.specs.Ending.{GivesSome, HasReported, HasReportedHint, HintsText, IsOutput}
 use Rattle.cli_texts.specs.Warnings.{both_notes}
@@ -180,6 +180,14 @@ pub record CopiesInto {D : Type 0} (g : Ghosts D) (sectors : ℕ) (from : Store 
   pub full : Store D g
   pub copies : Copies from after_it made full answer
 
+-- copying a store into another one was refused so and stopped at the table that is hinted at
+pub record StopsInto {D : Type 0} {g : Ghosts D} (from : Store D g) (hint : Option Hinted) (refusal : Refusal) : Type 0 where
+  pub answer : tables.Refusal
+  pub is : refusal ≡ refusals.Store answer
+  pub made : Store D g
+  pub full : Store D g
+  pub stops : HintsStop hint from (tables_of (listed_in from)) made answer full
+
 -- why no copy is made: no new store is made, the system refuses its file, or some table is not copied into it
 abbrev pub FailsToCopy : {D : Type 0} → (g : Ghosts D) → (sectors : ℕ) → (from : Store D g) → Refusal → Type 0
 FailsToCopy g sectors from refusal = RefusesFormat g sectors (commit_of from).version refusal
@@ -205,6 +213,16 @@ abbrev pub CopiesStore : {D : Type 0} → (g : Ghosts D) → (is_opened : D → 
     → Result (Unit {0}) Refusal → Type 0
 CopiesStore g is_opened contents sectors output output' result =
     IsErrAnd result (λ refusal. RefusesCopying g is_opened sectors refusal × (output' ≡ output)) ⊎ MakesCopy g is_opened contents sectors output output' result
+
+-- a store was opened, and copying it into another one was refused so and stopped at the table that is hinted at
+pub record StopsAtHint {D : Type 0} (g : Ghosts D) (is_opened : D → Type 0) (hint : Option Hinted) (refusal : Refusal) : Type 0 where
+  pub from : Store D g
+  pub opens : OpensStore g is_opened from
+  pub copies : StopsInto from hint refusal
+
+-- a copy hints at nothing, or at the table that it stopped at
+abbrev pub HintsCopy : {D : Type 0} → (g : Ghosts D) → (is_opened : D → Type 0) → (hint hint' : Option Hinted) → Result (Unit {0}) Refusal → Type 0
+HintsCopy g is_opened hint hint' result = (hint' ≡ hint) ⊎ IsErrAnd result (StopsAtHint g is_opened hint')
 
 -- ---- a salvage of a table in the store of a file
 
@@ -469,7 +487,8 @@ ServesRequest g is_opened of_file remaining contents replays (requests.Format pa
 ServesRequest g is_opened of_file remaining contents replays (requests.FormatDevice path sectors over version) before after left left' result =
     FormatsDevice g is_opened contents sectors version before.output after.output result × SaysNothing before after × (left' ≡ left)
 ServesRequest g is_opened of_file remaining contents replays (requests.Copy path new sectors) before after left left' result =
-    CopiesStore g is_opened contents sectors before.output after.output result × SaysNothing before after × (left' ≡ left)
+    CopiesStore g is_opened contents sectors before.output after.output result × HintsCopy g is_opened before.hint after.hint result
+    × (after.note ≡ before.note) × (left' ≡ left)
 ServesRequest g is_opened of_file remaining contents replays (requests.Salvage path name) before after left left' result =
     SalvagesFile g is_opened contents name.now before.output after.output left left' result × SaysNothing before after
 ServesRequest g is_opened of_file remaining contents replays (requests.Apply path script) before after left left' result =
@@ -497,10 +516,10 @@ status_of (Ok unit) [] = Done
 status_of (Ok unit) (s ∷ ss) = PartlyDone
 status_of (Err refusal) left = Refused refusal
 
--- the part of the input or the table that a hint names, if it names one
+-- the part of the input or the tables that a hint names, if it names any
 abbrev pub hinted_of : Option Hint → Option Hinted
-hinted_of (Some (hints.Part p sentence)) = Some (Part p.now)
-hinted_of (Some (hints.Table name others)) = Some (Table name.now)
+hinted_of (Some (hints.Part p sentence)) = Some (hinted.Part p.now)
+hinted_of (Some (hints.Tables names)) = Some (hinted.Tables names.now)
 hinted_of _ = None
 
 -- what a run reads, what it writes, and where it reports
@@ -534,7 +553,7 @@ pub record ServesTold {D : Type 0} (g : Ghosts D) (is_opened : D → Type 0) {F 
   pub known : Known
   -- a script is told that the command was done, if its output failed, exactly for the commands that make or change a store
   pub changing : known.changes ≡ changes request
-  -- the hint names the part of the input or the table that the command hinted at, and none if it hinted at none
+  -- the hint names the part of the input or the tables that the command hinted at, and none if it hinted at none
   pub hints : hinted_of known.hint ≡ remarks.hint
   -- which warning this is, is only tested
   pub warning : Option Warning

@@ -39,7 +39,7 @@ use Rattle.cli_commands.specs.Compacting.{Compacts}
 use Rattle.cli_commands.specs.Complete.{HandsWhole, RefusesWhole}
 use Rattle.cli_commands.specs.Upgrading.{AnsweredUpgrade, AnswersUpgrade}
 use Rattle.cli_commands.specs.Printed.{tables_text, schema_text, summary_text, RefusesPrinting, RefusesSummary}
-use Rattle.cli_commands.specs.Reading.{OfStore, store_ended, IsReadable, RefusesCheck, IfChecked}
+use Rattle.cli_commands.specs.Reading.{OfStore, store_ended, IsReadable, OnlyChecks, RefusesCheck, IfChecked}
 use Rattle.cli_commands.specs.Selecting.{QueryAnswers, RefusesQuery}
 use Rattle.query.specs.Printed.{rows_text}
 use Rattle.cli_commands.specs.TextRows.{HandsRows, RefusesText, IfOfText, IfHinted}
@@ -50,7 +50,7 @@ use Rattle.arrowstore.specs.declared.notes.Remarks.{Remarks}
 use Rattle.arrowstore.specs.declared.open_command.OpenCommand.{OpenCommand}
 use Rattle.arrowstore.specs.declared.open_command.OpenCommand.TheVariants as opened
 
--- what a command reads, writes and hints at: an input, an output, and the refused part of the input or the table that can't be read; and what it notes
+-- what a command reads, writes and hints at: an input, an output, and the refused part of the input or the tables that can't be read; and what it notes
 pub record Channels (R W : Type 0) : Type 0 where
   pub input : R
   pub output : W
@@ -172,13 +172,13 @@ AreReadable {g = g} store = g.tells ≡ true → AllByRecursion (IsReadable (is_
 abbrev pub OnlyRead : {D : Type 0} {g : Ghosts D} → Result (Unit {0}) Refusal → (old new : Store D g) → Type 0
 OnlyRead {g = g} result old new = OnlyReadsStore g.size g.story g.failed g.tells (store_ended result) old new
 
--- all tables of a store can be read, or the first one that can't is reported and hinted at (`check_tables`)
+-- all tables of a store can be read, or the first one that can't is reported, and all that can't are hinted at (`check_tables`)
 pub record Checks {D : Type 0} {g : Ghosts D} {R W : Type 0} (contents : W → Option (List ℕ)) (old new : Store D g) (before after : Channels R W)
     (result : Result (Unit {0}) Refusal) : Type 0 where
   pub written : OnOk result (Appends (contents before.output) (contents after.output) (codes "ok\n"))
   pub read : OnOk result (AreReadable old)
   pub told : IfErr result (OfStore (λ refusal. g.tells ≡ true → RefusesCheck (is_halted old) (image_of old) (listed_in old) refusal) (AreReadable old))
-  pub reads : OnlyRead result old new
+  pub reads : OnlyChecks (store_ended result) old new
   pub hinted : IfChecked after.hint g.tells (is_halted old) (image_of old) (listed_in old) result
 
 -- what each command does: how the store and what it reads, writes and hints at change

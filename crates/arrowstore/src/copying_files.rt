@@ -1,12 +1,12 @@
 // Copies the store in a file into a new file.
-ghost use Rattle.std.specs.Prelude.{◌≡◌, ◌≢◌, ◌≤◌, Ok, IfOk, IfErr, OnOk};
+ghost use Rattle.std.specs.Prelude.{◌≡◌, ◌≢◌, ◌⊎◌, ◌≤◌, Ok, IfOk, IfErr, IsErrAnd, OnOk};
 ghost use Rattle.sector_dev.specs.declared.file.TheConstants.{MOST_SECTORS};
-ghost use Rattle.arrowstore.specs.OnFiles.{IsOpenedFile, OpensStore, FailsToOpen, CopiesInto, FailsToCopy, CopiesStore};
+ghost use Rattle.arrowstore.specs.OnFiles.{IsOpenedFile, OpensStore, FailsToOpen, CopiesInto, FailsToCopy, CopiesStore, HintsCopy, StopsInto};
 
 use crate::made_file::MadeFile;
 use crate::serving::{device_to_read, format_new, remove_on_error, reserve_standard_descriptors};
 use cli_commands::copy_tables;
-use cli_refusals::{Refusal, Side, write_whole};
+use cli_refusals::{Hinted, Refusal, Side, write_whole};
 use sector_dev::{FileDevice, LockFile, SectorDevice, SystemFile};
 use std::alloc::Global;
 use std::fs::{OpenFile, OpenOptions};
@@ -86,15 +86,17 @@ fn copy_into_file<
     from: &mut Store<FileDevice<SystemFile<F>>>,
     path: &str,
     sectors: u64,
+    hint: &mut Option<Hinted>,
 ) -> Result<(), Refusal>
     ensures copied { OnOk result (CopiesInto ⟦<FileDevice<SystemFile<F>> as SectorDevice>⟧ sectors from.old (Ok tt)) }
     ensures refused { IfErr result (FailsToCopy ⟦<FileDevice<SystemFile<F>> as SectorDevice>⟧ sectors from.old) }
+    ensures hint { (hint.new ≡ hint.old) ⊎ IsErrAnd result (StopsInto from.old hint.new) }
 {
     let device = FileDevice::create(rt, path, sectors)?;
     let made = MadeFile::of_device(&device);
     let file = remove_on_error(rt, path, made, mark_unfinished(rt, path, made, sectors))?;
     let mut to = format_new(rt, path, made, device, from.version())?;
-    match copy_tables(rt.alloc(), from, &mut to) {
+    match copy_tables(rt.alloc(), from, &mut to, hint) {
         // The commit point of the copy: from here on the file opens as a store.
         Ok(()) => remove_on_error(
             rt,
@@ -107,17 +109,25 @@ fn copy_into_file<
 }
 
 /// Copies all tables of a store into a new file with `sectors` sectors of 512 bytes, in a store of the same version, and writes `ok`. An unfinished
-/// copy is never opened as a store.
+/// copy is never opened as a store. `hint` is set to the table that can't be read, if the copy stops at one.
 pub(crate) fn serve_copy<
     F: Read + Write + Seek + OpenFile + LockFile + Drop,
     H: Files<File = F> + AllocGlobal,
     W: Write,
->(rt: &H, path: &str, new: &str, sectors: u64, output: &mut W) -> Result<(), Refusal>
+>(
+    rt: &H,
+    path: &str,
+    new: &str,
+    sectors: u64,
+    output: &mut W,
+    hint: &mut Option<Hinted>,
+) -> Result<(), Refusal>
     ensures copies { CopiesStore ⟦<FileDevice<SystemFile<F>> as SectorDevice>⟧ IsOpenedFile W.contents sectors output.old output.new result }
+    ensures hints { HintsCopy ⟦<FileDevice<SystemFile<F>> as SectorDevice>⟧ IsOpenedFile hint.old hint.new result }
     ensures silent { IfErr result (λ refusal. refusal ≢ Refusal.Io Side.Output → output.new ≡ output.old) }
 {
     let _places = reserve_standard_descriptors(rt)?;
     let mut from = open_to_read(rt, path)?;
-    copy_into_file(rt, &mut from, new, sectors)?;
+    copy_into_file(rt, &mut from, new, sectors, hint)?;
     write_whole(output, b"ok\n")
 }

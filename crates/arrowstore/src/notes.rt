@@ -15,7 +15,7 @@ use tables::Command;
 /// What a command says besides its output.
 #[derive(Drop)]
 pub struct Remarks {
-    /// The refused part of the input, or the first table that can't be read.
+    /// The refused part of the input, or the tables that can't be read.
     pub hint: Option<Hinted>,
     /// What the command has brought.
     pub note: Option<Note>,

@@ -260,8 +260,8 @@ fn serve_command<
     done
 }
 
-/// Serves a request of a store. If a text is refused, the hint of `remarks` is set to the refused part of it, and if a check is refused, to the first
-/// table that can't be read; the note is set to what the command has brought, if that is wanted; `left_out` is set to what a salvage leaves out.
+/// Serves a request of a store. If a text is refused, the hint of `remarks` is set to the refused part of it, and if a check or a copy is
+/// refused, to the tables that can't be read; the note is set to what the command has brought, if that is wanted; `left_out` is set to what a salvage leaves out.
 pub(crate) fn serve<
     F: Read + Write + Seek + OpenFile + LockFile + Drop,
     H: Files<File = F> + AllocGlobal,
@@ -295,7 +295,9 @@ pub(crate) fn serve<
             over,
             version,
         } => serve_format_device(rt, path, *sectors, *over, *version, output),
-        StoreRequest::Copy { path, new, sectors } => serve_copy(rt, path, new, *sectors, output),
+        StoreRequest::Copy { path, new, sectors } => {
+            serve_copy(rt, path, new, *sectors, output, &mut remarks.hint)
+        }
         StoreRequest::Salvage { path, name } => serve_salvage(rt, path, name, output, left_out),
         StoreRequest::Apply { path, script } => serve_apply(rt, path, script, input, output),
         StoreRequest::Send { path, have } => serve_send(rt, path, *have, input, output),

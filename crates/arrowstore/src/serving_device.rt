@@ -14,8 +14,8 @@ use std::io::{Read, Write};
 use store::Store;
 
 /// Opens the store on a device, executes the command, closes the store and returns the device. If a text is refused, the hint of `remarks` is set to the
-/// refused part of it, and if a check is refused, to the first table that can't be read. The note is set if it is wanted, the command has one, and memory
-/// is not refused.
+/// refused part of it, and if a check is refused, to the tables that can't be read. The note is set if it is wanted, the command has one, and memory is
+/// not refused.
 ///
 /// # Errors
 /// `Opening` if no store can be opened there: nothing was written to the device. Otherwise those of [`serve_open`].

@@ -16,7 +16,7 @@ use std::io::{Read, Write};
 use store::Store;
 
 /// Executes a command of an open store, on any device. If a text is refused, `hint` is set to the refused part of it, and if a check is refused, to
-/// the first table that can't be read.
+/// the tables that can't be read.
 ///
 /// # Errors
 /// Those of the function of `cli_commands` that executes the command.

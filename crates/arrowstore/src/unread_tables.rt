@@ -1,8 +1,6 @@
 // Finds the names of tables that can't be read, for a terminal: a refusal of the store does not carry them.
 use crate::copying_files::open_to_read;
-use cli_refusals::{Hinted, Refusal, report_table};
 use cli_requests::{StoreCommand, StoreRequest};
-use cli_texts::Audience;
 use sector_dev::{LockFile, SectorDevice};
 use std::alloc::Global;
 use std::fs::OpenFile;
@@ -10,7 +8,7 @@ use std::io::{self, Read, Seek, Write};
 use std::rt::Files;
 use store::Store;
 
-// Returns the name of the first table that can't be read, if this is the reason. A copy and an upgrade read all tables in this order.
+// Returns the name of the first table that can't be read, if this is the reason. An upgrade reads all tables in this order.
 fn first_unread<D: SectorDevice>(
     alloc: Global,
     store: &mut Store<D>,
@@ -60,14 +58,14 @@ fn only_unread<D: SectorDevice>(
     String::from_str(alloc, only?).ok()
 }
 
-/// Returns the name of the table with the segment at `place` that was refused, if the request does not name it. `check` hints at the table itself.
+/// Returns the name of the table with the segment at `place` that was refused, if the request does not name it. `check` and `copy` hint at
+/// the tables themselves.
 pub(crate) fn unread_table<
     F: Read + Write + Seek + OpenFile + LockFile + Drop,
     H: Files<File = F> + AllocGlobal,
 >(rt: &H, request: &StoreRequest<'_>, refusal: tables::Refusal, place: usize) -> Option<String> {
     match request {
-        StoreRequest::Copy { path, .. }
-        | StoreRequest::Command {
+        StoreRequest::Command {
             path,
             command: StoreCommand::Upgrade,
         } => {
@@ -83,75 +81,5 @@ pub(crate) fn unread_table<
             only_unread(rt.alloc(), &mut store, place)
         }
         _ => None,
-    }
-}
-
-fn is_of_segment(refusal: &tables::Refusal) -> bool {
-    matches!(
-        refusal,
-        tables::Refusal::SegmentUnread(_) | tables::Refusal::SegmentDamaged(_)
-    )
-}
-
-// Returns a sentence for each table after `first` that can't be read.
-fn sentences_after<D: SectorDevice>(
-    alloc: Global,
-    store: &mut Store<D>,
-    first: &str,
-) -> Option<String> {
-    let mut sentences = String::new(alloc);
-    let mut is_after = false;
-    for table in &store.tables(alloc).ok()? {
-        let name = table.0.as_str();
-        if is_after {
-            match store.weigh(alloc, name) {
-                Ok(_) => {}
-                Err(refusal) if is_of_segment(&refusal) => report_table(&mut sentences, name).ok()?,
-                Err(_) => return None,
-            }
-        }
-        is_after = is_after || name == first;
-    }
-    Some(sentences)
-}
-
-fn others_of_check<
-    F: Read + Write + Seek + OpenFile + LockFile + Drop,
-    H: Files<File = F> + AllocGlobal,
->(rt: &H, request: &StoreRequest<'_>, hinted: &Option<Hinted>) -> Option<String> {
-    match (request, hinted) {
-        (
-            StoreRequest::Command {
-                path,
-                command: StoreCommand::Check,
-            },
-            Some(Hinted::Table(first)),
-        ) => {
-            let mut store = open_to_read(rt, path).ok()?;
-            sentences_after(rt.alloc(), &mut store, first.as_str())
-        }
-        _ => None,
-    }
-}
-
-/// Returns the sentences about the tables that can't be read after the one that a check hints at, if a person reads them.
-pub(crate) fn report_of_others<
-    F: Read + Write + Seek + OpenFile + LockFile + Drop,
-    H: Files<File = F> + AllocGlobal,
->(
-    rt: &H,
-    request: &StoreRequest<'_>,
-    hinted: &Option<Hinted>,
-    done: &Result<(), Refusal>,
-    audience: Audience,
-) -> String {
-    let sentences = match (audience, done) {
-        (Audience::Terminal | Audience::Script, Err(Refusal::Store(refusal)))
-            if is_of_segment(refusal) => { others_of_check(rt, request, hinted) }
-        _ => None,
-    };
-    match sentences {
-        Some(sentences) => sentences,
-        None => String::new(rt.alloc()),
     }
 }

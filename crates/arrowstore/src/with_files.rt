@@ -32,7 +32,6 @@ use crate::kept_start::Input;
 use crate::noted::Failure;
 use crate::record_line::line_of_refused;
 use crate::serving::serve;
-use crate::unread_tables::report_of_others;
 use crate::warnings::warning_of;
 use crate::{Failures, Remarks, run};
 use cli_refusals::{Hint, Hinted, Known, Refusal, Word};
@@ -51,7 +50,7 @@ use std::io::{Empty, Read, Seek, Write};
 use std::rt::Files;
 use store::LeftOut;
 
-// Returns the hint that the command itself gave, with a sentence about the line of a record or about other tables.
+// Returns the hint that the command itself gave, with a sentence about the line of a record.
 fn hint_of<'a>(hinted: &'a Option<Hinted>, about: &'a str) -> Option<Hint<'a>>
     ensures { hinted_of result ≡ hinted.now }
 {
@@ -60,10 +59,7 @@ fn hint_of<'a>(hinted: &'a Option<Hinted>, about: &'a str) -> Option<Hint<'a>>
             hinted,
             line: about,
         }),
-        Some(Hinted::Table(name)) => Some(Hint::Table {
-            name,
-            others: about,
-        }),
+        Some(Hinted::Tables(names)) => Some(Hint::Tables(names)),
         None => None,
     }
 }
@@ -128,12 +124,9 @@ fn found_hint<'a>(asked: &'a AskedAgain, word: Option<Word<'a>>, about: &'a str)
     }
 }
 
-// Returns sentences about what a command itself hints at, if a person reads them: the line of a record, or other tables.
-fn about_hinted<
-    F: Read + Write + Seek + OpenFile + LockFile + Drop,
-    H: Files<File = F> + AllocGlobal,
->(
-    rt: &H,
+// Returns a sentence about the line of the record that a command itself hints at, if a person reads it.
+fn about_hinted(
+    alloc: Global,
     request: &StoreRequest<'_>,
     hinted: &Option<Hinted>,
     start: &[u8],
@@ -142,9 +135,9 @@ fn about_hinted<
 ) -> String {
     match (hinted, audience) {
         (Some(Hinted::Part(_)), Audience::Terminal | Audience::Script) => {
-            line_of_refused(rt.alloc(), request, start, done).unwrap_or(String::new(rt.alloc()))
+            line_of_refused(alloc, request, start, done).unwrap_or(String::new(alloc))
         }
-        _ => report_of_others(rt, request, hinted, done, audience),
+        _ => String::new(alloc),
     }
 }
 
@@ -199,8 +192,8 @@ fn served_of<'a, R: Input, W: Output>(input: &'a R, output: &W) -> Served<'a> {
     }
 }
 
-// Serves a request of a store, and tells what it has brought, or reports why it was refused. The hint is the part of the input or the table that the
-// command itself hinted at, or else what is found by asking again, or a word of the command line.
+// Serves a request of a store, and tells what it has brought, or reports why it was refused. The hint is the part of the input or the tables that
+// the command itself hinted at, or else what is found by asking again, or a word of the command line.
 fn serve_and_report<
     F: Read + Write + Seek + OpenFile + LockFile + Drop,
     H: Files<File = F> + AllocGlobal,
@@ -239,7 +232,14 @@ fn serve_and_report<
         warning,
     };
     tell_if_done(rt.alloc(), &done, left, notes, audience, errors);
-    let about = about_hinted(rt, request, &remarks.hint, served.start, &done, audience);
+    let about = about_hinted(
+        rt.alloc(),
+        request,
+        &remarks.hint,
+        served.start,
+        &done,
+        audience,
+    );
     match hint_of(&remarks.hint, about.as_str()) {
         Some(hint) => {
             let known = known_of(request, &failure, Some(hint));

@@ -199,10 +199,6 @@ module _ {E : Type 0} {h : Ghosts E} where
     tables_are = all_of_them image c t (after b so.next.settled) held so.has so.only;
   }
 
--- the first elements and the next one, of a list that is mapped
-pub next_of : {X Y : Type 0} (f : X → Y) (xs : List X) (i : ℕ) (x : X) → i < length xs → x ≡ get_or xs i x → take (i + 1) (map f xs) ≡ take i (map f xs) ++ f x ∷ []
-next_of f xs i x inside is = take-item (map f xs) i (f x) (subst (λ (k : ℕ). i < k) (sym (length-map xs f)) inside) (sym (get_or-map f xs i x (f x) inside ∙ ap f (sym is)))
-
 -- ---- one table, and all of them
 
 module _ {D E : Type 0} {g : Ghosts D} {h : Ghosts E} where

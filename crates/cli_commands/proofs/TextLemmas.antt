@@ -31,7 +31,7 @@ use Rattle.cli_refusals.specs.declared.hint.HintedPart.{HintedPart}
 use Rattle.text_import.specs.Refusals.{refused_by}
 use Rattle.text_import.specs.declared.part.RefusedPart.{RefusedPart}
 use Rattle.cli_refusals.specs.declared.hint.Hinted.{Hinted}
-use Rattle.cli_refusals.specs.declared.hint.Hinted.TheVariants.{Part, Table}
+use Rattle.cli_refusals.specs.declared.hint.Hinted.TheVariants.{Part, Tables}
 use Rattle.text_import.specs.declared.refusal.TextError.{TextError}
 use Rattle.text_import.specs.declared.refusal.TextError.TheVariants as texts
 use Rattle.facts.specs.Outcomes.{Reports}
@@ -80,8 +80,8 @@ pub input_hints : ((form : TextForm) (s : PlainSchema) (bytes : List ℕ) (r : R
 input_hints law form found input s bytes error None is whole gives hints = tt
 input_hints law form None input s bytes error (Some hinted) is whole gives hints = absurd cc
 input_hints law form (Some e) input s bytes texts.OutOfMemory (Some (Part hinted)) is whole gives hints = absurd hints
-input_hints law form (Some e) input s bytes texts.OutOfMemory (Some (Table name)) is whole gives hints = absurd hints
-input_hints law form (Some e) input s bytes (texts.Refused refused) (Some (Table name)) is whole gives hints = absurd hints
+input_hints law form (Some e) input s bytes texts.OutOfMemory (Some (Tables names)) is whole gives hints = absurd hints
+input_hints law form (Some e) input s bytes (texts.Refused refused) (Some (Tables names)) is whole gives hints = absurd hints
 input_hints law form (Some e) input s bytes (texts.Refused refused) (Some (Part hinted)) is whole gives hints =
     let schema : e.schema ≡ s = ap (λ o. unwrap_or o s) is in
     let refuses : rows_of_text form e.schema bytes ≡ Err refused = ap (λ t. rows_of_text form t bytes) schema ∙ gives in

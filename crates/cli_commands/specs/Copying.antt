@@ -1,5 +1,5 @@
 -- What copying all tables of a store leaves of it, and of the store that they are copied into.
-use Rattle.std.specs.Prelude.{◌≡◌, ◌⊎◌, ◌++◌, ℕ, true, List, [], ◌∷◌, map, take, slice_get, Some, Result, Ok, Err, IfErr, OnOk}
+use Rattle.std.specs.Prelude.{◌≡◌, ◌⊎◌, ◌++◌, ℕ, true, List, [], ◌∷◌, map, take, slice_get, Option, Some, Result, Ok, Err, IfErr, OnOk}
 use Rattle.sector_dev.specs.Disk.{now, shown_image}
 use Rattle.sector_dev.specs.declared.device.SectorDevice.{Ghosts}
 use Rattle.cells.specs.Cell.{PlainTable}
@@ -18,7 +18,9 @@ use Rattle.store_runs.specs.Machine.{Machine}
 use Rattle.store.specs.Reading.{OnlyReadsStore}
 use Rattle.store_runs.specs.Reading.{RefusesRead, ReadsTable}
 use Rattle.store_runs.specs.Runs.{Run}
+use Rattle.cli_refusals.specs.declared.hint.Hinted.{Hinted}
 use Rattle.cli_commands.specs.Changing.{AnswersCommand}
+use Rattle.cli_commands.specs.Reading.{is_of_segment, names_of}
 
 -- commands of an open store that were acknowledged, one after another, with these tables after them: some machine goes on, and the store stands for it
 pub record ComesTo {D : Type 0} {g : Ghosts D} (base : Tables) (m : Machine) (tables : Tables) (old new : Store D g) : Type 0 where
@@ -78,6 +80,13 @@ pub record StopsCopying {D E : Type 0} {g : Ghosts D} {h : Ghosts E} (from : Sto
 -- why not all tables are copied: they can't be listed, or one is not copied
 abbrev pub RefusesCopy : {D E : Type 0} {g : Ghosts D} {h : Ghosts E} → (from : Store D g) → (old : Store E h) → Refusal → (new : Store E h) → Type 0
 RefusesCopy from old r new = (RefusesTables (is_halted from) r × (new ≡ old)) ⊎ StopsCopying from (tables_of (listed_in from)) old r new
+
+-- the copy stopped at a table that can't be read, and that table alone is hinted at
+pub record HintsStop {D E : Type 0} {g : Ghosts D} {h : Ghosts E} (hint : Option Hinted) (from : Store D g) (listed : List (List ℕ × ℕ))
+    (old : Store E h) (r : Refusal) (new : Store E h) : Type 0 where
+  pub stops : StopsCopying from listed old r new
+  pub of_segment : is_of_segment r ≡ true
+  pub named : names_of hint ≡ Some (stops.table.0 ∷ [])
 
 -- the store that is copied is only read
 abbrev pub IsOnlyRead : {D : Type 0} {g : Ghosts D} → (old new : Store D g) → Type 0

@@ -1,5 +1,5 @@
 // Commands that read the tables of an open store: `export`, and `check` of all of them.
-ghost use Rattle.std.specs.Prelude.{◌≡◌, ◌≢◌, true, codes, map, string_bytes, IfErr, OnOk};
+ghost use Rattle.std.specs.Prelude.{◌≡◌, ◌≢◌, ◌⊎◌, ◌++◌, [], ◌∷◌, true, false, codes, map, string_bytes, IfErr, OnErr, OnOk};
 ghost use Rattle.std.specs.List.{AllByRecursion};
 ghost use Rattle.std.specs.Io.KnownBytes.{Appends};
 ghost use Rattle.sector_dev.specs.Disk.{now, shown_image};
@@ -7,9 +7,10 @@ ghost use Rattle.cells.specs.Cell.{PlainTable};
 ghost use Rattle.catalogue.specs.Edits.{entry_of, tables_of};
 ghost use Rattle.ipc_canonical.specs.Canonical.{canonical};
 ghost use Rattle.store.specs.Fits.{device_of, is_halted, listed_in};
+ghost use Rattle.store_runs.specs.Calls.{is_failure};
 ghost use Rattle.store_runs.specs.Reading.{ReadsTable, RefusesRead, ended};
 ghost use Rattle.store.specs.Reading.{OnlyReadsStore};
-ghost use Rattle.cli_commands.specs.Reading.{OfStore, store_ended, IsReadable, FirstUnread, RefusesCheck, IsHintOf, HintsUnread, IfChecked};
+ghost use Rattle.cli_commands.specs.Reading.{OfStore, store_ended, IsReadable, FirstUnread, RefusesCheck, HintsUnread, IfChecked, OnlyChecks, is_of_segment};
 
 use cli_refusals::{Hinted, Refusal, Side, write_whole};
 use sector_dev::SectorDevice;
@@ -45,17 +46,41 @@ pub fn export_table<D: SectorDevice, W: Write>(
     }
 }
 
-// Returns a hint at a table, or `None` if memory for its name is refused.
-fn hint_at(alloc: Global, name: &str) -> Option<Hinted>
-    ensures { IsHintOf name.now result }
+fn is_of_segment(refusal: tables::Refusal) -> bool
+    ensures tests { result ≡ is_of_segment refusal }
+    ensures quiet { result ≡ true → is_failure refusal ≡ false }
 {
+    matches!(
+        refusal,
+        tables::Refusal::SegmentUnread(_) | tables::Refusal::SegmentDamaged(_)
+    )
+}
+
+/// Adds the name of a table that is refused, and returns whether that was done: only if a segment of it is refused, and memory is not.
+pub(crate) fn add_unread(
+    alloc: Global,
+    names: &mut Vec<String>,
+    name: &str,
+    refusal: tables::Refusal,
+) -> bool
+    ensures added { result ≡ true → map (λ name. string_bytes name) names.new.items ≡ map (λ name. string_bytes name) names.old.items ++ name.now ∷ [] }
+    ensures of_segment { result ≡ true → is_of_segment refusal ≡ true }
+    ensures quiet { result ≡ true → is_failure refusal ≡ false }
+{
+    if !is_of_segment(refusal) {
+        return false;
+    }
     match String::from_str(alloc, name) {
-        Ok(name) => Some(Hinted::Table(name)),
-        Err(_) => None,
+        Ok(name) => match names.push(name) {
+            Ok(()) => true,
+            Err(_) => false,
+        },
+        Err(_) => false,
     }
 }
 
-// Reads tables up to the first that can't be read, and sets `hint` to that one, or to `None` if memory is refused.
+// Reads each table, and sets `hint` to the names of all that can't be read. Where a table is refused for another reason than a segment of it, or memory for
+// its name is refused, the reading ends there, and nothing is hinted at. The refusal is that of the first table.
 fn read_each<D: SectorDevice>(
     alloc: Global,
     store: &mut Store<D>,
@@ -69,26 +94,39 @@ fn read_each<D: SectorDevice>(
         → FirstUnread (is_halted store.old) (shown_image (now (D.story (device_of store.old)))) (listed_in store.old)
         (map (λ t. (string_bytes t.0, t.1)) tables.now) refusal) }
     ensures kept { OnOk result (hint.new ≡ hint.old) }
-    ensures hint { IfErr result (HintsUnread hint.new D.tells (is_halted store.old) (shown_image (now (D.story (device_of store.old)))) (listed_in store.old)
+    ensures hint { OnErr result ((hint.new ≡ hint.old)
+        ⊎ HintsUnread hint.new D.tells (is_halted store.old) (shown_image (now (D.story (device_of store.old)))) (listed_in store.old)
         (map (λ t. (string_bytes t.0, t.1)) tables.now)) }
-    ensures reads { OnlyReadsStore D.size D.story D.failed D.tells (ended result) store.old store.new }
+    ensures reads { OnlyChecks (ended result) store.old store.new }
 {
+    let mut first = None;
+    let mut names = Vec::new(alloc);
     for table in tables {
         let name = table.0.as_str();
         match store.weigh(alloc, name) {
-            Ok(_) => {}
+            Ok(_) => continue,
             Err(refusal) => {
-                *hint = hint_at(alloc, name);
-                return Err(refusal);
+                let told = first.unwrap_or(refusal);
+                if !add_unread(alloc, &mut names, name, refusal) {
+                    return Err(told);
+                }
+                first = Some(told);
             }
         }
     }
-    Ok(())
+    match first {
+        Some(refusal) => {
+            *hint = Some(Hinted::Tables(names));
+            Err(refusal)
+        }
+        None => Ok(()),
+    }
 }
 
 /// Reads each table, in byte order of the names, and writes `ok` if all can be read.
 ///
-/// Stops at the first table that can't be read, reports it as [`Store::read`] does, and sets `hint` to its name, or to `None` if memory is refused.
+/// Of the tables that can't be read the first is reported, as [`Store::read`] does, and `hint` is set to the names of all of them, or to `None` if memory is
+/// refused or the device fails.
 ///
 /// # Errors
 /// `Store` if the tables can't be listed or one can't be read: nothing is written. `Io` if a write fails: all tables can be read.
@@ -107,10 +145,10 @@ pub fn check_tables<D: SectorDevice, W: Write>(
         → RefusesCheck (is_halted store.old) (shown_image (now (D.story (device_of store.old)))) (listed_in store.old) refusal)
         (D.tells ≡ true → AllByRecursion (IsReadable (is_halted store.old) (shown_image (now (D.story (device_of store.old)))) (listed_in store.old))
         (tables_of (listed_in store.old)))) }
-    // A hint names the first table that can't be read; any other answer has no hint.
+    // A hint names all tables that can't be read, in order; any other answer has no hint.
     ensures hint { IfChecked hint.new D.tells (is_halted store.old) (shown_image (now (D.story (device_of store.old)))) (listed_in store.old) result }
     // The store is only read.
-    ensures reads { OnlyReadsStore D.size D.story D.failed D.tells (store_ended result) store.old store.new }
+    ensures reads { OnlyChecks (store_ended result) store.old store.new }
     ensures silent { IfErr result (λ refusal. refusal ≢ Refusal.Io Side.Output → output.new ≡ output.old) }
 {
     *hint = None;

@@ -1,11 +1,12 @@
 -- What is reported on a terminal as refused, before what to do: a word of the command line, a file, the input or the output, a part of the input, a
 -- field of a stream, a table, or a line of a script.
 use Rattle.std.specs.Prelude.{ℕ, ◌==◌, ◌++◌, decimal, codes, List, [], length, Option, Some, None, string_bytes, if◌then◌else◌}
+use Rattle.std.specs.List.{flat_map}
 use Rattle.text_import.specs.Part.{PlainPart, nested_column, header_name, header_count, record_count, field, line, PlainLinePart, value_part, other_count, unknown_name, repeated_name, part_of}
 use Rattle.text_import.specs.declared.value_part.Reason.{Reason}
 use Rattle.text_import.specs.declared.value_part.Reason.TheVariants.{Value, Missing, Unknown, Repeated, Count}
 use Rattle.cli_refusals.specs.declared.hint.Hint.{Hint}
-use Rattle.cli_refusals.specs.declared.hint.Hint.TheVariants.{Word, Sectors, File, Input, EmptyInput, Output, Part, Table, UnreadTable, ScriptLine, Field, OtherField, FieldCount}
+use Rattle.cli_refusals.specs.declared.hint.Hint.TheVariants.{Word, Sectors, File, Input, EmptyInput, Output, Part, Tables, UnreadTable, ScriptLine, Field, OtherField, FieldCount}
 use Rattle.cli_refusals.specs.RefusedWord.{role_text}
 use Rattle.cli_refusals.specs.FailedFile.{path_of, reason_of, reason_text, reason_remedy}
 use Rattle.cli_refusals.specs.Shown.{shown}
@@ -118,7 +119,7 @@ hint_text (Input reason) = codes "The input cannot be read: " ++ reason.now ++ c
 hint_text EmptyInput = codes "The input is empty. "
 hint_text (Output reason) = codes "The output cannot be written: " ++ reason.now ++ codes ". "
 hint_text (Part hinted sentence) = part_text (part_of hinted.now.part) ++ sentence.now ++ string_bytes hinted.now.about
-hint_text (Table name others) = table_text (shown (string_bytes name.now)) ++ others.now
+hint_text (Tables names) = flat_map (λ name. table_text (shown (string_bytes name))) names.now.items
 hint_text (UnreadTable name) = table_text (shown name.now)
 hint_text (ScriptLine text about) = line_text (shown text.now) ++ script_line_form text.now ++ about.now
 hint_text (Field name) = field_text (shown name.now) None

@@ -1,7 +1,7 @@
 // What is refused, if more of it is known than the refusal carries.
-ghost use Rattle.std.specs.Prelude.{◌≡◌, ◌++◌, option_map, string_bytes, OnOk};
+ghost use Rattle.std.specs.Prelude.{◌≡◌, option_map};
 ghost use Rattle.text_import.specs.Part.{part_of};
-ghost use Rattle.cli_refusals.specs.Hint.{remedy_of, remedy_of_part, table_text};
+ghost use Rattle.cli_refusals.specs.Hint.{remedy_of, remedy_of_part};
 ghost use Rattle.cli_refusals.specs.Shown.{shown};
 
 use crate::form::script_line_form;
@@ -10,8 +10,7 @@ use crate::part_shown::{Counts, FieldShown, LineShown, OtherFieldShown, PartShow
 use crate::remedies::NUMBER_OF_SECTORS;
 use crate::shown::shown;
 use crate::{FailedFile, Refusal, Word};
-use std::alloc::AllocError;
-use std::fmt::{self, Write as _};
+use std::fmt;
 use text_import::RefusedPart;
 
 /// The refused part of the input, and what is said of the field of the table that it is for, as [`crate::about_part`] returns it.
@@ -26,8 +25,8 @@ pub struct HintedPart {
 pub enum Hinted {
     /// The refused part of the input.
     Part(HintedPart),
-    /// The name of a table that can't be read.
-    Table(String),
+    /// The names of tables that can't be read.
+    Tables(Vec<String>),
 }
 
 /// What is reported on a terminal as refused.
@@ -54,12 +53,8 @@ pub enum Hint<'a> {
         hinted: &'a HintedPart,
         line: &'a str,
     },
-    /// The name of a table that a command hints at, printed if a terminal may be shown it; and sentences about other tables, as [`report_table`]
-    /// writes them, printed as they are.
-    Table {
-        name: &'a String,
-        others: &'a str,
-    },
+    /// The names of tables that a command hints at, each printed if a terminal may be shown it.
+    Tables(&'a Vec<String>),
     /// The name of a table that was found unreadable after the command, printed if a terminal may be shown it.
     UnreadTable(&'a str),
     /// A line of a script, printed if a terminal may be shown it, and what its first or last bytes say about its form; and sentences about it,
@@ -114,14 +109,25 @@ impl fmt::Display for TableShown<'_> {
     }
 }
 
-/// Appends the sentence that reports a table, with a space after it, if a terminal may be shown its name.
-///
-/// # Errors
-/// `AllocError` if memory is refused.
-pub fn report_table(text: &mut String, name: &str) -> Result<(), AllocError>
-    ensures { OnOk result (string_bytes text.new ≡ string_bytes text.old ++ table_text (shown name.now)) }
-{
-    write!(text, "{}", TableShown::new(name))
+// The names of tables, of which each is reported if it may be shown.
+#[derive(Drop)]
+struct TablesShown<'a> {
+    names: &'a Vec<String>,
+}
+
+impl fmt::Display for TablesShown<'_> {
+    ghost use Rattle.std.specs.Prelude.{Some, string_bytes};
+    ghost use Rattle.std.specs.List.{flat_map};
+    ghost use Rattle.cli_refusals.specs.Hint.{table_text};
+
+    ghost output = { λ tables. Some (flat_map (λ name. table_text (shown (string_bytes name))) tables.names.now.items) };
+
+    fn fmt<W: fmt::Write>(&self, f: &mut fmt::Formatter<W>) -> fmt::Result {
+        for name in self.names {
+            write!(f, "{}", TableShown::new(name.as_str()))?;
+        }
+        Ok(())
+    }
 }
 
 // Returns what to do about a refusal of a part of the input. Only a text has such a part.
@@ -171,9 +177,7 @@ impl fmt::Display for Hint<'_> {
                 let part = PartShown { part: &hinted.part };
                 write!(f, "{part}{line}{}", hinted.about)
             }
-            Hint::Table { name, others } => {
-                write!(f, "{}{others}", TableShown::new(name.as_str()))
-            }
+            Hint::Tables(names) => write!(f, "{}", TablesShown { names }),
             Hint::UnreadTable(name) => write!(f, "{}", TableShown::new(name)),
             Hint::ScriptLine { text, about } => {
                 let line = LineShown { text: shown(text) };

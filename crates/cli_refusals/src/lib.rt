@@ -29,7 +29,7 @@ mod word;
 
 pub use entry::{codes_with_entries, entry_of, has_entry};
 pub use failed_file::{FailedFile, FileReason, OtherLength};
-pub use hint::{Hint, Hinted, HintedPart, report_table};
+pub use hint::{Hint, Hinted, HintedPart};
 pub use known::{FileCause, Known};
 pub use output::write_whole;
 pub use page::{FILE_REFUSALS, TABLE_REFUSALS, refusals_page};

@@ -58,3 +58,9 @@ returns-clause-refused g c =
         copies = record { copied = tt; imports = tt; told = c.in-Err.ensures.told; reads = c.in-Err.ensures.reads };
       },
     ))
+
+pub returns-clause-hint : goal.returns-clause-hint
+returns-clause-hint g c = elim c.in-Err.ensures.hint [
+  | inl same ↦ inl same
+  | inr stops ↦ rw c.remove_on_error-in-Err.ensures (inr (record { answer = c.in-Err.refusal; is = refl; made = c.in_ok-to.to; full = c.copy_tables.new.to; stops = stops }))
+]

@@ -21,6 +21,20 @@ returns-in_err-copy_into_file-clause-copies g c =
     let kept : c.args.output.now ≡ c.args.output.now = refl in
     rw (p.1, p.2) (inl (inr (c.in_ok-from.from, c.in_ok-from.ensures.opened, c.in_err-copy_into_file.ensures.refused), kept))
 
+pub returns-in_err-copy_into_file-clause-hints : goal.returns-in_err-copy_into_file-clause-hints
+returns-in_err-copy_into_file-clause-hints g c =
+    let p = err_from_is_err_and c.from_residual-in_err-copy_into_file.result c.from_residual-in_err-copy_into_file.ensures.1 in
+    elim c.in_err-copy_into_file.ensures.hint [
+      | inl same ↦ inl same
+      | inr stops ↦ rw (p.1, p.2) (inr (record { from = c.in_ok-from.from; opens = c.in_ok-from.ensures.opened; copies = stops }))
+    ]
+
+pub returns-clause-hints : goal.returns-clause-hints
+returns-clause-hints g c = elim c.in_ok-copy_into_file.ensures.hint [
+  | inl same ↦ inl same
+  | inr stops ↦ absurd stops
+]
+
 pub returns-clause-copies : goal.returns-clause-copies
 returns-clause-copies g c = inr (record {
   from = c.in_ok-from.from;

@@ -51,7 +51,7 @@ pub returns-in-FormatDevice-clause-serves : goal.returns-in-FormatDevice-clause-
 returns-in-FormatDevice-clause-serves g c = served_as _ _ _ _ _ _ _ _ _ _ _ _ _ c.in-FormatDevice.is (c.serve_format_device.ensures.formats, (refl, refl), refl)
 
 pub returns-in-Copy-clause-serves : goal.returns-in-Copy-clause-serves
-returns-in-Copy-clause-serves g c = served_as _ _ _ _ _ _ _ _ _ _ _ _ _ c.in-Copy.is (c.serve_copy.ensures.copies, (refl, refl), refl)
+returns-in-Copy-clause-serves g c = served_as _ _ _ _ _ _ _ _ _ _ _ _ _ c.in-Copy.is (c.serve_copy.ensures.copies, c.serve_copy.ensures.hints, refl, refl)
 
 pub returns-in-Salvage-clause-serves : goal.returns-in-Salvage-clause-serves
 returns-in-Salvage-clause-serves g c = served_as _ _ _ _ _ _ _ _ _ _ _ _ _ c.in-Salvage.is (c.serve_salvage.ensures.salvages, (refl, refl))

@@ -1,8 +1,7 @@
-use Rattle.std.specs.Prelude.{string_bytes}
-use Rattle.std.specs.Prelude.{OnOk}
-use Rattle.std.proofs.Common.{◌∙◌, ap, inl, map, refl, subst}
+use Rattle.std.specs.Prelude.{IfErr, OnOk, string_bytes}
+use Rattle.std.proofs.Common.{◌≡◌, ◌⊎◌, ◌∙◌, ap, inl, map, refl, subst}
 use Rattle.std.proofs.lemmas.Result.{err_from_is_err_and}
-use Rattle.cli_commands.specs.Copying.{ImportsEach}
+use Rattle.cli_commands.specs.Copying.{HintsStop, ImportsEach}
 use Rattle.store_runs.specs.Calls.{done}
 use Rattle.cli_commands.proofs.CopyingLemmas.{has_all, stops_or_not}
 use Rattle.cli_commands.proofs.ReadingLemmas.{read_nothing}
@@ -30,3 +29,8 @@ pub returns-in_err-tables-clause-told : goal.returns-in_err-tables-clause-told
 returns-in_err-tables-clause-told g c =
     let p = err_from_is_err_and c.from_residual.result c.from_residual.ensures.1 in
     rw (p.1, p.2) (inl (c.in_err-tables.ensures.listed, refl))
+
+pub returns-clause-hint : goal.returns-clause-hint
+returns-clause-hint g c =
+    subst (λ listed. IfErr c.copy_each.result (λ r. (c.copy_each.new.hint ≡ c.args.hint.now) ⊎ HintsStop c.copy_each.new.hint c.args.from.now listed c.args.to.now r c.copy_each.new.to))
+    (ap (map (λ x. (string_bytes x.0, x.1))) c.deref.ensures.value ∙ c.in_ok-tables.ensures.listed.1) c.copy_each.ensures.hint

@@ -1,11 +1,11 @@
 use Rattle.std.specs.Prelude.{string_bytes}
-use Rattle.std.proofs.Common.{◌∙◌, ap, inr, map, subst}
+use Rattle.std.proofs.Common.{◌∙◌, ap, inl, inr, map, subst}
 use Rattle.std.proofs.lemmas.Result.{err_from_is_err_and}
 use Rattle.sector_dev.specs.Disk.{now, shown_image}
 use Rattle.catalogue.specs.Edits.{tables_of}
 use Rattle.store.specs.Fits.{device_of, is_halted, listed_in}
 use Rattle.cli_commands.specs.Reading.{IsReadable, FirstUnread}
-use Rattle.cli_commands.proofs.ReadingLemmas.{read_and_written, output_failed, all_mapped, where_done, check_hints}
+use Rattle.cli_commands.proofs.ReadingLemmas.{read_and_written, output_failed, all_mapped, where_done, check_hints, checks_done}
 use Rattle.cli_commands.proofs.reading.check_tables.Goals as goal
 
 pub returns-clause-told : goal.returns-clause-told
@@ -17,7 +17,7 @@ returns-clause-told g c =
     c.deref.ensures.value c.in_ok-tables.ensures.listed.1 (c.in_ok-read_each.ensures.read told))
 
 pub returns-clause-reads : goal.returns-clause-reads
-returns-clause-reads g c = let D = g.D.SectorDevice in read_and_written D.story D.size D.failed D.tells _ _ c.write_whole.result c.write_whole.ensures.io c.in_ok-read_each.ensures.reads
+returns-clause-reads g c = let D = g.D.SectorDevice in inl (read_and_written D.story D.size D.failed D.tells _ _ c.write_whole.result c.write_whole.ensures.io (checks_done _ _ c.in_ok-read_each.ensures.reads))
 
 pub returns-clause-read : goal.returns-clause-read
 returns-clause-read g c =
