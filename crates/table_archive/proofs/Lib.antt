@@ -9,3 +9,4 @@ pub mod WalkLemmas
 pub mod NamedLemmas
 pub mod FoundLemmas
 pub mod EndLemmas
+pub mod TableNames
