@@ -6,4 +6,5 @@ mod NoteLemmas
 mod CopyLemmas
 mod FileLemmas
 mod ServingLemmas
+mod TestingLemmas
 mod WordLemmas

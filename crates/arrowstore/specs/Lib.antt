@@ -5,3 +5,4 @@ pub mod OnFiles
 pub mod OpenCommands
 pub mod Running
 pub mod Serving
+pub mod Testing

@@ -66,5 +66,6 @@ pub use running::run;
 pub use serving_device::serve_device;
 pub use serving_open::serve_open;
 pub use waiting::asks_to_wait;
+pub use waiting_input::test_device;
 pub use with_files::run_with_files;
 pub use writing_streams::{reads_while_writing, writes_stream};

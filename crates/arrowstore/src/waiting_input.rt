@@ -1,11 +1,12 @@
 // Serves commands whose input may keep them waiting: it is read while their store is not locked.
 ghost use Rattle.std.specs.Prelude.{◌≡◌, ◌≢◌, ◌⊎◌, IfErr, OnOk};
 ghost use Rattle.store.specs.Fits.{is_halted, listed_in};
+ghost use Rattle.arrowstore.specs.Testing.{TestsDevice};
 ghost use Rattle.arrowstore.specs.OnFiles.{FailsToOpen, IsFirst, IsOpenedFile, ServesWaiting};
 ghost use Rattle.arrowstore.specs.OpenCommands.{PassesUnread, RefusesUnreadBy};
 ghost use Rattle.arrowstore.specs.Serving.{remarked};
 
-use crate::applying_scripts::{device_to_change, open_to_change};
+use crate::applying_scripts::device_to_change;
 use crate::receiving_archives::whole_input;
 use crate::serving_device::serve_device;
 use crate::{OpenCommand, Remarks};
@@ -38,6 +39,27 @@ fn refuse_unread<D: SectorDevice>(
     }
 }
 
+/// Opens the store on a device, tests a command before its input is read, closes the store and returns the device.
+///
+/// # Errors
+/// `Opening` if no store can be opened there; otherwise those of [`test_import`] and [`test_append`].
+pub fn test_device<D: SectorDevice>(
+    alloc: Global,
+    device: D,
+    command: &OpenCommand<'_>,
+) -> (Result<(), Refusal>, D)
+    // The command is tested on the store of this very device, and nothing is done to that before or after it.
+    ensures tests { TestsDevice ⟦<D as SectorDevice>⟧ command.now device result.1 result.0 }
+{
+    match Store::open(alloc, device) {
+        Ok(store) => {
+            let tested = refuse_unread(alloc, &store, command);
+            (tested, store.close())
+        }
+        Err((refusal, back)) => (Err(Refusal::Opening(refusal)), back),
+    }
+}
+
 // Tests a command on its store, and gives the lock back.
 fn test_on_file<
     F: Read + Write + Seek + OpenFile + LockFile + Drop,
@@ -47,8 +69,9 @@ fn test_on_file<
     ensures refused { IfErr result (λ refusal. FailsToOpen ⟦<FileDevice<SystemFile<F>> as SectorDevice>⟧ IsOpenedFile refusal
         ⊎ IsFirst ⟦<FileDevice<SystemFile<F>> as SectorDevice>⟧ IsOpenedFile (λ halted c. RefusesUnreadBy command.now halted c refusal)) }
 {
-    let store = open_to_change(rt, path)?;
-    refuse_unread(rt.alloc(), &store, command)
+    let device = device_to_change(rt, path)?;
+    let (tested, _device) = test_device(rt.alloc(), device, command);
+    tested
 }
 
 /// Serves a command that reads the input. Its store is opened to test the command, and closed; then the whole input is read; then the store is opened
