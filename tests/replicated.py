@@ -338,19 +338,20 @@ def machine(program, name):
 
 
 class Held:
-    """An append that has the lock, and waits before its first sync."""
+    """An append that has the lock, and waits before its first sync. Its input is a file: with a pipe it would give the lock back before it changes anything."""
     def __init__(self, case, path):
         self.case, self.row = case, case.rows.new()
-        self.sync = os.path.join(tempfile.mkdtemp(dir=disks.ROOM.name), "sync")
+        folder = tempfile.mkdtemp(dir=disks.ROOM.name)
+        self.sync, self.input = os.path.join(folder, "sync"), os.path.join(folder, "row")
+        with open(self.input, "wb") as file:
+            file.write(text(self.row))
         volumes.wait_until("the lock", lambda: self.is_held(path))
 
     def is_held(self, path):
         """Whether an append that is begun now has the lock: what another mount asks for is refused, and it has not ended."""
         settings = {**os.environ, "LD_PRELOAD": late_lock(), "LATE_SYNC": self.sync}
-        self.running = subprocess.Popen(self.case.command(path, APPEND), stdin=subprocess.PIPE, stdout=subprocess.PIPE, stderr=subprocess.STDOUT, env=settings)
-        self.running.stdin.write(text(self.row))
-        self.running.stdin.close()
-        self.running.stdin = None
+        with open(self.input, "rb") as file:
+            self.running = subprocess.Popen(self.case.command(path, APPEND), stdin=file, stdout=subprocess.PIPE, stderr=subprocess.STDOUT, env=settings)
         for _ in range(10):
             time.sleep(0.1)
             if self.case.run(self.case.path(1), APPEND)[1].startswith(LOCKED) and self.running.poll() is None:
